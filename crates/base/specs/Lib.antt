@@ -1,0 +1,4 @@
+pub mod Sum
+pub mod Index
+pub mod Lists
+pub mod Tests

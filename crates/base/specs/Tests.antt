@@ -1,0 +1,56 @@
+-- Tests: what the parts of a test that holds say, and a rule at every number below a bound by one test that antt computes.
+use Prim.Native.Nat.{ℕ, zero, suc, _<_}
+use mathlib.Core.Path.{_≡_, refl, sym, subst}
+use mathlib.Core.Logic.{_⊎_, inl, inr, ⊎-elim}
+use mathlib.Core.Bool.{Bool, true, false, _&&_, _||_, Bool·beq}
+use native.Mathlib.Nat.{eq-or-lt-of-le, le-of-suc-le-suc, not-suc-le-zero}
+use lib.Dec.{T}
+
+pub and-left : (a b : Bool) → T (a && b) → T a
+and-left true b t = tt
+and-left false b t = t
+
+pub and-right : (a b : Bool) → T (a && b) → T b
+and-right true b t = t
+and-right false b t = absurd t
+
+pub and-both : (a b : Bool) → T a → T b → T (a && b)
+and-both true b s t = t
+and-both false b s t = s
+
+pub or-cases : (a b : Bool) → T (a || b) → T a ⊎ T b
+or-cases true b t = inl tt
+or-cases false b t = inr t
+
+-- a test that holds, as the two ways of saying so
+pub T-true : (b : Bool) → T b → b ≡ true
+T-true true t = refl
+T-true false t = absurd t
+
+pub true-T : (b : Bool) → b ≡ true → T b
+true-T b e = subst T (sym e) tt
+
+-- two tests that agree are the same
+pub same-test : (a b : Bool) → T (Bool·beq a b) → a ≡ b
+same-test true true t = refl
+same-test true false t = absurd t
+same-test false true t = absurd t
+same-test false false t = refl
+
+pub iff-test : (a b : Bool) → (T a → T b) → (T b → T a) → a ≡ b
+iff-test true true f g = refl
+iff-test true false f g = absurd (f tt)
+iff-test false true f g = absurd (g tt)
+iff-test false false f g = refl
+
+-- the test holds at each number below n
+abbrev pub allBelow : (ℕ → Bool) → ℕ → Bool
+allBelow p zero = true
+allBelow p (suc n) = p n && allBelow p n
+
+pub check-below : (p : ℕ → Bool) (n : ℕ) → T (allBelow p n) → (i : ℕ) → i < n → T (p i)
+check-below p zero t i h = absurd (not-suc-le-zero h)
+check-below p (suc n) t i h =
+    ⊎-elim (λ e. subst (λ (k : ℕ). T (p k)) (sym e) (and-left (p n) (allBelow p n) t))
+    (λ l. check-below p n (and-right (p n) (allBelow p n) t) i l)
+    (eq-or-lt-of-le (le-of-suc-le-suc h))

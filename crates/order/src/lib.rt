@@ -1,0 +1,32 @@
+// Vectors and the preference order of document 01: the table of all vectors of window 16, and the vector at a place of it.
+// A caller asks for the table once and lends it down: each use of the constant copies it.
+
+mod preference;
+
+use preference::ORDER;
+ghost use mathlib.Core.Path.{_≡_};
+ghost use Prim.Native.Nat.{_<_};
+ghost use Rattle.order.specs.Preference.{preference, preferred, flat};
+
+// A motion vector: how far down and how far to the right the older block stands from the newer one.
+pub struct Vector {
+    pub dy: i32,
+    pub dx: i32,
+}
+
+// The table: the 1,089 vectors in preference order, dy and dx of each in turn.
+pub fn table() -> [i32; 2178]
+    ensures { λ r. ⌜ r ≡ flat preference ⌝ }
+{
+    ORDER
+}
+
+// The vector at place k of the table.
+pub fn vector_at(order: &[i32; 2178], k: usize) -> Vector
+    requires { ⌜ (now order ≡ flat preference) × (k < 1089) ⌝ }
+    ensures { λ r. ⌜ r ≡ preferred k ⌝ }
+{
+    let dy = order[2 * k];
+    let dx = order[2 * k + 1];
+    Vector { dy, dx }
+}
