@@ -5,7 +5,7 @@
 --   bias        d + b as a natural number, and back: unbias
 --   signedByte  the number whose two's complement is a byte, and back: byteOf
 use Prim.Native.Nat.{ℕ, suc, _+_, _-_, _≤_, _<_}
-use mathlib.Core.Path.{_≡_, refl, sym, ap, _∙_, subst}
+use mathlib.Core.Path.{_≡_, refl, ap, _∙_}
 use mathlib.Core.Bool.{Bool, true, false, cond}
 use mathlib.Core.Logic.{_⊎_, inl, inr, ⊎-elim}
 use native.Mathlib.Omega.{arith}
@@ -17,7 +17,7 @@ use Rattle.signed.specs.declared.Shifted.{Shifted}
 use Rattle.signed.specs.declared.Shifted.the-variants.{At, Outside}
 use Rattle.signed.specs.declared.Moved.{Moved}
 use Rattle.signed.specs.declared.Moved.the-variants.{To, Out}
-use Rattle.signed.specs.Int.{up, dn, Parts, parts, same, sum, added, less}
+use Rattle.signed.specs.Int.{up, dn, same, sum, added, less}
 
 -- |a - b|: one of the two differences is 0
 abbrev pub absDiff : ℕ → ℕ → ℕ

@@ -1,0 +1,70 @@
+-- `request_refusal`: the pair's chain, and after it the tests of search, window and threshold.
+use mathlib.Core.Path.{_≡_, ap, sym, _∙_}
+use borrow.Author.Needs.{needs}
+use Rattle.base.specs.Tests.{passed, failed}
+use Rattle.frame.specs.Refusals.{unless, searchOk, windowOk, thresholdOk, pairRefusal, requestRefusal, sizesOf, first-some, first-none}
+use Rattle.frame.proofs.request_refusal.Statement.{statement}
+use Rattle.frame.proofs.request_refusal.Tie as tie
+
+-- what the pair's chain gave, and past it the rest of the chain
+gave : (d : tie.After-pair-refusal) → let a = d .before .before .args in d .pair-refusal .result ≡ pairRefusal (a .older) (a .newer) (sizesOf (a .q))
+gave d = d .pair-refusal .ensures ∙ ap (pairRefusal _ _) (d .before .sizes-of .ensures)
+
+rest : (d : tie.Else1) →
+    let a = d .before .before .before .args in
+    requestRefusal (a .older) (a .newer) (a .q)
+    ≡ unless (searchOk (a .q .search)) 4 (unless (windowOk (a .q .search) (a .q .w)) 5 (unless (thresholdOk (a .q .search) (a .q .t)) 6 0))
+unfolding requestRefusal
+rest d = rw (← (gave (d .before))) (first-none _ _ (d .if1 .left))
+
+sizes-of-requires : tie.Need-sizes-of-requires
+sizes-of-requires c κs = search needs
+
+pair-refusal-requires : tie.Need-pair-refusal-requires
+pair-refusal-requires c κs = search needs
+
+returns : tie.Need-returns
+unfolding requestRefusal
+returns c = rw (← (gave (c .before))) (sym (first-some _ _ (c .if1 .taken)))
+
+search-ok-requires : tie.Need-search-ok-requires
+search-ok-requires c κs = search needs
+
+returns-2 : tie.Need-returns-2
+returns-2 c = rw (rest (c .before .before), failed (c .before .search-ok .ensures) (c .if2 .taken))
+
+window-ok-requires : tie.Need-window-ok-requires
+window-ok-requires c κs = search needs
+
+returns-3 : tie.Need-returns-3
+returns-3 c =
+    let s = c .before .before in
+    rw (rest (s .before .before), passed (s .before .search-ok .ensures) (s .if2 .left), failed (c .before .window-ok .ensures) (c .if3 .taken))
+
+threshold-ok-requires : tie.Need-threshold-ok-requires
+threshold-ok-requires c κs = search needs
+
+returns-4 : tie.Need-returns-4
+returns-4 c =
+    let w = c .before .before in
+    let s = w .before .before in
+    rw (
+      rest (s .before .before),
+      passed (s .before .search-ok .ensures) (s .if2 .left),
+      passed (w .before .window-ok .ensures) (w .if3 .left),
+      failed (c .before .threshold-ok .ensures) (c .if4 .taken),
+    )
+
+returns-5 : tie.Need-returns-5
+returns-5 c =
+    let w = c .before .before in
+    let s = w .before .before in
+    rw (
+      rest (s .before .before),
+      passed (s .before .search-ok .ensures) (s .if2 .left),
+      passed (w .before .window-ok .ensures) (w .if3 .left),
+      passed (c .before .threshold-ok .ensures) (c .if4 .left),
+    )
+
+pub request-refusal-spec : {M : Type 1} → statement M
+request-refusal-spec = tie.close (tie.spec sizes-of-requires pair-refusal-requires returns search-ok-requires returns-2 window-ok-requires returns-3 threshold-ok-requires returns-4 returns-5)

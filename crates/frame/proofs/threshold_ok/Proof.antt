@@ -1,0 +1,16 @@
+-- `threshold_ok`: the test of the search, then that of T.
+use borrow.Author.Tests.{ne-eqb, eq-eqb}
+use Rattle.frame.specs.Refusals.{thresholdOk}
+use Rattle.frame.proofs.threshold_ok.Statement.{statement}
+use Rattle.frame.proofs.threshold_ok.Tie as tie
+
+returns : tie.Need-returns
+unfolding thresholdOk
+returns c = rw (eq-eqb _ 4 (c .if1 .taken))
+
+returns-2 : tie.Need-returns-2
+unfolding thresholdOk
+returns-2 c = rw (ne-eqb _ 4 (c .if1 .left))
+
+pub threshold-ok-spec : {M : Type 1} → statement M
+threshold-ok-spec = tie.close (tie.spec returns returns-2)

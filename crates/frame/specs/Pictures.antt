@@ -1,0 +1,36 @@
+-- 01, "Pictures, blocks, vectors": frames, and the sizes of frames and blocks.
+--   Sizes (src)  width, height and N
+--   Pair         an older and a newer frame, with their sizes
+--   pel          the pel at a row and a column of a frame: rows of pels, top row first
+--   Fitting      sizes at which a block of N pels, whatever N is, fits a frame of 01's largest size
+use Prim.Native.Nat.{ℕ, _+_, _*_, _≤_, _<_}
+use mathlib.Core.List.{List}
+use native.Mathlib.Omega.{arith}
+use lib.ListN.{getD}
+use Rattle.base.specs.Index.{row-fits, frame-small}
+use Rattle.frame.specs.declared.Sizes.{Sizes}
+
+pub record Pair : Type 0 where
+  pub older : List ℕ
+  pub newer : List ℕ
+  pub sizes : Sizes
+
+abbrev pub pairOf : List ℕ → List ℕ → Sizes → Pair
+pairOf older newer s = record { older = older; newer = newer; sizes = s }
+
+abbrev pub pel : List ℕ → ℕ → ℕ → ℕ → ℕ
+pel frame width r c = getD frame (r * width + c) 0
+
+pub record Fitting (s : Sizes) : Type 0 where
+  pub some : 0 < s .n
+  pub across : s .n ≤ s .width
+  pub down : s .n ≤ s .height
+  pub wide : s .width ≤ 1024
+  pub high : s .height ≤ 1024
+
+-- N pels from row r, column c on lie in the frame
+pub row-inside : (s : Sizes) (r c n : ℕ) → r < s .height → c + n ≤ s .width → r * s .width + c + n ≤ s .height * s .width
+row-inside s r c n h k = omega (arith, row-fits r (s .height) (s .width) h)
+
+pub pels-few : (s : Sizes) → Fitting s → s .height * s .width ≤ 1048576
+pels-few s f = frame-small (s .height) (s .width) (f .high) (f .wide)

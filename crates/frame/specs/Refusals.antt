@@ -1,0 +1,198 @@
+-- 01, "What the input can be turned away for", 1 to 7: each rule as a test, and each call's tests as one chain, in 01's order.
+--   sideOk 1 · frameOk 2 · blockOk 3 · searchOk 4 · windowOk 5 · thresholdOk 6 · placeOk 7   what each number asks for
+--   pairRefusal     1 2 3: what every call with a pair tests first
+--   placedRefusal   1 2 3 7: a pair, N and a block's place
+--   requestRefusal  1 2 3 4 5 6: a pair and a search
+-- A chain is 0 where the call is accepted; `paired`, `placed` and `asked` say all that follows. The frames come in by their lengths.
+use Prim.Native.Nat.{ℕ, zero, suc, _+_, _*_, _≤_, _<_}
+use mathlib.Core.Path.{_≡_, refl}
+use mathlib.Core.Bool.{Bool, true, false, cond, _&&_, _||_}
+use mathlib.Core.Logic.{⊎-elim}
+use native.Mathlib.Omega.{arith}
+use lib.Dec.{T, leb, eqb, leb→le, eqb→eq}
+use Rattle.base.specs.Tests.{and-left, and-right, or-cases}
+use Rattle.frame.specs.declared.Sizes.{Sizes}
+use Rattle.frame.specs.declared.Request.{Request}
+use Rattle.frame.specs.Pictures.{Fitting}
+use Rattle.frame.specs.Cross.{crossWindow, cross}
+
+-- the number where the test fails, else the rest of the chain
+abbrev pub unless : Bool → ℕ → ℕ → ℕ
+unless true n rest = rest
+unless false n rest = n
+
+-- a chain, and where it is 0 the rest of the chain
+unfoldable pub first : ℕ → ℕ → ℕ
+first zero rest = rest
+first (suc n) rest = suc n
+
+-- ---- the rules
+
+-- 1 width or height outside its range: "Width and height are 4 to 1,024"
+abbrev pub sideOk : ℕ → Bool
+sideOk a = leb 4 a && leb a 1024
+
+-- 2 a frame of another length: "the lent slice has exactly width × height bytes"
+abbrev pub frameOk : Sizes → ℕ → Bool
+frameOk s length = eqb length (s .height * s .width)
+
+-- 3 N not allowed or too big: "Block size N is 4, 8 or 16, at most width and height"
+unfoldable pub listed : ℕ → Bool
+listed n = eqb n 4 || (eqb n 8 || eqb n 16)
+
+abbrev pub blockOk : Sizes → Bool
+blockOk s = listed (s .n) && (leb (s .n) (s .width) && leb (s .n) (s .height))
+
+-- 4 search not 1 to 4
+abbrev pub searchOk : ℕ → Bool
+searchOk search = leb 1 search && leb search 4
+
+-- 5 w not allowed for the search: full and pruned 0 to 16, four-step exactly 7, cross 2, 4, 8 or 16
+unfoldable pub windowOk : ℕ → ℕ → Bool
+windowOk search w = cond (leb search 2) (leb w 16) (cond (eqb search 3) (eqb w 7) (crossWindow w))
+
+-- 6 T over 65,280, or not 0 with search 1, 2 or 3
+unfoldable pub thresholdOk : ℕ → ℕ → Bool
+thresholdOk search t = cond (eqb search 4) (leb t 65280) (eqb t 0)
+
+-- 7 single block: not wholly inside the newer frame
+abbrev pub placeOk : Sizes → ℕ → ℕ → Bool
+placeOk s y x = leb (y + s .n) (s .height) && leb (x + s .n) (s .width)
+
+-- ---- the chains
+
+unfoldable pub pairRefusal : ℕ → ℕ → Sizes → ℕ
+pairRefusal older newer s =
+    unless (sideOk (s .width) && sideOk (s .height)) 1
+    (unless (frameOk s older && frameOk s newer) 2
+    (unless (blockOk s) 3 0))
+
+unfoldable pub placedRefusal : ℕ → ℕ → Sizes → ℕ → ℕ → ℕ
+placedRefusal older newer s y x = first (pairRefusal older newer s) (unless (placeOk s y x) 7 0)
+
+abbrev pub sizesOf : Request → Sizes
+sizesOf q = record { width = q .width; height = q .height; n = q .n }
+
+unfoldable pub requestRefusal : ℕ → ℕ → Request → ℕ
+requestRefusal older newer q =
+    first (pairRefusal older newer (sizesOf q))
+    (unless (searchOk (q .search)) 4
+    (unless (windowOk (q .search) (q .w)) 5
+    (unless (thresholdOk (q .search) (q .t)) 6 0)))
+
+-- ---- what an accepted call may go by
+
+pub unless-zero : (b : Bool) (k rest : ℕ) → unless b (suc k) rest ≡ 0 → T b × (rest ≡ 0)
+unless-zero true k rest e = (tt, e)
+unless-zero false k rest e = absurd (omega arith)
+
+pub first-some : (n rest : ℕ) → (n ≡ 0 → ⊥) → first n rest ≡ n
+unfolding first
+first-some zero rest h = absurd (h refl)
+first-some (suc n) rest h = refl
+
+pub first-none : (n rest : ℕ) → n ≡ 0 → first n rest ≡ rest
+unfolding first
+first-none zero rest e = refl
+first-none (suc n) rest e = absurd (omega arith)
+
+pub first-zero : (n rest : ℕ) → first n rest ≡ 0 → (n ≡ 0) × (rest ≡ 0)
+unfolding first
+first-zero zero rest e = (refl, e)
+first-zero (suc n) rest e = absurd (omega arith)
+
+pub side-high : (a : ℕ) → T (sideOk a) → a ≤ 1024
+side-high a t = leb→le a 1024 (and-right (leb 4 a) (leb a 1024) t)
+
+-- what holds of 4, 8 and 16 holds of each allowed N
+pub listed-elim : (P : ℕ → Type 0) → P 4 → P 8 → P 16 → (n : ℕ) → T (listed n) → P n
+unfolding listed
+listed-elim P p4 p8 p16 n t =
+    ⊎-elim (at 4 p4) (λ u. ⊎-elim (at 8 p8) (at 16 p16) (or-cases (eqb n 8) (eqb n 16) u)) (or-cases (eqb n 4) (eqb n 8 || eqb n 16) t)
+  where
+    at : (k : ℕ) → P k → T (eqb n k) → P n
+    at k p e = rw (eqb→eq n k e) p
+
+-- 1 2 3: sizes at which a block fits, N as listed, both frames whole
+pub record Paired (older newer : ℕ) (s : Sizes) : Type 0 where
+  pub fitting : Fitting s
+  pub allowed : T (listed (s .n))
+  pub older-whole : older ≡ s .height * s .width
+  pub newer-whole : newer ≡ s .height * s .width
+
+-- 1 2 3 7: also, the block lies in the newer frame
+pub record Placed (older newer : ℕ) (s : Sizes) (y x : ℕ) : Type 0 where
+  pub paired : Paired older newer s
+  pub down : y + s .n ≤ s .height
+  pub across : x + s .n ≤ s .width
+
+-- 1 2 3 4 5 6: also, a search with a window and a threshold that it takes
+pub record Asked (older newer : ℕ) (q : Request) : Type 0 where
+  pub paired : Paired older newer (sizesOf q)
+  pub least : 1 ≤ q .search
+  pub most : q .search ≤ 4
+  pub window : T (windowOk (q .search) (q .w))
+  pub threshold : T (thresholdOk (q .search) (q .t))
+
+pub fitting : (s : Sizes) → T (sideOk (s .width) && sideOk (s .height)) → T (blockOk s) → Fitting s
+fitting s t u =
+    let w = and-left (sideOk (s .width)) (sideOk (s .height)) t in
+    let h = and-right (sideOk (s .width)) (sideOk (s .height)) t in
+    let l = and-left (listed (s .n)) (leb (s .n) (s .width) && leb (s .n) (s .height)) u in
+    let b = and-right (listed (s .n)) (leb (s .n) (s .width) && leb (s .n) (s .height)) u in
+    record {
+      some = listed-elim (λ n. 0 < n) (omega arith) (omega arith) (omega arith) (s .n) l;
+      across = leb→le (s .n) (s .width) (and-left (leb (s .n) (s .width)) (leb (s .n) (s .height)) b);
+      down = leb→le (s .n) (s .height) (and-right (leb (s .n) (s .width)) (leb (s .n) (s .height)) b);
+      wide = side-high (s .width) w;
+      high = side-high (s .height) h;
+    }
+
+pub paired : (older newer : ℕ) (s : Sizes) → pairRefusal older newer s ≡ 0 → Paired older newer s
+unfolding pairRefusal
+paired older newer s e =
+    let a = unless-zero (sideOk (s .width) && sideOk (s .height)) 0 _ e in
+    let b = unless-zero (frameOk s older && frameOk s newer) 1 _ (a .1) in
+    let c = unless-zero (blockOk s) 2 0 (b .1) in
+    record {
+      fitting = fitting s (a .0) (c .0);
+      allowed = and-left (listed (s .n)) (leb (s .n) (s .width) && leb (s .n) (s .height)) (c .0);
+      older-whole = eqb→eq older (s .height * s .width) (and-left (frameOk s older) (frameOk s newer) (b .0));
+      newer-whole = eqb→eq newer (s .height * s .width) (and-right (frameOk s older) (frameOk s newer) (b .0));
+    }
+
+pub placed : (older newer : ℕ) (s : Sizes) (y x : ℕ) → placedRefusal older newer s y x ≡ 0 → Placed older newer s y x
+unfolding placedRefusal
+placed older newer s y x e =
+    let a = first-zero (pairRefusal older newer s) _ e in
+    let b = unless-zero (placeOk s y x) 6 0 (a .1) in
+    record {
+      paired = paired older newer s (a .0);
+      down = leb→le (y + s .n) (s .height) (and-left (leb (y + s .n) (s .height)) (leb (x + s .n) (s .width)) (b .0));
+      across = leb→le (x + s .n) (s .width) (and-right (leb (y + s .n) (s .height)) (leb (x + s .n) (s .width)) (b .0));
+    }
+
+pub asked : (older newer : ℕ) (q : Request) → requestRefusal older newer q ≡ 0 → Asked older newer q
+unfolding requestRefusal
+asked older newer q e =
+    let a = first-zero (pairRefusal older newer (sizesOf q)) _ e in
+    let b = unless-zero (searchOk (q .search)) 3 _ (a .1) in
+    let c = unless-zero (windowOk (q .search) (q .w)) 4 _ (b .1) in
+    let d = unless-zero (thresholdOk (q .search) (q .t)) 5 0 (c .1) in
+    record {
+      paired = paired older newer (sizesOf q) (a .0);
+      least = leb→le 1 (q .search) (and-left (leb 1 (q .search)) (leb (q .search) 4) (b .0));
+      most = leb→le (q .search) 4 (and-right (leb 1 (q .search)) (leb (q .search) 4) (b .0));
+      window = c .0;
+      threshold = d .0;
+    }
+
+-- no search takes a window over 16
+pub window-small : (search w : ℕ) → T (windowOk search w) → w ≤ 16
+unfolding windowOk
+window-small search w t = go (leb search 2) (eqb search 3) t
+  where
+    go : (a b : Bool) → T (cond a (leb w 16) (cond b (eqb w 7) (crossWindow w))) → w ≤ 16
+    go true b t = leb→le w 16 t
+    go false true t = omega (arith, eqb→eq w 7 t)
+    go false false t = cross w t .high

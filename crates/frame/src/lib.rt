@@ -1,0 +1,262 @@
+// Frames: their sizes, the grid of blocks, candidates, and the refusals 1 to 7 of document 01.
+
+ghost use mathlib.Core.Path.{_≡_};
+ghost use Prim.Native.Nat.{_<_};
+ghost use Rattle.order.specs.Vectors.{vec};
+ghost use Rattle.frame.specs.Pictures.{Fitting};
+ghost use Rattle.frame.specs.Grid.{blocks, blockRow, blockColumn};
+ghost use Rattle.frame.specs.Candidates.{candidate, olderAt, partAt};
+ghost use Rattle.frame.specs.Cross.{crossWindow, log2};
+ghost use Rattle.frame.specs.Refusals.{sideOk, listed, blockOk, searchOk, windowOk, thresholdOk, pairRefusal, placedRefusal, requestRefusal, sizesOf};
+use signed::Shifted;
+
+// Width and height of a frame, and the block size N.
+pub struct Sizes {
+    pub width: usize,
+    pub height: usize,
+    pub n: usize,
+}
+
+// What a search is asked: the sizes, the search 1 to 4, its window w, and the threshold T of search 4.
+#[repr(C)]
+pub struct Request {
+    pub width: usize,
+    pub height: usize,
+    pub n: usize,
+    pub search: u32,
+    pub w: usize,
+    pub t: u32,
+}
+
+// The sizes of a request.
+pub fn sizes_of(q: Request) -> Sizes
+    ensures { λ r. ⌜ r ≡ sizesOf q ⌝ }
+{
+    Sizes {
+        width: q.width,
+        height: q.height,
+        n: q.n,
+    }
+}
+
+// ---- the grid
+
+// How many blocks the grid has.
+pub fn block_count(s: Sizes) -> usize
+    requires { ⌜ Fitting s ⌝ }
+    ensures { λ r. ⌜ r ≡ blocks s ⌝ }
+{
+    (s.height / s.n) * (s.width / s.n)
+}
+
+// The pel row of grid block k.
+pub fn block_row(s: Sizes, k: usize) -> usize
+    requires { ⌜ Fitting s × (k < blocks s) ⌝ }
+    ensures { λ r. ⌜ r ≡ blockRow s k ⌝ }
+{
+    k / (s.width / s.n) * s.n
+}
+
+// The pel column of grid block k.
+pub fn block_column(s: Sizes, k: usize) -> usize
+    requires { ⌜ Fitting s × (k < blocks s) ⌝ }
+    ensures { λ r. ⌜ r ≡ blockColumn s k ⌝ }
+{
+    k % (s.width / s.n) * s.n
+}
+
+// ---- candidates
+
+// Where the older block of a vector stands: its row and column, where the vector is a candidate.
+pub enum Older {
+    At(usize, usize),
+    Outside,
+}
+
+// at + d, where d lies in -w ..= w and n pels from there on lie in a side of so many.
+fn part_at(at: usize, d: i32, w: usize, n: usize, side: usize) -> Shifted
+    ensures { λ r. ⌜ r ≡ partAt at d w n side ⌝ }
+{
+    if !signed::within(d, w) {
+        return Shifted::Outside;
+    }
+    if side < n {
+        return Shifted::Outside;
+    }
+    signed::shift(at, d, side - n)
+}
+
+// The older block that (dy, dx) compares with the newer block at row y, column x, where (dy, dx) is a candidate for window w.
+pub fn older_at(s: Sizes, w: usize, y: usize, x: usize, dy: i32, dx: i32) -> Older
+    ensures { λ r. ⌜ r ≡ olderAt s w y x (vec dy dx) ⌝ }
+{
+    let Shifted::At(row) = part_at(y, dy, w, s.n, s.height) else {
+        return Older::Outside;
+    };
+    let Shifted::At(column) = part_at(x, dx, w, s.n, s.width) else {
+        return Older::Outside;
+    };
+    Older::At(row, column)
+}
+
+// (dy, dx) is a candidate for window w of the block at row y, column x.
+pub fn is_candidate(s: Sizes, w: usize, y: usize, x: usize, dy: i32, dx: i32) -> bool
+    ensures { λ r. ⌜ r ≡ candidate s w y x (vec dy dx) ⌝ }
+{
+    let at = older_at(s, w, y, x, dy, dx);
+    match at {
+        Older::At(_, _) => true,
+        Older::Outside => false,
+    }
+}
+
+// ---- refusals
+
+// 1: a width or a height is 4 to 1,024.
+pub fn side_ok(a: usize) -> bool
+    ensures { λ r. ⌜ r ≡ sideOk a ⌝ }
+{
+    if a < 4 {
+        return false;
+    }
+    a <= 1024
+}
+
+// 3: N is 4, 8 or 16.
+pub fn is_listed(n: usize) -> bool
+    ensures { λ r. ⌜ r ≡ listed n ⌝ }
+{
+    if n == 4 {
+        return true;
+    }
+    if n == 8 {
+        return true;
+    }
+    n == 16
+}
+
+// 3: N is allowed, and at most width and height.
+pub fn block_ok(s: Sizes) -> bool
+    ensures { λ r. ⌜ r ≡ blockOk s ⌝ }
+{
+    if !is_listed(s.n) {
+        return false;
+    }
+    if s.width < s.n {
+        return false;
+    }
+    s.n <= s.height
+}
+
+// 4: the search is 1 to 4.
+pub fn search_ok(search: u32) -> bool
+    ensures { λ r. ⌜ r ≡ searchOk search ⌝ }
+{
+    if search < 1 {
+        return false;
+    }
+    search <= 4
+}
+
+// w is 2, 4, 8 or 16: in that range, and with just one bit set.
+pub fn cross_window(w: usize) -> bool
+    ensures { λ r. ⌜ r ≡ crossWindow w ⌝ }
+{
+    if w < 2 {
+        return false;
+    }
+    if 16 < w {
+        return false;
+    }
+    usize::count_ones(w) == 1
+}
+
+// log2 of a window with one bit set.
+pub fn log2_window(w: usize) -> u32
+    ensures { λ r. ⌜ r ≡ log2 w ⌝ }
+{
+    usize::trailing_zeros(w)
+}
+
+// 5: the search takes the window w.
+pub fn window_ok(search: u32, w: usize) -> bool
+    ensures { λ r. ⌜ r ≡ windowOk search w ⌝ }
+{
+    if search <= 2 {
+        return w <= 16;
+    }
+    if search == 3 {
+        return w == 7;
+    }
+    cross_window(w)
+}
+
+// 6: the search takes the threshold T.
+pub fn threshold_ok(search: u32, t: u32) -> bool
+    ensures { λ r. ⌜ r ≡ thresholdOk search t ⌝ }
+{
+    if search == 4 {
+        return t <= 65280;
+    }
+    t == 0
+}
+
+// The first of 1 2 3 that applies to frames of these lengths, or 0.
+pub fn pair_refusal(older: usize, newer: usize, s: Sizes) -> u32
+    ensures { λ r. ⌜ r ≡ pairRefusal older newer s ⌝ }
+{
+    if !side_ok(s.width) {
+        return 1;
+    }
+    if !side_ok(s.height) {
+        return 1;
+    }
+    let whole = s.height * s.width;
+    if older != whole {
+        return 2;
+    }
+    if newer != whole {
+        return 2;
+    }
+    if !block_ok(s) {
+        return 3;
+    }
+    0
+}
+
+// The first of 1 2 3 7 that applies to a block at row y, column x, or 0.
+pub fn placed_refusal(older: usize, newer: usize, s: Sizes, y: usize, x: usize) -> u32
+    ensures { λ r. ⌜ r ≡ placedRefusal older newer s y x ⌝ }
+{
+    let refusal = pair_refusal(older, newer, s);
+    if refusal != 0 {
+        return refusal;
+    }
+    if s.height - s.n < y {
+        return 7;
+    }
+    if s.width - s.n < x {
+        return 7;
+    }
+    0
+}
+
+// The first of 1 2 3 4 5 6 that applies to a request, or 0.
+pub fn request_refusal(older: usize, newer: usize, q: Request) -> u32
+    ensures { λ r. ⌜ r ≡ requestRefusal older newer q ⌝ }
+{
+    let refusal = pair_refusal(older, newer, sizes_of(q));
+    if refusal != 0 {
+        return refusal;
+    }
+    if !search_ok(q.search) {
+        return 4;
+    }
+    if !window_ok(q.search, q.w) {
+        return 5;
+    }
+    if !threshold_ok(q.search, q.t) {
+        return 6;
+    }
+    0
+}

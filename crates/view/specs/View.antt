@@ -1,0 +1,116 @@
+-- 01, "Row view": "Asked for side 0 (older) or 1 (newer), a row, a column and N, the call hands back N pels as the very part of that
+-- frame, starting at that place. A refused call hands back an empty part".
+--   viewRefusal   1 2 3 12 7, the companion's number
+--   viewPlace     where in its frame the part begins and how long it is
+--   rowView       the part itself
+use Prim.Native.Nat.{ℕ, _+_, _*_, _-_, _≤_, _<_}
+use mathlib.Core.Path.{_≡_, refl}
+use mathlib.Core.Bool.{Bool, true, false, cond, _&&_}
+use mathlib.Core.List.{List, []}
+use native.Mathlib.Omega.{arith}
+use lib.Dec.{leb, eqb, leb→le}
+use lib.ListN.{length, take, drop}
+use borrow.Author.Tests.{ne-eqb, eq-eqb, eqb-true}
+use Rattle.base.specs.Tests.{and-left, and-right}
+use Rattle.frame.specs.declared.Sizes.{Sizes}
+use Rattle.view.specs.declared.RowView.{RowView}
+use Rattle.frame.specs.Pictures.{Pair, row-inside}
+use Rattle.frame.specs.Refusals.{unless, first, unless-zero, first-zero, pairRefusal, Paired, paired}
+
+-- 7 row view: the N pels not inside one row of the frame asked for
+abbrev pub rowOk : Sizes → ℕ → ℕ → Bool
+rowOk s row column = leb (row + 1) (s .height) && leb (column + s .n) (s .width)
+
+unfoldable pub viewRefusal : ℕ → ℕ → Sizes → ℕ → ℕ → ℕ → ℕ
+viewRefusal older newer s side row column =
+    first (pairRefusal older newer s)
+    (unless (leb side 1) 12
+    (unless (rowOk s row column) 7 0))
+
+-- the frame that is asked for
+abbrev pub sideOf : Pair → ℕ → List ℕ
+sideOf p side = cond (eqb side 0) (p .older) (p .newer)
+
+abbrev pub refusalAt : Pair → ℕ → ℕ → ℕ → ℕ
+refusalAt p side row column = viewRefusal (length (p .older)) (length (p .newer)) (p .sizes) side row column
+
+unfoldable pub viewPlace : ℕ → ℕ → Sizes → ℕ → ℕ → ℕ → RowView
+viewPlace older newer s side row column =
+    let refusal = viewRefusal older newer s side row column in
+    cond (eqb refusal 0)
+    (record { refusal = 0; place = row * s .width + column; length = s .n })
+    (record { refusal = refusal; place = 0; length = 0 })
+
+unfoldable pub rowView : Pair → ℕ → ℕ → ℕ → List ℕ
+rowView p side row column =
+    cond (eqb (refusalAt p side row column) 0) (take (p .sizes .n) (drop (row * p .sizes .width + column) (sideOf p side))) []
+
+-- ---- what an accepted view may go by
+
+pub record Viewed (older newer : ℕ) (s : Sizes) (side row column : ℕ) : Type 0 where
+  pub paired : Paired older newer s
+  pub known : side ≤ 1
+  pub down : row < s .height
+  pub across : column + s .n ≤ s .width
+  pub ends : row * s .width + column + s .n ≤ s .height * s .width
+
+pub viewed : (older newer : ℕ) (s : Sizes) (side row column : ℕ) → viewRefusal older newer s side row column ≡ 0 → Viewed older newer s side row column
+unfolding viewRefusal
+viewed older newer s side row column e =
+    let a = first-zero (pairRefusal older newer s) _ e in
+    let b = unless-zero (leb side 1) 11 _ (a .1) in
+    let c = unless-zero (rowOk s row column) 6 0 (b .1) in
+    let r = leb→le (row + 1) (s .height) (and-left (leb (row + 1) (s .height)) (leb (column + s .n) (s .width)) (c .0)) in
+    let k = leb→le (column + s .n) (s .width) (and-right (leb (row + 1) (s .height)) (leb (column + s .n) (s .width)) (c .0)) in
+    record {
+      paired = paired older newer s (a .0);
+      known = leb→le side 1 (b .0);
+      down = omega arith;
+      across = k;
+      ends = row-inside s row column (s .n) (omega arith) k;
+    }
+
+-- ---- the part that a place names, refused or not
+
+module _ (p : Pair) (side row column : ℕ) where
+  abbrev answer : Bool → RowView
+  answer b =
+      cond b (record { refusal = 0; place = row * p .sizes .width + column; length = p .sizes .n })
+      (record { refusal = refusalAt p side row column; place = 0; length = 0 })
+
+  accepted : eqb (refusalAt p side row column) 0 ≡ true → Viewed (length (p .older)) (length (p .newer)) (p .sizes) side row column
+  accepted e = viewed _ _ (p .sizes) side row column (eqb-true _ 0 e)
+
+  ends-older : (b : Bool) → eqb (refusalAt p side row column) 0 ≡ b → answer b .place + answer b .length ≤ length (p .older)
+  ends-older true e = omega (arith, accepted e)
+  ends-older false e = omega arith
+
+  ends-newer : (b : Bool) → eqb (refusalAt p side row column) 0 ≡ b → answer b .place + answer b .length ≤ length (p .newer)
+  ends-newer true e = omega (arith, accepted e)
+  ends-newer false e = omega arith
+
+  part-is : (b : Bool) (f : List ℕ)
+      → take (answer b .place + answer b .length - answer b .place) (drop (answer b .place) f)
+      ≡ cond b (take (p .sizes .n) (drop (row * p .sizes .width + column) f)) []
+  part-is true f =
+      let e : row * p .sizes .width + column + p .sizes .n - (row * p .sizes .width + column) ≡ p .sizes .n = omega arith in
+      rw e
+  part-is false f = refl
+
+  -- v is what `viewPlace` says
+  module _ (v : RowView) (is : v ≡ viewPlace (length (p .older)) (length (p .newer)) (p .sizes) side row column) where
+    pub view-ends-older : v .place + v .length ≤ length (p .older)
+    unfolding viewPlace
+    view-ends-older = rw is (ends-older (eqb (refusalAt p side row column) 0) refl)
+
+    pub view-ends-newer : v .place + v .length ≤ length (p .newer)
+    unfolding viewPlace
+    view-ends-newer = rw is (ends-newer (eqb (refusalAt p side row column) 0) refl)
+
+    pub view-older : side ≡ 0 → take (v .place + v .length - v .place) (drop (v .place) (p .older)) ≡ rowView p side row column
+    unfolding viewPlace rowView
+    view-older z = rw (is, eq-eqb side 0 z) (part-is (eqb (refusalAt p side row column) 0) (p .older))
+
+    pub view-newer : (side ≡ 0 → ⊥) → take (v .place + v .length - v .place) (drop (v .place) (p .newer)) ≡ rowView p side row column
+    unfolding viewPlace rowView
+    view-newer z = rw (is, ne-eqb side 0 z) (part-is (eqb (refusalAt p side row column) 0) (p .newer))
