@@ -10,6 +10,9 @@ use lib.ListN.{getD}
 use Rattle.base.specs.Index.{row-fits, frame-small}
 use Rattle.frame.specs.declared.Sizes.{Sizes}
 
+abbrev pub sizes : ℕ → ℕ → ℕ → Sizes
+sizes width height n = record { width = width; height = height; n = n }
+
 pub record Pair : Type 0 where
   pub older : List ℕ
   pub newer : List ℕ

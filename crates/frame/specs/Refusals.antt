@@ -13,7 +13,7 @@ use lib.Dec.{T, leb, eqb, leb→le, eqb→eq}
 use Rattle.base.specs.Tests.{and-left, and-right, or-cases}
 use Rattle.frame.specs.declared.Sizes.{Sizes}
 use Rattle.frame.specs.declared.Request.{Request}
-use Rattle.frame.specs.Pictures.{Fitting}
+use Rattle.frame.specs.Pictures.{sizes, Fitting}
 use Rattle.frame.specs.Cross.{crossWindow, cross}
 
 -- the number where the test fails, else the rest of the chain
@@ -71,7 +71,7 @@ unfoldable pub placedRefusal : ℕ → ℕ → Sizes → ℕ → ℕ → ℕ
 placedRefusal older newer s y x = first (pairRefusal older newer s) (unless (placeOk s y x) 7 0)
 
 abbrev pub sizesOf : Request → Sizes
-sizesOf q = record { width = q .width; height = q .height; n = q .n }
+sizesOf q = sizes (q .width) (q .height) (q .n)
 
 unfoldable pub requestRefusal : ℕ → ℕ → Request → ℕ
 requestRefusal older newer q =

@@ -90,11 +90,8 @@ module _ (p : Pair) (side row column : ℕ) where
   ends-newer false e = omega arith
 
   part-is : (b : Bool) (f : List ℕ)
-      → take (answer b .place + answer b .length - answer b .place) (drop (answer b .place) f)
-      ≡ cond b (take (p .sizes .n) (drop (row * p .sizes .width + column) f)) []
-  part-is true f =
-      let e : row * p .sizes .width + column + p .sizes .n - (row * p .sizes .width + column) ≡ p .sizes .n = omega arith in
-      rw e
+      → take (answer b .length) (drop (answer b .place) f) ≡ cond b (take (p .sizes .n) (drop (row * p .sizes .width + column) f)) []
+  part-is true f = refl
   part-is false f = refl
 
   -- v is what `viewPlace` says
@@ -107,10 +104,15 @@ module _ (p : Pair) (side row column : ℕ) where
     unfolding viewPlace
     view-ends-newer = rw is (ends-newer (eqb (refusalAt p side row column) 0) refl)
 
-    pub view-older : side ≡ 0 → take (v .place + v .length - v .place) (drop (v .place) (p .older)) ≡ rowView p side row column
+    -- the row view is the part of its frame that the place names
+    pub view-part : take (v .length) (drop (v .place) (sideOf p side)) ≡ rowView p side row column
     unfolding viewPlace rowView
-    view-older z = rw (is, eq-eqb side 0 z) (part-is (eqb (refusalAt p side row column) 0) (p .older))
+    view-part = rw is (part-is (eqb (refusalAt p side row column) 0) (sideOf p side))
 
-    pub view-newer : (side ≡ 0 → ⊥) → take (v .place + v .length - v .place) (drop (v .place) (p .newer)) ≡ rowView p side row column
-    unfolding viewPlace rowView
-    view-newer z = rw (is, ne-eqb side 0 z) (part-is (eqb (refusalAt p side row column) 0) (p .newer))
+    -- the same, as `row_view` cuts it from either frame
+    module _ (e : v .place + v .length - v .place ≡ v .length) where
+      pub view-older : side ≡ 0 → take (v .place + v .length - v .place) (drop (v .place) (p .older)) ≡ rowView p side row column
+      view-older z = rw e (rw (eq-eqb side 0 z) at view-part)
+
+      pub view-newer : (side ≡ 0 → ⊥) → take (v .place + v .length - v .place) (drop (v .place) (p .newer)) ≡ rowView p side row column
+      view-newer z = rw e (rw (ne-eqb side 0 z) at view-part)

@@ -39,7 +39,7 @@ returns : tie.Need-returns
 returns c =
     let d = c .before .before .before in
     let a = d .before .before .before .args in
-    view-older (pairOf (now (a .older)) (now (a .newer)) (a .s)) (a .side) (a .row) (a .column) _ (d .view-place .ensures) (c .before .if1 .taken)
+    view-older (pairOf (now (a .older)) (now (a .newer)) (a .s)) (a .side) (a .row) (a .column) _ (d .view-place .ensures) (omega arith) (c .before .if1 .taken)
 
 sub-result-2 : tie.Need-sub-result-2
 sub-result-2 c = search needs
@@ -54,7 +54,7 @@ returns-2 : tie.Need-returns-2
 returns-2 c =
     let d = c .before .before .before in
     let a = d .before .before .before .args in
-    view-newer (pairOf (now (a .older)) (now (a .newer)) (a .s)) (a .side) (a .row) (a .column) _ (d .view-place .ensures) (c .before .if1 .left)
+    view-newer (pairOf (now (a .older)) (now (a .newer)) (a .s)) (a .side) (a .row) (a .column) _ (d .view-place .ensures) (omega arith) (c .before .if1 .left)
 
 pub row-view-spec : {M : Type 1} → statement M
 row-view-spec = tie.close (tie.spec view-place-requires add-end sub-result part-result-start part-result-end returns sub-result-2 part-result-start-2 part-result-end-2 returns-2)
