@@ -3,10 +3,32 @@
 
 ghost use mathlib.Core.Path.{_≡_};
 ghost use lib.ListN.{length};
-ghost use Rattle.frame.specs.Pictures.{sizes};
+ghost use Rattle.order.specs.Vectors.{vec};
+ghost use Rattle.frame.specs.Pictures.{sizes, pairOf};
 ghost use Rattle.view.specs.View.{viewPlace};
+ghost use Rattle.distortion.specs.Measured.{measured};
+use distortion::Measured;
 use frame::Sizes;
 use view::RowView;
+
+// Measures one vector: the distortion of the newer block at a row and a column for (dy, dx).
+#[no_mangle]
+pub extern "C" fn gauge_measure(
+    older: &[u8],
+    newer: &[u8],
+    width: usize,
+    height: usize,
+    n: usize,
+    row: usize,
+    column: usize,
+    dy: i32,
+    dx: i32,
+) -> Measured
+    ensures { λ r. ⌜ r ≡ measured (pairOf (now (older .entry)) (now (newer .entry)) (sizes width height n)) row column (vec dy dx) ⌝ }
+{
+    let s = Sizes { width, height, n };
+    distortion::measure(older, newer, s, row, column, dy, dx)
+}
 
 // The row view: where in the frame asked for its N pels stand.
 #[no_mangle]

@@ -1,0 +1,58 @@
+/* gauge.h: the paper-travel gauge, from C.
+ *
+ * Two grey pictures of the paper, an older and a newer one, are compared block by block. A picture (frame) is width x height
+ * bytes, row by row, top row first. A block is N x N pels and stands at the row and column of its top left pel. A vector
+ * (dy, dx) compares the newer frame's block at (row, column) with the older frame's block at (row + dy, column + dx).
+ *
+ * Every call takes any input whatever. It only reads the memory that is lent to it, keeps no pointer and holds no state, so it
+ * may be called from several threads. A frame is lent as a pointer and its length in bytes; the pointer must not be null, not even
+ * where the length is 0.
+ *
+ * An answer is a struct by value whose first member is `refusal`: 0 where the call is accepted, else the number of the first
+ * rule that the input breaks, in the order given at the call. All other members of a refused answer are 0.
+ *
+ *     1  width or height not 4 to 1,024
+ *     2  a frame whose length is not width x height
+ *     3  N not 4, 8 or 16, or larger than width or height
+ *     7  the block not wholly inside the newer frame; for a row view, the N pels not inside one row
+ *     8  the vector no candidate of window 16: a part over 16 in size, or the older block not wholly inside its frame
+ *    12  side neither 0 nor 1
+ *
+ * Link with libgauge.a (`rt staticlib gauge` writes it to target/staticlib/).
+ */
+#ifndef GAUGE_H
+#define GAUGE_H
+
+#include <stddef.h>
+#include <stdint.h>
+
+#ifdef __cplusplus
+extern "C" {
+#endif
+
+/* What measuring one vector answers. */
+typedef struct {
+    uint32_t refusal;
+    uint32_t distortion; /* the sum of absolute pel differences, at most 255 x N x N */
+} gauge_measured;
+
+/* Measures one vector (dy, dx) at the newer block that stands at (row, column). Tests 1 2 3 7 8. */
+gauge_measured gauge_measure(const uint8_t *older, size_t older_length, const uint8_t *newer, size_t newer_length, size_t width,
+                             size_t height, size_t n, size_t row, size_t column, int32_t dy, int32_t dx);
+
+/* Where a row view stands in its frame. */
+typedef struct {
+    uint32_t refusal;
+    size_t place;  /* the part begins at older + place (side 0) or newer + place (side 1) */
+    size_t length; /* and has this many pels: N, or 0 where refused */
+} gauge_row;
+
+/* Looks up the N pels of one row from `column` on, in the older frame (side 0) or the newer one (side 1). Tests 1 2 3 12 7. */
+gauge_row gauge_row_view(const uint8_t *older, size_t older_length, const uint8_t *newer, size_t newer_length, size_t width,
+                         size_t height, size_t n, uint32_t side, size_t row, size_t column);
+
+#ifdef __cplusplus
+}
+#endif
+
+#endif
