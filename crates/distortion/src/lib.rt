@@ -85,7 +85,7 @@ fn rows_by_four(
     groups: usize,
 ) -> u32
     requires { ⌜ ((y + 4 * groups) * width + x + n ≤ length (now newer) + width) × ((r + 4 * groups) * width + c + n ≤ length (now older) + width) × (n ≤ 1024) × (groups ≤ 256) × (0 < width) ⌝ }
-    ensures { λ d. ⌜ d ≡ sumTo (λ i. rowBy absolute (now (older .entry)) (now (newer .entry)) width (y + i) x (r + i) c n) (4 * groups) ⌝ }
+    ensures { λ d. ⌜ (d ≡ sumTo (λ i. rowBy absolute (now (older .entry)) (now (newer .entry)) width (y + i) x (r + i) c n) (4 * groups)) × (d ≤ groups * (1020 * n)) ⌝ }
 {
     let mut sum: u32 = 0;
     let mut g = 0;
@@ -108,7 +108,7 @@ pub fn block_distortion(
     c: usize,
 ) -> u32
     requires { ⌜ Comparable (now older) (now newer) s y x r c ⌝ }
-    ensures { λ d. ⌜ d ≡ distortionBy absolute (s .n) (blockAt (now (newer .entry)) (s .width) y x) (blockAt (now (older .entry)) (s .width) r c) ⌝ }
+    ensures { λ d. ⌜ (d ≡ distortionBy absolute (s .n) (blockAt (now (newer .entry)) (s .width) y x) (blockAt (now (older .entry)) (s .width) r c)) × (d ≤ s .n * (s .n * 255)) ⌝ }
 {
     let n = s.n;
     let width = s.width;

@@ -18,19 +18,19 @@ rows-by-four-requires : tie.Need-rows-by-four-requires
 rows-by-four-requires c κs = omega (arith, rows-in (c .before .before .before) 16 (c .if1 .taken))
 
 returns : tie.Need-returns
-returns c = rw (c .before .if1 .taken) (c .rows-by-four .ensures ∙ sym (block-rows absolute _ _ _ _ _ _ _ 16))
+returns c = rw (c .before .if1 .taken) (c .rows-by-four .ensures .0 ∙ sym (block-rows absolute _ _ _ _ _ _ _ 16), omega arith)
 
 rows-by-four-requires-2 : tie.Need-rows-by-four-requires-2
 rows-by-four-requires-2 c κs = omega (arith, rows-in (c .before .before .before .before) 8 (c .if2 .taken))
 
 returns-2 : tie.Need-returns-2
-returns-2 c = rw (c .before .if2 .taken) (c .rows-by-four2 .ensures ∙ sym (block-rows absolute _ _ _ _ _ _ _ 8))
+returns-2 c = rw (c .before .if2 .taken) (c .rows-by-four2 .ensures .0 ∙ sym (block-rows absolute _ _ _ _ _ _ _ 8), omega arith)
 
 rows-by-four-requires-3 : tie.Need-rows-by-four-requires-3
 rows-by-four-requires-3 c κs = omega (arith, rows-in (c .before .before .before .before) 4 (left c))
 
 returns-3 : tie.Need-returns-3
-returns-3 c = rw (left (c .before)) (c .rows-by-four3 .ensures ∙ sym (block-rows absolute _ _ _ _ _ _ _ 4))
+returns-3 c = rw (left (c .before)) (c .rows-by-four3 .ensures .0 ∙ sym (block-rows absolute _ _ _ _ _ _ _ 4), omega arith)
 
 pub block-distortion-spec : {M : Type 1} → statement M
 block-distortion-spec =

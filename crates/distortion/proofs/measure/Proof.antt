@@ -89,7 +89,7 @@ returns-3 c =
     let k = c .before .before in
     let s = k .before .before .before .before .before .before .before in
     let h = at-candidate k in
-    rw (c .block-distortion .ensures, h .1, h .2)
+    rw (c .block-distortion .ensures .0, h .1, h .2)
     (sym (measured-at (pairIn s) (s .args .y) (s .args .x) (vectorIn s) (zero-is (k .before .before .before)) (T-true _ (h .0))))
 
 pub measure-spec : {M : Type 1} → statement M

@@ -1,11 +1,12 @@
 -- `rows_by_four`: after g turns the sum is that of the first 4 × g rows; the rows of each turn lie above the end.
 use Prim.Native.Nat.{_+_, _-_, _*_, _≤_}
 use mathlib.Core.Path.{_≡_}
+use native.Mathlib.Nat.{mul-le-mul}
 use native.Mathlib.Omega.{arith}
 use borrow.Author.Needs.{needs}
 use lib.ListN.{length}
 use Rattle.base.specs.Sum.{sumTo}
-use Rattle.base.specs.Index.{row-fits}
+use Rattle.base.specs.Index.{row-next, row-fits}
 use Rattle.distortion.specs.Blocks.{absolute, rowBy}
 use Rattle.distortion.proofs.Rows.{Four, four, rows-cut}
 use Rattle.distortion.proofs.rows_by_four.Statement.{statement}
@@ -13,7 +14,7 @@ use Rattle.distortion.proofs.rows_by_four.Tie as tie
 
 abbrev Inv-loop : tie.InvT-loop
 Inv-loop older newer width y x r c n groups sum₀ g₀ sum g =
-    (g ≤ groups) × (sum ≤ 1044480 * g) × (sum ≡ sumTo (λ i. rowBy absolute older newer width (y + i) x (r + i) c n) (4 * g))
+    (g ≤ groups) × (sum ≤ g * (1020 * n)) × (sum ≡ sumTo (λ i. rowBy absolute older newer width (y + i) x (r + i) c n) (4 * g))
 
 abbrev μ-loop : tie.MeasureT-loop
 μ-loop older newer width y x r c n groups sum₀ g₀ sum g = groups - g
@@ -46,8 +47,17 @@ add-four-rows-2 c = omega (arith, inside c)
 four-rows-requires : tie.Need-four-rows-requires Inv-loop μ-loop
 four-rows-requires c κs = omega (arith, inside c)
 
+-- the sum with a turn's rows more, and that it fits
+more : (b : tie.In-loop Inv-loop μ-loop) → let a = b .before .before .before .before .args in
+    let g = b .before .loop .g in
+    ((g + 1) * (1020 * a .n) ≡ g * (1020 * a .n) + 1020 * a .n) × ((g + 1) * (1020 * a .n) ≤ 256 * 1044480)
+more b =
+    let a = b .before .before .before .before .args in
+    let g = b .before .loop .g in
+    (row-next g (1020 * a .n), mul-le-mul {n₂ = 256} {m₂ = 1044480} (omega arith) (omega arith))
+
 add-sum : tie.Need-add-sum Inv-loop μ-loop
-add-sum c = search needs
+add-sum c = omega (arith, more (c .before))
 
 add-g : tie.Need-add-g Inv-loop μ-loop
 add-g c = search needs
@@ -69,7 +79,7 @@ returns : tie.Need-returns Inv-loop μ-loop
 returns c =
     let l = c .before .loop in
     let e : l .g ≡ c .before .before .before .before .args .groups = omega arith in
-    rw (← e) (l .inv .2)
+    rw (← e) (l .inv .2, l .inv .1)
 
 pub rows-by-four-spec : {M : Type 1} → statement M
 rows-by-four-spec =
