@@ -1,10 +1,10 @@
 -- Tests: what the parts of a test that holds say, and a rule at every number below a bound by one test that antt computes.
-use Prim.Native.Nat.{ℕ, zero, suc, _<_}
+use Prim.Native.Nat.{ℕ, zero, suc, _≤_, _<_}
 use mathlib.Core.Path.{_≡_, refl, sym, subst, _∙_}
 use mathlib.Core.Logic.{_⊎_, inl, inr, ⊎-elim}
 use mathlib.Core.Bool.{Bool, true, false, not, _&&_, _||_, Bool·beq}
 use native.Mathlib.Nat.{eq-or-lt-of-le, le-of-suc-le-suc, not-suc-le-zero}
-use lib.Dec.{T}
+use lib.Dec.{T, leb, eqb, leb→le, eqb→eq}
 use borrow.Author.Tests.{not-true, not-false}
 
 pub and-left : (a b : Bool) → T (a && b) → T a
@@ -19,9 +19,17 @@ pub and-both : (a b : Bool) → T a → T b → T (a && b)
 and-both true b s t = t
 and-both false b s t = s
 
+-- two bounds tested together
+pub le-both : (a b c d : ℕ) → T (leb a b && leb c d) → (a ≤ b) × (c ≤ d)
+le-both a b c d t = (leb→le a b (and-left (leb a b) (leb c d) t), leb→le c d (and-right (leb a b) (leb c d) t))
+
 pub or-cases : (a b : Bool) → T (a || b) → T a ⊎ T b
 or-cases true b t = inl tt
 or-cases false b t = inr t
+
+-- what holds of a number holds of one that the test finds equal
+pub eqb-subst : (P : ℕ → Type 0) (n k : ℕ) → P k → T (eqb n k) → P n
+eqb-subst P n k p t = subst P (sym (eqb→eq n k t)) p
 
 -- a test that holds, as the two ways of saying so
 pub T-true : (b : Bool) → T b → b ≡ true

@@ -18,6 +18,7 @@ pub struct Measured {
     pub distortion: u32,
 }
 
+// A refused answer: the number, and 0.
 fn refused(refusal: u32) -> Measured
     ensures { λ m. ⌜ m ≡ refusedBy refusal ⌝ }
 {

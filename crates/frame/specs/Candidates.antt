@@ -1,7 +1,8 @@
 -- 01, "Pictures, blocks, vectors": "A vector (dy, dx) compares the newer frame's block at row y, column x with the older frame's block at
 -- (y + dy, x + dx). It is a candidate for window w if both parts lie in -w..w and the older block is wholly inside its frame."
 --   olderRow, olderColumn   y + dy and x + dx, where they are not below 0
---   Candidate               a candidate, as a relation; candidate: as a test
+--   Inside, inside          N pels from a place on lie in a side of the frame, as a relation and as a test
+--   Candidate, candidate    a candidate, as a relation and as a test
 --   olderAt                 where the older block of a candidate stands; partAt: the same of a row or a column alone
 -- The block stands at any row y and column x, on the grid or off it.
 use Prim.Native.Nat.{ℕ, _+_, _-_, _≤_, _<_}
@@ -13,7 +14,7 @@ use lib.Dec.{T, leb, leb→le, le→leb}
 use lib.IntN.{ℤ, pos, negsuc, natAbs, _+ℤ_}
 use lib.Signed.{_≤ℤ_, leZ-yes}
 use borrow.Author.Tests.{lt-leb}
-use Rattle.base.specs.Tests.{and-left, and-right, and-both, iff-test}
+use Rattle.base.specs.Tests.{and-left, and-right, and-both, le-both, iff-test}
 use Rattle.signed.specs.Int.{up, dn, added}
 use Rattle.order.specs.declared.Vector.{Vector}
 use Rattle.order.specs.Vectors.{vec, Within}
@@ -71,16 +72,13 @@ inside-up : (z : ℤ) (n side : ℕ) → T (inside z n side) → (up z + n ≤ s
 inside-up (pos a) n side t = (leb→le (a + n) side t, refl)
 inside-up (negsuc a) n side t = absurd t
 
--- what a place at most side - n from 0 gives
+-- z is the place a, from which on n pels lie in the side
 inside-at : (z : ℤ) (n side a : ℕ) → up z ≡ a + dn z → a + n ≤ side → T (inside z n side)
 inside-at (pos b) n side a e h = le→leb (b + n) side (omega arith)
 inside-at (negsuc b) n side a e h = absurd (omega arith)
 
 within-yes : (w : ℕ) (v : Vector) → T (inWindow w v) → Within w v
-within-yes w v t =
-    let a = leb (natAbs (v .dy)) w in
-    let b = leb (natAbs (v .dx)) w in
-    record { down = leb→le (natAbs (v .dy)) w (and-left a b t); across = leb→le (natAbs (v .dx)) w (and-right a b t) }
+within-yes w v t = let b = le-both (natAbs (v .dy)) w (natAbs (v .dx)) w t in record { down = b .0; across = b .1 }
 
 within-true : (w : ℕ) (v : Vector) → Within w v → T (inWindow w v)
 within-true w v i =

@@ -3,14 +3,14 @@
 --   one-bit       in 2..16 they are the numbers with one bit set
 --   log2          of such a window: its trailing zeros
 use Prim.Native.Nat.{ℕ, _^_, _≤_, _<_}
-use mathlib.Core.Path.{_≡_, refl, sym, subst}
+use mathlib.Core.Path.{_≡_, refl}
 use mathlib.Core.Bool.{Bool, false, _||_, _&&_, Bool·beq}
 use mathlib.Core.Logic.{⊎-elim}
 use native.Mathlib.Omega.{arith}
-use lib.Dec.{T, leb, eqb, eqb→eq, lit≤}
+use lib.Dec.{T, leb, eqb, lit≤}
 use lib.Count.{ones, trailingZeros}
 use borrow.Author.Tests.{ne-eqb, le-leb}
-use Rattle.base.specs.Tests.{allBelow, check-below, same-test, or-cases}
+use Rattle.base.specs.Tests.{allBelow, check-below, same-test, or-cases, eqb-subst}
 
 unfoldable pub crossWindow : ℕ → Bool
 crossWindow w = eqb w 2 || (eqb w 4 || (eqb w 8 || eqb w 16))
@@ -42,12 +42,12 @@ none-above w h = none w (λ e. omega arith) (λ e. omega arith) (λ e. omega ari
 pub cross-elim : (P : ℕ → Type 0) → P 2 → P 4 → P 8 → P 16 → (w : ℕ) → T (crossWindow w) → P w
 unfolding crossWindow
 cross-elim P p2 p4 p8 p16 w t =
-    ⊎-elim (at 2 p2)
-    (λ u. ⊎-elim (at 4 p4) (λ v. ⊎-elim (at 8 p8) (at 16 p16) (or-cases (eqb w 8) (eqb w 16) v)) (or-cases (eqb w 4) (eqb w 8 || eqb w 16) u))
+    ⊎-elim (eqb-subst P w 2 p2)
+    (λ u.
+    ⊎-elim (eqb-subst P w 4 p4)
+    (λ v. ⊎-elim (eqb-subst P w 8 p8) (eqb-subst P w 16 p16) (or-cases (eqb w 8) (eqb w 16) v))
+    (or-cases (eqb w 4) (eqb w 8 || eqb w 16) u))
     (or-cases (eqb w 2) (eqb w 4 || (eqb w 8 || eqb w 16)) t)
-  where
-    at : (k : ℕ) → P k → T (eqb w k) → P w
-    at k p e = subst P (sym (eqb→eq w k e)) p
 
 -- log2 w
 abbrev pub log2 : ℕ → ℕ

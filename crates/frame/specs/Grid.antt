@@ -40,10 +40,6 @@ module _ (s : Sizes) (f : Fitting s) where
   unfolding columns
   columns-some = part-some (s .width) (s .n) (f .some) (f .across)
 
-  pub rows-some : 0 < rows s
-  unfolding rows
-  rows-some = part-some (s .height) (s .n) (f .some) (f .down)
-
   pub rows-few : rows s ≤ 1024
   unfolding rows
   rows-few = part-few (s .height) (s .n) (f .some) (f .high)

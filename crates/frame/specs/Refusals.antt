@@ -10,7 +10,7 @@ use mathlib.Core.Bool.{Bool, true, false, cond, _&&_, _||_}
 use mathlib.Core.Logic.{⊎-elim}
 use native.Mathlib.Omega.{arith}
 use lib.Dec.{T, leb, eqb, leb→le, eqb→eq}
-use Rattle.base.specs.Tests.{and-left, and-right, or-cases}
+use Rattle.base.specs.Tests.{and-left, and-right, or-cases, le-both, eqb-subst}
 use Rattle.frame.specs.declared.Sizes.{Sizes}
 use Rattle.frame.specs.declared.Request.{Request}
 use Rattle.frame.specs.Pictures.{sizes, Fitting}
@@ -34,7 +34,7 @@ sideOk a = leb 4 a && leb a 1024
 
 -- 2 a frame of another length: "the lent slice has exactly width × height bytes"
 abbrev pub frameOk : Sizes → ℕ → Bool
-frameOk s length = eqb length (s .height * s .width)
+frameOk s pels = eqb pels (s .height * s .width)
 
 -- 3 N not allowed or too big: "Block size N is 4, 8 or 16, at most width and height"
 unfoldable pub listed : ℕ → Bool
@@ -102,16 +102,15 @@ first-zero zero rest e = (refl, e)
 first-zero (suc n) rest e = absurd (omega arith)
 
 pub side-high : (a : ℕ) → T (sideOk a) → a ≤ 1024
-side-high a t = leb→le a 1024 (and-right (leb 4 a) (leb a 1024) t)
+side-high a t = le-both 4 a a 1024 t .1
 
 -- what holds of 4, 8 and 16 holds of each allowed N
 pub listed-elim : (P : ℕ → Type 0) → P 4 → P 8 → P 16 → (n : ℕ) → T (listed n) → P n
 unfolding listed
 listed-elim P p4 p8 p16 n t =
-    ⊎-elim (at 4 p4) (λ u. ⊎-elim (at 8 p8) (at 16 p16) (or-cases (eqb n 8) (eqb n 16) u)) (or-cases (eqb n 4) (eqb n 8 || eqb n 16) t)
-  where
-    at : (k : ℕ) → P k → T (eqb n k) → P n
-    at k p e = rw (eqb→eq n k e) p
+    ⊎-elim (eqb-subst P n 4 p4)
+    (λ u. ⊎-elim (eqb-subst P n 8 p8) (eqb-subst P n 16 p16) (or-cases (eqb n 8) (eqb n 16) u))
+    (or-cases (eqb n 4) (eqb n 8 || eqb n 16) t)
 
 -- 1 2 3: sizes at which a block fits, N as listed, both frames whole
 pub record Paired (older newer : ℕ) (s : Sizes) : Type 0 where
@@ -139,11 +138,11 @@ fitting s t u =
     let w = and-left (sideOk (s .width)) (sideOk (s .height)) t in
     let h = and-right (sideOk (s .width)) (sideOk (s .height)) t in
     let l = and-left (listed (s .n)) (leb (s .n) (s .width) && leb (s .n) (s .height)) u in
-    let b = and-right (listed (s .n)) (leb (s .n) (s .width) && leb (s .n) (s .height)) u in
+    let b = le-both _ _ _ _ (and-right (listed (s .n)) (leb (s .n) (s .width) && leb (s .n) (s .height)) u) in
     record {
       some = listed-elim (λ n. 0 < n) (omega arith) (omega arith) (omega arith) (s .n) l;
-      across = leb→le (s .n) (s .width) (and-left (leb (s .n) (s .width)) (leb (s .n) (s .height)) b);
-      down = leb→le (s .n) (s .height) (and-right (leb (s .n) (s .width)) (leb (s .n) (s .height)) b);
+      across = b .0;
+      down = b .1;
       wide = side-high (s .width) w;
       high = side-high (s .height) h;
     }
@@ -165,12 +164,8 @@ pub placed : (older newer : ℕ) (s : Sizes) (y x : ℕ) → placedRefusal older
 unfolding placedRefusal
 placed older newer s y x e =
     let a = first-zero (pairRefusal older newer s) _ e in
-    let b = unless-zero (placeOk s y x) 6 0 (a .1) in
-    record {
-      paired = paired older newer s (a .0);
-      down = leb→le (y + s .n) (s .height) (and-left (leb (y + s .n) (s .height)) (leb (x + s .n) (s .width)) (b .0));
-      across = leb→le (x + s .n) (s .width) (and-right (leb (y + s .n) (s .height)) (leb (x + s .n) (s .width)) (b .0));
-    }
+    let b = le-both (y + s .n) (s .height) (x + s .n) (s .width) (unless-zero (placeOk s y x) 6 0 (a .1) .0) in
+    record { paired = paired older newer s (a .0); down = b .0; across = b .1 }
 
 pub asked : (older newer : ℕ) (q : Request) → requestRefusal older newer q ≡ 0 → Asked older newer q
 unfolding requestRefusal
@@ -179,13 +174,8 @@ asked older newer q e =
     let b = unless-zero (searchOk (q .search)) 3 _ (a .1) in
     let c = unless-zero (windowOk (q .search) (q .w)) 4 _ (b .1) in
     let d = unless-zero (thresholdOk (q .search) (q .t)) 5 0 (c .1) in
-    record {
-      paired = paired older newer (sizesOf q) (a .0);
-      least = leb→le 1 (q .search) (and-left (leb 1 (q .search)) (leb (q .search) 4) (b .0));
-      most = leb→le (q .search) 4 (and-right (leb 1 (q .search)) (leb (q .search) 4) (b .0));
-      window = c .0;
-      threshold = d .0;
-    }
+    let r = le-both 1 (q .search) (q .search) 4 (b .0) in
+    record { paired = paired older newer (sizesOf q) (a .0); least = r .0; most = r .1; window = c .0; threshold = d .0 }
 
 -- no search takes a window over 16
 pub window-small : (search w : ℕ) → T (windowOk search w) → w ≤ 16

@@ -10,7 +10,7 @@ use mathlib.Core.Bool.{Bool, true, false, not, cond}
 use native.Mathlib.Omega.{arith}
 use lib.IntN.{ℤ, pos, negsuc, negℤ, natAbs, _+ℤ_, _-ℤ_, subℕ}
 use lib.Signed.{mag, leZ, ltZ, nonNeg}
-use borrow.Author.Tests.{ltb-true, ltb-false, leb-true, leb-false, lt-ltb, le-ltb, le-leb, lt-leb, eqb-true, eqb-false, ne-eqb}
+use borrow.Author.Tests.{ltb-true, ltb-false, leb-true, leb-false, lt-ltb, le-ltb, le-leb, lt-leb, eqb-true, ne-eqb}
 use native.Mathlib.Nat.{add-zero, zero-add}
 use lib.Dec.{T, leb, ltb, ltb→lt, nltb→le, leb·suc-suc, eqb, eqb·suc-suc}
 
@@ -147,9 +147,6 @@ eqZ-is (negsuc m) (negsuc n) = simp (zero-add, eqb·suc-suc)
 
 pub eq-yes : (a b : ℤ) → eqZ a b ≡ true → up a + dn b ≡ up b + dn a
 eq-yes a b e = eqb-true _ _ (sym (eqZ-is a b) ∙ e)
-
-pub eq-no : (a b : ℤ) → eqZ a b ≡ false → up a + dn b ≡ up b + dn a → ⊥
-eq-no a b e = eqb-false _ _ (sym (eqZ-is a b) ∙ e)
 
 -- omega's rules for the integers: it then reads the equations and the tests of integers in reach, and proves an equation of two, and that one is not negative
 pub ruleset ints = (same, up-eq, dn-eq, abs-eq, lt-yes, lt-no, le-yes, le-no, eq-yes, nonneg)

@@ -11,7 +11,7 @@ use native.Mathlib.Omega.{arith}
 use lib.Dec.{leb, eqb, leb→le}
 use lib.ListN.{length, take, drop}
 use borrow.Author.Tests.{ne-eqb, eq-eqb, eqb-true}
-use Rattle.base.specs.Tests.{and-left, and-right}
+use Rattle.base.specs.Tests.{le-both}
 use Rattle.frame.specs.declared.Sizes.{Sizes}
 use Rattle.view.specs.declared.RowView.{RowView}
 use Rattle.frame.specs.Pictures.{Pair, row-inside}
@@ -59,15 +59,13 @@ unfolding viewRefusal
 viewed older newer s side row column e =
     let a = first-zero (pairRefusal older newer s) _ e in
     let b = unless-zero (leb side 1) 11 _ (a .1) in
-    let c = unless-zero (rowOk s row column) 6 0 (b .1) in
-    let r = leb→le (row + 1) (s .height) (and-left (leb (row + 1) (s .height)) (leb (column + s .n) (s .width)) (c .0)) in
-    let k = leb→le (column + s .n) (s .width) (and-right (leb (row + 1) (s .height)) (leb (column + s .n) (s .width)) (c .0)) in
+    let c = le-both (row + 1) (s .height) (column + s .n) (s .width) (unless-zero (rowOk s row column) 6 0 (b .1) .0) in
     record {
       paired = paired older newer s (a .0);
       known = leb→le side 1 (b .0);
       down = omega arith;
-      across = k;
-      ends = row-inside s row column (s .n) (omega arith) k;
+      across = c .1;
+      ends = row-inside s row column (s .n) (omega arith) (c .1);
     }
 
 -- ---- the part that a place names, refused or not
@@ -78,16 +76,10 @@ module _ (p : Pair) (side row column : ℕ) where
       cond b (record { refusal = 0; place = row * p .sizes .width + column; length = p .sizes .n })
       (record { refusal = refusalAt p side row column; place = 0; length = 0 })
 
-  accepted : eqb (refusalAt p side row column) 0 ≡ true → Viewed (length (p .older)) (length (p .newer)) (p .sizes) side row column
-  accepted e = viewed _ _ (p .sizes) side row column (eqb-true _ 0 e)
-
-  ends-older : (b : Bool) → eqb (refusalAt p side row column) 0 ≡ b → answer b .place + answer b .length ≤ length (p .older)
-  ends-older true e = omega (arith, accepted e)
-  ends-older false e = omega arith
-
-  ends-newer : (b : Bool) → eqb (refusalAt p side row column) 0 ≡ b → answer b .place + answer b .length ≤ length (p .newer)
-  ends-newer true e = omega (arith, accepted e)
-  ends-newer false e = omega arith
+  answer-ends : (b : Bool) → eqb (refusalAt p side row column) 0 ≡ b
+      → (answer b .place + answer b .length ≤ length (p .older)) × (answer b .place + answer b .length ≤ length (p .newer))
+  answer-ends true e = let i = viewed _ _ (p .sizes) side row column (eqb-true _ 0 e) in (omega arith, omega arith)
+  answer-ends false e = (omega arith, omega arith)
 
   part-is : (b : Bool) (f : List ℕ)
       → take (answer b .length) (drop (answer b .place) f) ≡ cond b (take (p .sizes .n) (drop (row * p .sizes .width + column) f)) []
@@ -96,23 +88,22 @@ module _ (p : Pair) (side row column : ℕ) where
 
   -- v is what `viewPlace` says
   module _ (v : RowView) (is : v ≡ viewPlace (length (p .older)) (length (p .newer)) (p .sizes) side row column) where
-    pub view-ends-older : v .place + v .length ≤ length (p .older)
+    -- it ends inside either frame
+    pub view-ends : (v .place + v .length ≤ length (p .older)) × (v .place + v .length ≤ length (p .newer))
     unfolding viewPlace
-    view-ends-older = rw is (ends-older (eqb (refusalAt p side row column) 0) refl)
-
-    pub view-ends-newer : v .place + v .length ≤ length (p .newer)
-    unfolding viewPlace
-    view-ends-newer = rw is (ends-newer (eqb (refusalAt p side row column) 0) refl)
+    view-ends = rw is (answer-ends (eqb (refusalAt p side row column) 0) refl)
 
     -- the row view is the part of its frame that the place names
     pub view-part : take (v .length) (drop (v .place) (sideOf p side)) ≡ rowView p side row column
     unfolding viewPlace rowView
     view-part = rw is (part-is (eqb (refusalAt p side row column) 0) (sideOf p side))
 
-    -- the same, as `row_view` cuts it from either frame
-    module _ (e : v .place + v .length - v .place ≡ v .length) where
-      pub view-older : side ≡ 0 → take (v .place + v .length - v .place) (drop (v .place) (p .older)) ≡ rowView p side row column
-      view-older z = rw e (rw (eq-eqb side 0 z) at view-part)
+    -- the same, as `row_view` cuts it: from the place to the end
+    cut : v .place + v .length - v .place ≡ v .length
+    cut = omega arith
 
-      pub view-newer : (side ≡ 0 → ⊥) → take (v .place + v .length - v .place) (drop (v .place) (p .newer)) ≡ rowView p side row column
-      view-newer z = rw e (rw (ne-eqb side 0 z) at view-part)
+    pub view-older : side ≡ 0 → take (v .place + v .length - v .place) (drop (v .place) (p .older)) ≡ rowView p side row column
+    view-older z = rw cut (rw (eq-eqb side 0 z) at view-part)
+
+    pub view-newer : (side ≡ 0 → ⊥) → take (v .place + v .length - v .place) (drop (v .place) (p .newer)) ≡ rowView p side row column
+    view-newer z = rw cut (rw (ne-eqb side 0 z) at view-part)

@@ -5,26 +5,24 @@ use borrow.Author.Needs.{needs}
 use lib.ListN.{length}
 use denote.Ref.{now}
 use Rattle.frame.specs.Pictures.{pairOf}
-use Rattle.view.specs.View.{view-ends-older, view-ends-newer, view-older, view-newer}
+use Rattle.view.specs.View.{view-ends, view-older, view-newer}
 use Rattle.view.proofs.row_view.Statement.{statement}
 use Rattle.view.proofs.row_view.Tie as tie
 
--- where the part ends
-within-older : (d : tie.After-view-place) → d .view-place .result .place + d .view-place .result .length ≤ length (now (d .before .before .before .args .older))
-within-older d =
+-- where the part ends, in either frame
+ends : (d : tie.After-view-place) →
     let a = d .before .before .before .args in
-    view-ends-older (pairOf (now (a .older)) (now (a .newer)) (a .s)) (a .side) (a .row) (a .column) _ (d .view-place .ensures)
-
-within-newer : (d : tie.After-view-place) → d .view-place .result .place + d .view-place .result .length ≤ length (now (d .before .before .before .args .newer))
-within-newer d =
+    let e = d .view-place .result .place + d .view-place .result .length in
+    (e ≤ length (now (a .older))) × (e ≤ length (now (a .newer)))
+ends d =
     let a = d .before .before .before .args in
-    view-ends-newer (pairOf (now (a .older)) (now (a .newer)) (a .s)) (a .side) (a .row) (a .column) _ (d .view-place .ensures)
+    view-ends (pairOf (now (a .older)) (now (a .newer)) (a .s)) (a .side) (a .row) (a .column) _ (d .view-place .ensures)
 
 view-place-requires : tie.Need-view-place-requires
 view-place-requires c κs = search needs
 
 add-end : tie.Need-add-end
-add-end c = omega (arith, within-older (c .before))
+add-end c = omega (arith, ends (c .before))
 
 sub-result : tie.Need-sub-result
 sub-result c = search needs
@@ -33,13 +31,13 @@ part-result-start : tie.Need-part-result-start
 part-result-start c = search needs
 
 part-result-end : tie.Need-part-result-end
-part-result-end c = omega (arith, within-older (c .before .before))
+part-result-end c = omega (arith, ends (c .before .before))
 
 returns : tie.Need-returns
 returns c =
     let d = c .before .before .before in
     let a = d .before .before .before .args in
-    view-older (pairOf (now (a .older)) (now (a .newer)) (a .s)) (a .side) (a .row) (a .column) _ (d .view-place .ensures) (omega arith) (c .before .if1 .taken)
+    view-older (pairOf (now (a .older)) (now (a .newer)) (a .s)) (a .side) (a .row) (a .column) _ (d .view-place .ensures) (c .before .if1 .taken)
 
 sub-result-2 : tie.Need-sub-result-2
 sub-result-2 c = search needs
@@ -48,13 +46,13 @@ part-result-start-2 : tie.Need-part-result-start-2
 part-result-start-2 c = search needs
 
 part-result-end-2 : tie.Need-part-result-end-2
-part-result-end-2 c = omega (arith, within-newer (c .before .before))
+part-result-end-2 c = omega (arith, ends (c .before .before))
 
 returns-2 : tie.Need-returns-2
 returns-2 c =
     let d = c .before .before .before in
     let a = d .before .before .before .args in
-    view-newer (pairOf (now (a .older)) (now (a .newer)) (a .s)) (a .side) (a .row) (a .column) _ (d .view-place .ensures) (omega arith) (c .before .if1 .left)
+    view-newer (pairOf (now (a .older)) (now (a .newer)) (a .s)) (a .side) (a .row) (a .column) _ (d .view-place .ensures) (c .before .if1 .left)
 
 pub row-view-spec : {M : Type 1} → statement M
 row-view-spec = tie.close (tie.spec view-place-requires add-end sub-result part-result-start part-result-end returns sub-result-2 part-result-start-2 part-result-end-2 returns-2)
