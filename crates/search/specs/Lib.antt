@@ -1,0 +1,3 @@
+pub mod Weighing
+pub mod Found
+pub mod Exhaustive

@@ -1,0 +1,35 @@
+-- 01, "The four searches": what a search may ask of a block at row y, column x, for window w: which vectors are candidates, and their
+-- distortions.
+--   Ready     the frames have the sizes that the block names, it stands wholly inside the newer one, and no search takes its w amiss
+--   Target    the block as a search sees it: `target`
+--   weighed   the distortion of a vector, where it is a candidate
+use Prim.Native.Nat.{ℕ, _≤_}
+use mathlib.Core.List.{List}
+use mathlib.Core.Bool.{Bool, cond}
+use lib.ListN.{length}
+use Rattle.order.specs.declared.Vector.{Vector}
+use Rattle.frame.specs.Pictures.{Pair, pairOf}
+use Rattle.frame.specs.Candidates.{candidate}
+use Rattle.frame.specs.Refusals.{Placed}
+use Rattle.distortion.specs.Blocks.{distortion}
+use Rattle.search.specs.declared.Spot.{Spot}
+use Rattle.search.specs.declared.Weighed.{Weighed}
+use Rattle.search.specs.declared.Weighed.the-variants.{Cost, Nothing}
+
+pub record Ready (older newer : List ℕ) (b : Spot) : Type 0 where
+  pub placed : Placed (length older) (length newer) (b .sizes) (b .y) (b .x)
+  pub window : b .w ≤ 16
+
+pub record Target : Type 0 where
+  pub candidate : Vector → Bool
+  pub cost : Vector → ℕ
+
+abbrev pub target : Pair → ℕ → ℕ → ℕ → Target
+target p w y x = record { candidate = candidate (p .sizes) w y x; cost = distortion p y x }
+
+-- the target that code searches: two lent frames and a block
+abbrev pub targetOf : List ℕ → List ℕ → Spot → Target
+targetOf older newer b = target (pairOf older newer (b .sizes)) (b .w) (b .y) (b .x)
+
+unfoldable pub weighed : Target → Vector → Weighed
+weighed t v = cond (t .candidate v) (Cost (t .cost v)) Nothing

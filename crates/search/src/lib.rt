@@ -1,0 +1,46 @@
+// What the four searches of document 01 share: the block that is searched, the distortion of a candidate, and the answer.
+
+ghost use mathlib.Core.Path.{_≡_};
+ghost use Rattle.order.specs.Vectors.{vec};
+ghost use Rattle.search.specs.Weighing.{Ready, targetOf, weighed};
+use frame::Older;
+use frame::Sizes;
+
+// A block of the newer frame, at row y, column x, to be searched within window w.
+pub struct Spot {
+    pub sizes: Sizes,
+    pub w: usize,
+    pub y: usize,
+    pub x: usize,
+}
+
+// What a search answers: a vector, its distortion, five counts for m = 16, 8, 4, 2, 1, and the number dropped.
+#[repr(C)]
+pub struct Found {
+    pub refusal: u32,
+    pub dy: i32,
+    pub dx: i32,
+    pub distortion: u32,
+    pub counts: [u32; 5],
+    pub dropped: u32,
+}
+
+// The distortion of a candidate, or nothing where a vector is none.
+pub enum Weighed {
+    Cost(u32),
+    Nothing,
+}
+
+// The distortion of (dy, dx), where it is a candidate.
+pub fn weigh(older: &[u8], newer: &[u8], b: Spot, dy: i32, dx: i32) -> Weighed
+    requires { ⌜ Ready (now older) (now newer) b ⌝ }
+    ensures { λ r. ⌜ r ≡ weighed (targetOf (now (older .entry)) (now (newer .entry)) b) (vec dy dx) ⌝ }
+{
+    let s = b.sizes;
+    let y = b.y;
+    let x = b.x;
+    let Older::At(r, c) = frame::older_at(s, b.w, y, x, dy, dx) else {
+        return Weighed::Nothing;
+    };
+    Weighed::Cost(distortion::block_distortion(older, newer, s, y, x, r, c))
+}
