@@ -2,3 +2,5 @@ pub mod Sum
 pub mod Index
 pub mod Lists
 pub mod Tests
+pub mod Least
+pub mod Picks

@@ -1,1 +1,3 @@
 pub mod Distance
+pub mod Sift
+pub mod Prune
