@@ -8,8 +8,7 @@ use native.Mathlib.Decide.{decLe}
 use lib.Dec.{T}
 use lib.IntN.{pos}
 use Rattle.base.specs.Tests.{T-true, true-T}
-use Rattle.base.specs.Least.{leastOf}
-use Rattle.base.specs.Picks.{pick, BestBelow, pick-head, leastOf-pick}
+use Rattle.base.specs.Picks.{BestBelow, pick-head, leastOf-pick}
 use Rattle.order.specs.declared.Vector.{Vector}
 use Rattle.order.specs.Vectors.{vec, Precedes}
 use Rattle.order.specs.Preference.{preferred}
@@ -17,7 +16,7 @@ use Rattle.order.proofs.Order.{first-still, in-order, stands, precedes-trans, p
 use Rattle.frame.specs.Pictures.{Pair}
 use Rattle.frame.specs.Candidates.{Candidate, candidate, candidate-yes, candidate-true, still-candidate}
 use Rattle.distortion.specs.Blocks.{distortion}
-use Rattle.search.specs.Exhaustive.{Best, places, best}
+use Rattle.search.specs.Exhaustive.{Best, best}
 
 module _ (p : Pair) (w y x : ℕ) (small : w ≤ 16) where
   abbrev passes : ℕ → Bool

@@ -4,14 +4,19 @@
 --   Target    the block as a search sees it: `target`
 --   weighed   the distortion of a vector, where it is a candidate
 use Prim.Native.Nat.{ℕ, _≤_}
+use mathlib.Core.Path.{_≡_, refl}
 use mathlib.Core.List.{List}
-use mathlib.Core.Bool.{Bool, cond}
+use mathlib.Core.Bool.{Bool, true, false, cond}
+use native.Mathlib.Nat.{add-zero}
+use native.Mathlib.Omega.{arith}
+use lib.IntN.{pos}
 use lib.ListN.{length}
 use Rattle.order.specs.declared.Vector.{Vector}
+use Rattle.order.specs.Vectors.{vec}
 use Rattle.frame.specs.Pictures.{Pair, pairOf}
 use Rattle.frame.specs.Candidates.{candidate}
 use Rattle.frame.specs.Refusals.{Placed}
-use Rattle.distortion.specs.Blocks.{distortion}
+use Rattle.distortion.specs.Blocks.{absolute, blockAt, newerBlock, distortionBy, distortion}
 use Rattle.search.specs.declared.Spot.{Spot}
 use Rattle.search.specs.declared.Weighed.{Weighed}
 use Rattle.search.specs.declared.Weighed.the-variants.{Cost, Nothing}
@@ -33,3 +38,26 @@ targetOf older newer b = target (pairOf older newer (b .sizes)) (b .w) (b .y) (b
 
 unfoldable pub weighed : Target → Vector → Weighed
 weighed t v = cond (t .candidate v) (Cost (t .cost v)) Nothing
+
+-- what an answer says
+module _ (t : Target) (v : Vector) where
+  pub weighed-none : weighed t v ≡ Nothing → t .candidate v ≡ false
+  unfolding weighed
+  weighed-none = go (t .candidate v)
+    where
+      go : (c : Bool) → cond c (Cost (t .cost v)) Nothing ≡ Nothing → c ≡ false
+      go true e = let z : _≡_ {A = ℕ} 0 1 = cc in absurd (omega arith)
+      go false e = refl
+
+  pub weighed-some : (d : ℕ) → weighed t v ≡ Cost d → (t .candidate v ≡ true) × (d ≡ t .cost v)
+  unfolding weighed
+  weighed-some d = go (t .candidate v)
+    where
+      go : (c : Bool) → cond c (Cost (t .cost v)) Nothing ≡ Cost d → (c ≡ true) × (d ≡ t .cost v)
+      go true e = (refl, (let q : d ≡ t .cost v = cc in q))
+      go false e = let z : _≡_ {A = ℕ} 0 1 = cc in absurd (omega arith)
+
+-- (0,0) compares the block with the older block at the same place
+pub still-cost : (p : Pair) (y x : ℕ) → distortion p y x (vec (pos 0) (pos 0)) ≡ distortionBy absolute (p .sizes .n) (newerBlock p y x) (blockAt (p .older) (p .sizes .width) y x)
+unfolding distortion
+still-cost p y x = rw (add-zero y, add-zero x)

@@ -1,8 +1,7 @@
 -- `weigh`: the older block is the one that the vector names, and it lies inside.
-use mathlib.Core.Path.{_≡_, ap, sym, _∙_}
+use mathlib.Core.Path.{_≡_, sym, _∙_}
 use borrow.Author.Needs.{needs}
 use lib.Dec.{T}
-use denote.Ref.{now}
 use mir.Facts.{toZ-ofZ}
 use Rattle.order.specs.declared.Vector.{Vector}
 use Rattle.order.specs.Vectors.{vec}
