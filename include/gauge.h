@@ -14,6 +14,9 @@
  *     1  width or height not 4 to 1,024
  *     2  a frame whose length is not width x height
  *     3  N not 4, 8 or 16, or larger than width or height
+ *     4  the search not 1 to 4
+ *     5  a window w that the search does not take
+ *     6  a threshold t over 65,280, or not 0 with search 1, 2 or 3
  *     7  the block not wholly inside the newer frame; for a row view, the N pels not inside one row
  *     8  the vector no candidate of window 16: a part over 16 in size, or the older block not wholly inside its frame
  *    12  side neither 0 nor 1
@@ -50,6 +53,27 @@ typedef struct {
 /* Looks up the N pels of one row from `column` on, in the older frame (side 0) or the newer one (side 1). Tests 1 2 3 12 7. */
 gauge_row gauge_row_view(const uint8_t *older, size_t older_length, const uint8_t *newer, size_t newer_length, size_t width,
                          size_t height, size_t n, uint32_t side, size_t row, size_t column);
+
+/* What a search is asked. */
+typedef struct {
+    size_t width, height, n;
+    uint32_t search; /* 1 full, 2 pruned, 3 four-step, 4 cross */
+    size_t w;        /* the search window: full and pruned 0 to 16, four-step 7, cross 2, 4, 8 or 16 */
+    uint32_t t;      /* the threshold of cross, 0 to 65,280: a distortion of (0,0) below it ends the search; 0 with the others */
+} gauge_request;
+
+/* What a search of one block answers. */
+typedef struct {
+    uint32_t refusal;
+    int32_t dy, dx;      /* the vector found */
+    uint32_t distortion; /* and its distortion */
+    uint32_t counts[5];  /* pruned: how many candidates were tested at m = 16, 8, 4, 2, 1; the others count what they measured at m = 1 */
+    uint32_t dropped;    /* pruned: how many were dropped unmeasured */
+} gauge_found;
+
+/* Searches the block that stands at (row, column), on the grid or off it. Tests 1 2 3 4 5 6 7. */
+gauge_found gauge_search_block(const uint8_t *older, size_t older_length, const uint8_t *newer, size_t newer_length,
+                               gauge_request request, size_t row, size_t column);
 
 #ifdef __cplusplus
 }

@@ -1,13 +1,14 @@
 // Frames: their sizes, the grid of blocks, candidates, and the refusals 1 to 7 of document 01.
 
 ghost use mathlib.Core.Path.{_≡_};
-ghost use Prim.Native.Nat.{_<_};
+ghost use Prim.Native.Nat.{_+_, _<_};
+ghost use lib.Dec.{leb};
 ghost use Rattle.order.specs.Vectors.{vec};
 ghost use Rattle.frame.specs.Pictures.{Fitting};
 ghost use Rattle.frame.specs.Grid.{blocks, blockRow, blockColumn};
 ghost use Rattle.frame.specs.Candidates.{candidate, olderAt, partAt};
 ghost use Rattle.frame.specs.Cross.{crossWindow, log2};
-ghost use Rattle.frame.specs.Refusals.{sideOk, listed, blockOk, searchOk, windowOk, thresholdOk, pairRefusal, placedRefusal, requestRefusal, sizesOf};
+ghost use Rattle.frame.specs.Refusals.{sideOk, listed, blockOk, searchOk, windowOk, thresholdOk, placeOk, pairRefusal, placedRefusal, requestRefusal, sizesOf};
 use signed::Shifted;
 
 // Width and height of a frame, and the block size N.
@@ -201,6 +202,26 @@ pub fn threshold_ok(search: u32, t: u32) -> bool
     t == 0
 }
 
+// n pels from place `at` on lie in a side of so many.
+fn lies_in(at: usize, n: usize, side: usize) -> bool
+    ensures { λ r. ⌜ r ≡ leb (at + n) side ⌝ }
+{
+    if side < n {
+        return false;
+    }
+    at <= side - n
+}
+
+// 7: the block at row y, column x lies wholly inside the frame.
+pub fn place_ok(s: Sizes, y: usize, x: usize) -> bool
+    ensures { λ r. ⌜ r ≡ placeOk s y x ⌝ }
+{
+    if !lies_in(y, s.n, s.height) {
+        return false;
+    }
+    lies_in(x, s.n, s.width)
+}
+
 // The first of 1 2 3 that applies to frames of these lengths, or 0.
 pub fn pair_refusal(older: usize, newer: usize, s: Sizes) -> u32
     ensures { λ r. ⌜ r ≡ pairRefusal older newer s ⌝ }
@@ -232,10 +253,7 @@ pub fn placed_refusal(older: usize, newer: usize, s: Sizes, y: usize, x: usize) 
     if refusal != 0 {
         return refusal;
     }
-    if s.height - s.n < y {
-        return 7;
-    }
-    if s.width - s.n < x {
+    if !place_ok(s, y, x) {
         return 7;
     }
     0

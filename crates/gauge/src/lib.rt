@@ -7,8 +7,11 @@ ghost use Rattle.order.specs.Vectors.{vec};
 ghost use Rattle.frame.specs.Pictures.{sizes, pairOf};
 ghost use Rattle.view.specs.View.{viewPlace};
 ghost use Rattle.distortion.specs.Measured.{measured};
+ghost use Rattle.block.specs.Block.{blockFound};
 use distortion::Measured;
+use frame::Request;
 use frame::Sizes;
+use search::Found;
 use view::RowView;
 
 // Measures one vector: the distortion of the newer block at a row and a column for (dy, dx).
@@ -46,4 +49,18 @@ pub extern "C" fn gauge_row_view(
 {
     let s = Sizes { width, height, n };
     view::view_place(older.len(), newer.len(), s, side, row, column)
+}
+
+// Searches one block, at a row and a column, by the search that is asked for.
+#[no_mangle]
+pub extern "C" fn gauge_search_block(
+    older: &[u8],
+    newer: &[u8],
+    request: Request,
+    row: usize,
+    column: usize,
+) -> Found
+    ensures { λ r. ⌜ r ≡ blockFound (now (older .entry)) (now (newer .entry)) request row column ⌝ }
+{
+    block::search_block(older, newer, request, row, column)
 }

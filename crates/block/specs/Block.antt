@@ -1,0 +1,53 @@
+-- 01, "Field, reading, track": "A single-block search takes neither list nor table; its block stands at any pel row and column."
+--   searchRefusal   1 2 3 4 5 6 7
+--   blockFound      the answer: the number and zeros, or what the search asked for finds
+use Prim.Native.Nat.{ℕ, _+_}
+use mathlib.Core.Path.{_≡_}
+use mathlib.Core.Bool.{cond}
+use mathlib.Core.List.{List}
+use borrow.Author.Tests.{ne-eqb}
+use lib.Dec.{eqb}
+use lib.ListN.{length}
+use Rattle.base.specs.Tests.{le-both}
+use Rattle.frame.specs.declared.Request.{Request}
+use Rattle.frame.specs.Pictures.{Pair, pairOf}
+use Rattle.frame.specs.Refusals.{unless, first, placeOk, requestRefusal, sizesOf, unless-zero, first-zero, Placed, Asked, asked}
+use Rattle.search.specs.declared.Found.{Found}
+use Rattle.search.specs.Found.{refusedSearch}
+use Rattle.full.specs.Full.{fullFound}
+
+unfoldable pub searchRefusal : ℕ → ℕ → Request → ℕ → ℕ → ℕ
+searchRefusal older newer q y x = first (requestRefusal older newer q) (unless (placeOk (sizesOf q) y x) 7 0)
+
+-- 1 full, 2 pruned, 3 four-step, 4 cross
+unfoldable pub searched : Pair → Request → ℕ → ℕ → Found
+searched p q y x = fullFound p (q .w) y x
+
+unfoldable pub blockFound : List ℕ → List ℕ → Request → ℕ → ℕ → Found
+blockFound older newer q y x =
+    let refusal = searchRefusal (length older) (length newer) q y x in
+    cond (eqb refusal 0) (searched (pairOf older newer (sizesOf q)) q y x) (refusedSearch refusal)
+
+-- ---- what an accepted call may go by
+
+-- 1 2 3 4 5 6 7: the request is one that its search takes, and the block lies in the newer frame
+pub record Searchable (older newer : ℕ) (q : Request) (y x : ℕ) : Type 0 where
+  pub asked : Asked older newer q
+  pub placed : Placed older newer (sizesOf q) y x
+
+pub searchable : (older newer : ℕ) (q : Request) (y x : ℕ) → searchRefusal older newer q y x ≡ 0 → Searchable older newer q y x
+unfolding searchRefusal
+searchable older newer q y x e =
+    let a = first-zero (requestRefusal older newer q) _ e in
+    let b = le-both (y + q .n) (q .height) (x + q .n) (q .width) (unless-zero (placeOk (sizesOf q) y x) 6 0 (a .1) .0) in
+    let r = asked older newer q (a .0) in
+    record { asked = r; placed = record { paired = r .paired; down = b .0; across = b .1 } }
+
+module _ (older newer : List ℕ) (q : Request) (y x : ℕ) where
+  pub block-refused : (searchRefusal (length older) (length newer) q y x ≡ 0 → ⊥) → blockFound older newer q y x ≡ refusedSearch (searchRefusal (length older) (length newer) q y x)
+  unfolding blockFound
+  block-refused h = rw (ne-eqb _ 0 h)
+
+  pub block-accepted : searchRefusal (length older) (length newer) q y x ≡ 0 → blockFound older newer q y x ≡ searched (pairOf older newer (sizesOf q)) q y x
+  unfolding blockFound
+  block-accepted h = rw h

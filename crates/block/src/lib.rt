@@ -1,0 +1,54 @@
+// The single-block call of document 01: refusals 1 to 7, then the search asked for, of a block at any pel row and column.
+
+ghost use mathlib.Core.Path.{_≡_};
+ghost use lib.ListN.{length};
+ghost use Rattle.search.specs.Found.{refusedSearch};
+ghost use Rattle.block.specs.Block.{searchRefusal, blockFound};
+use frame::Request;
+use search::Found;
+use search::Spot;
+
+// The first of 1 2 3 4 5 6 7 that applies, or 0.
+pub fn search_refusal(older: usize, newer: usize, q: Request, y: usize, x: usize) -> u32
+    ensures { λ r. ⌜ r ≡ searchRefusal older newer q y x ⌝ }
+{
+    let refusal = frame::request_refusal(older, newer, q);
+    if refusal != 0 {
+        return refusal;
+    }
+    if !frame::place_ok(frame::sizes_of(q), y, x) {
+        return 7;
+    }
+    0
+}
+
+fn refused(refusal: u32) -> Found
+    ensures { λ r. ⌜ r ≡ refusedSearch refusal ⌝ }
+{
+    Found {
+        refusal,
+        dy: 0,
+        dx: 0,
+        distortion: 0,
+        counts: [0, 0, 0, 0, 0],
+        dropped: 0,
+    }
+}
+
+// Searches the block at row y, column x.
+pub fn search_block(older: &[u8], newer: &[u8], q: Request, y: usize, x: usize) -> Found
+    ensures { λ r. ⌜ r ≡ blockFound (now (older .entry)) (now (newer .entry)) q y x ⌝ }
+{
+    let refusal = search_refusal(older.len(), newer.len(), q, y, x);
+    if refusal != 0 {
+        return refused(refusal);
+    }
+    let b = Spot {
+        sizes: frame::sizes_of(q),
+        w: q.w,
+        y,
+        x,
+    };
+    let order = order::table();
+    full::search(older, newer, &order, b)
+}

@@ -1,0 +1,85 @@
+// Search 4 of document 01, cross: document 000's crosses (X) at halved step sizes, and a last cross (+) or (X).
+
+ghost use mathlib.Core.Path.{_≡_};
+ghost use Prim.Native.Nat.{_+_, _/_, _≤_};
+ghost use Rattle.search.specs.Weighing.{Ready, targetOf};
+ghost use Rattle.probe.specs.Held.{point, seenOf, Ongoing, Holds, foundOf};
+ghost use Rattle.cross.specs.Cross.{pass, passes, onDiagonal, ended, finished, cross};
+use probe::Held;
+use search::Found;
+use search::Spot;
+
+// The tables of offsets, dy and dx of each point in turn: the ends of a St. Andrew's cross (X) and of a Greek cross (+), and step 6's points.
+const ANDREW: [i32; 8] = [-1, -1, -1, 1, 1, -1, 1, 1];
+
+const GREEK: [i32; 8] = [-1, 0, 0, -1, 1, 0, 0, 1];
+
+const DIAGONAL: [i32; 6] = [0, 0, -1, -1, 1, 1];
+
+// Steps 3 and 4, at step size p.
+fn pass_at(older: &[u8], newer: &[u8], b: Spot, s: Held, p: u32) -> Held
+    requires { ⌜ Ongoing (now older) (now newer) b s 18 × (p ≤ 8) ⌝ }
+    ensures { λ r. ⌜ Holds r (pass (targetOf (now (older .entry)) (now (newer .entry)) b) p (seenOf s)) (s .count + 18) ⌝ }
+{
+    let t = ANDREW;
+    probe::pattern(older, newer, b, s, &t, p)
+}
+
+// Steps 2 to 5: passes at w / 2, w / 4 and so on, down to 2.
+fn all_passes(older: &[u8], newer: &[u8], b: Spot, s: Held) -> Held
+    requires { ⌜ Ongoing (now older) (now newer) b s 144 ⌝ }
+    ensures { λ r. ⌜ Holds r (passes (b .w) (targetOf (now (older .entry)) (now (newer .entry)) b) (b .w / 2) (seenOf s)) (s .count + 144) ⌝ }
+{
+    let mut best = s;
+    let mut p = (b.w / 2) as u32;
+    while 1 < p {
+        best = pass_at(older, newer, b, best, p);
+        p = p / 2;
+    }
+    best
+}
+
+// Step 6: the minimum (my, mx) is the centre (iy, ix), or the point above and left of it, or the one below and right.
+fn on_diagonal(iy: usize, ix: usize, my: usize, mx: usize) -> bool
+    requires { ⌜ (iy ≤ 32) × (ix ≤ 32) × (my ≤ 32) × (mx ≤ 32) ⌝ }
+    ensures { λ r. ⌜ r ≡ onDiagonal (point iy ix) (point my mx) ⌝ }
+{
+    let t = DIAGONAL;
+    probe::is_in(my, mx, iy, ix, &t)
+}
+
+// Steps 7 and 8.
+fn end(older: &[u8], newer: &[u8], b: Spot, s: Held, greek: bool) -> Held
+    requires { ⌜ Ongoing (now older) (now newer) b s 18 ⌝ }
+    ensures { λ r. ⌜ Holds r (ended (targetOf (now (older .entry)) (now (newer .entry)) b) greek (seenOf s)) (s .count + 18) ⌝ }
+{
+    if greek {
+        let t = GREEK;
+        return probe::pattern(older, newer, b, s, &t, 1);
+    }
+    pass_at(older, newer, b, s, 1)
+}
+
+// The pass at p = 1, then steps 6 to 8.
+fn finish(older: &[u8], newer: &[u8], b: Spot, s: Held) -> Held
+    requires { ⌜ Ongoing (now older) (now newer) b s 36 ⌝ }
+    ensures { λ r. ⌜ Holds r (finished (targetOf (now (older .entry)) (now (newer .entry)) b) (seenOf s)) (s .count + 36) ⌝ }
+{
+    let q = pass_at(older, newer, b, s, 1);
+    let greek = on_diagonal(s.y, s.x, q.y, q.x);
+    end(older, newer, b, q, greek)
+}
+
+// The search: step 1, then the rest.
+pub fn search(older: &[u8], newer: &[u8], b: Spot, t: u32) -> Found
+    requires { ⌜ Ready (now older) (now newer) b ⌝ }
+    ensures { λ r. ⌜ r ≡ foundOf (cross (targetOf (now (older .entry)) (now (newer .entry)) b) t (b .w)) ⌝ }
+{
+    let s = probe::first(older, newer, b);
+    if s.least < t {
+        return probe::answered(s);
+    }
+    let q = all_passes(older, newer, b, s);
+    let r = finish(older, newer, b, q);
+    probe::answered(r)
+}

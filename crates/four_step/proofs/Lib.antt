@@ -1,0 +1,3 @@
+pub mod FourStep
+pub mod Unclipped
+pub mod Steps

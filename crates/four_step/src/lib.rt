@@ -1,0 +1,89 @@
+// Search 3 of document 01, four-step: document 001's patterns of nine points, two apart, that move until their centre stays, then the eight
+// points next to it.
+
+ghost use mathlib.Core.Path.{_≡_};
+ghost use Prim.Native.Nat.{_+_, _≤_};
+ghost use Rattle.search.specs.Weighing.{Ready, targetOf};
+ghost use Rattle.probe.specs.Probe.{same?};
+ghost use Rattle.probe.specs.Held.{point, seenOf, Ongoing, Holds, foundOf};
+ghost use Rattle.four_step.specs.FourStep.{step1, step23, step4, from3, from2, fourStep};
+use probe::Held;
+use search::Found;
+use search::Spot;
+
+// The tables of offsets, dy and dx of each point in turn: centre, then the eight around it, row by row, at distance 2; the eight at distance 1.
+const SQUARE: [i32; 18] = [0, 0, -2, -2, -2, 0, -2, 2, 0, -2, 0, 2, 2, -2, 2, 0, 2, 2];
+
+const RING: [i32; 16] = [-1, -1, -1, 0, -1, 1, 0, -1, 0, 1, 1, -1, 1, 0, 1, 1];
+
+// Step 1: (0,0), then the eight around it.
+fn step_one(older: &[u8], newer: &[u8], b: Spot) -> Held
+    requires { ⌜ Ready (now older) (now newer) b ⌝ }
+    ensures { λ r. ⌜ Holds r (step1 (targetOf (now (older .entry)) (now (newer .entry)) b)) 19 ⌝ }
+{
+    let s = probe::first(older, newer, b);
+    let t = SQUARE;
+    probe::pattern(older, newer, b, s, &t[2..18], 1)
+}
+
+// Steps 2 and 3, after a pattern around (cy, cx).
+fn step_on(older: &[u8], newer: &[u8], b: Spot, s: Held, cy: usize, cx: usize) -> Held
+    requires { ⌜ Ongoing (now older) (now newer) b s 18 × (cy ≤ 32) × (cx ≤ 32) ⌝ }
+    ensures { λ r. ⌜ Holds r (step23 (targetOf (now (older .entry)) (now (newer .entry)) b) (point cy cx) (seenOf s)) (s .count + 18) ⌝ }
+{
+    let t = SQUARE;
+    probe::pattern_new(older, newer, b, s, &t, 1, cy, cx, &t)
+}
+
+// Step 4.
+fn step_last(older: &[u8], newer: &[u8], b: Spot, s: Held) -> Held
+    requires { ⌜ Ongoing (now older) (now newer) b s 18 ⌝ }
+    ensures { λ r. ⌜ Holds r (step4 (targetOf (now (older .entry)) (now (newer .entry)) b) (seenOf s)) (s .count + 18) ⌝ }
+{
+    let t = RING;
+    probe::pattern(older, newer, b, s, &t, 1)
+}
+
+// The centre (cy, cx) stays: it is still the best.
+fn stays(s: Held, cy: usize, cx: usize) -> bool
+    ensures { λ r. ⌜ r ≡ same? (point (s .y) (s .x)) (point cy cx) ⌝ }
+{
+    if s.y == cy {
+        return s.x == cx;
+    }
+    false
+}
+
+// From step 3 on, after a pattern around (cy, cx): a centre that stays leads to step 4, and so does step 3.
+fn from_three(older: &[u8], newer: &[u8], b: Spot, s: Held, cy: usize, cx: usize) -> Held
+    requires { ⌜ Ongoing (now older) (now newer) b s 36 × (cy ≤ 32) × (cx ≤ 32) ⌝ }
+    ensures { λ r. ⌜ Holds r (from3 (targetOf (now (older .entry)) (now (newer .entry)) b) (point cy cx) (seenOf s)) (s .count + 36) ⌝ }
+{
+    if stays(s, cy, cx) {
+        return step_last(older, newer, b, s);
+    }
+    let t = step_on(older, newer, b, s, cy, cx);
+    step_last(older, newer, b, t)
+}
+
+// From step 2 on, after a pattern around (cy, cx): a centre that stays leads to step 4, step 2 to step 3.
+fn from_two(older: &[u8], newer: &[u8], b: Spot, s: Held, cy: usize, cx: usize) -> Held
+    requires { ⌜ Ongoing (now older) (now newer) b s 54 × (cy ≤ 32) × (cx ≤ 32) ⌝ }
+    ensures { λ r. ⌜ Holds r (from2 (targetOf (now (older .entry)) (now (newer .entry)) b) (point cy cx) (seenOf s)) (s .count + 54) ⌝ }
+{
+    if stays(s, cy, cx) {
+        return step_last(older, newer, b, s);
+    }
+    let t = step_on(older, newer, b, s, cy, cx);
+    from_three(older, newer, b, t, s.y, s.x)
+}
+
+// The search.
+pub fn search(older: &[u8], newer: &[u8], b: Spot) -> Found
+    requires { ⌜ Ready (now older) (now newer) b ⌝ }
+    ensures { λ r. ⌜ r ≡ foundOf (fourStep (targetOf (now (older .entry)) (now (newer .entry)) b)) ⌝ }
+{
+    let s = step_one(older, newer, b);
+    let r = from_two(older, newer, b, s, 16, 16);
+    probe::answered(r)
+}

@@ -1,0 +1,24 @@
+-- `lies_in`: the last place from which n pels fit is side - n.
+use Prim.Native.Nat.{_+_, _-_}
+use native.Mathlib.Omega.{arith}
+use borrow.Author.Needs.{needs}
+use borrow.Author.Tests.{lt-leb}
+use lib.Dec.{leb→le, le→leb}
+use Rattle.base.specs.Tests.{iff-test}
+use Rattle.frame.proofs.lies_in.Statement.{statement}
+use Rattle.frame.proofs.lies_in.Tie as tie
+
+returns : tie.Need-returns
+returns c =
+    let a = c .before .args in
+    rw (lt-leb (a .at + a .n) (a .side) (omega arith))
+
+returns-2 : tie.Need-returns-2
+returns-2 c =
+    let a = c .before .args in
+    iff-test _ _
+    (λ t. le→leb (a .at + a .n) (a .side) (omega (arith, leb→le (a .at) (a .side - a .n) t)))
+    (λ t. le→leb (a .at) (a .side - a .n) (omega (arith, leb→le (a .at + a .n) (a .side) t)))
+
+pub lies-in-spec : {M : Type 1} → statement M
+lies-in-spec = tie.close (tie.spec returns returns-2)

@@ -1,0 +1,245 @@
+-- What looking says in the numbers that the code holds: a part is kept with 16 added, so adding an offset is a shift inside 0 ..= 32, and where
+-- it leads outside there is no candidate.
+use Prim.Native.Nat.{ℕ, suc, _+_, _*_, _≤_, _<_}
+use mathlib.Core.Path.{_≡_, refl, sym, ap, _∙_}
+use mathlib.Core.Bool.{Bool, true, false, cond, _&&_, _||_}
+use mathlib.Core.List.{List, [], _∷_}
+use native.Mathlib.Omega.{arith}
+use native.Mathlib.Numerals.{add-one}
+use borrow.Author.Tests.{lt-ltb, le-ltb, ne-eqb}
+use lib.Dec.{T, leb, leb→le, eqb}
+use lib.IntN.{ℤ, pos, negsuc, negℤ, natAbs, _+ℤ_}
+use lib.ListN.{length, getD, drop, length-drop}
+use lib.Seq.{drop-cons}
+use Rattle.base.specs.Tests.{and-left, and-right, true-T}
+use Rattle.signed.specs.declared.Shifted.the-variants.{At, Outside}
+use Rattle.signed.specs.Int.{up, dn, parts, eqZ, eqZ-is}
+use Rattle.signed.specs.Values.{bias, unbias, bias-unbias, unbias-is, shiftedBy, point-is, point-out}
+use Rattle.order.specs.declared.Vector.{Vector}
+use Rattle.order.specs.Vectors.{vec, Within}
+use Rattle.frame.specs.Pictures.{Pair}
+use Rattle.frame.specs.Candidates.{inWindow, candidate, candidate-older}
+use Rattle.distortion.specs.Blocks.{absolute, blockAt, newerBlock, distortionBy}
+use Rattle.search.specs.declared.Spot.{Spot}
+use Rattle.search.specs.declared.Weighed.the-variants.{Cost, Nothing}
+use Rattle.search.specs.Weighing.{Target, target, weighed, weighed-none, weighed-some, still-cost}
+use Rattle.probe.specs.declared.Held.{Held}
+use Rattle.probe.specs.Probe.{plus, same?, Seen, seen, counted, looked, probe, start, around, times, widened, isIn, fresh, Each}
+use Rattle.probe.specs.Probe.Each.{more}
+use Rattle.probe.specs.Held.{point, seenOf, pairs, Pattern, lookedNew, Ongoing, Holds}
+use Rattle.probe.proofs.Probe.{eqb-same, all?, all-within}
+
+pub holds-by : {r : Held} {s t : Seen} {m n : ℕ} → Holds r s m → s ≡ t → m ≤ n → Holds r t n
+holds-by h e l = record { is = h .is ∙ e; down = h .down; across = h .across; few = let f = h .few in omega arith }
+
+-- what is held may stay as it is
+pub holds-same : {older newer : List ℕ} {b : Spot} {s : Held} {n : ℕ} {q : Seen} → Ongoing older newer b s n → seenOf s ≡ q → Holds s q (s .count + 1)
+holds-same o e = record { is = e; down = o .down; across = o .across; few = omega arith }
+
+-- ---- (0,0): the older block stands where the newer one stands
+
+pub start-is : (p : Pair) (w y x d : ℕ) → d ≡ distortionBy absolute (p .sizes .n) (newerBlock p y x) (blockAt (p .older) (p .sizes .width) y x)
+    → seen (point 16 16) d 1 ≡ start (target p w y x)
+unfolding start unbias
+start-is p w y x d e = rw (still-cost p y x, e)
+
+-- ---- one point is looked at
+
+module _ (t : Target) (s : Seen) (v : Vector) where
+  looked-over : t .candidate v ≡ false → s ≡ looked t s v
+  unfolding looked
+  looked-over e = rw e
+
+  pub looked-none : weighed t v ≡ Nothing → s ≡ looked t s v
+  looked-none e = looked-over (weighed-none t v e)
+
+  pub looked-less : (d : ℕ) → weighed t v ≡ Cost d → d < s .least → seen v d (s .count + 1) ≡ looked t s v
+  unfolding looked counted
+  looked-less d e h = let m = weighed-some t v d e in rw (m .0, ← (m .1), lt-ltb d (s .least) h)
+
+  pub looked-more : (d : ℕ) → weighed t v ≡ Cost d → s .least ≤ d → seen (s .best) (s .least) (s .count + 1) ≡ looked t s v
+  unfolding looked counted
+  looked-more d e h = let m = weighed-some t v d e in rw (m .0, ← (m .1), le-ltb d (s .least) h)
+
+  -- ---- unless it is among those before
+
+  module _ (before : List Vector) where
+    pub new-in : isIn v before ≡ true → s ≡ lookedNew t before s v
+    unfolding lookedNew
+    new-in e = rw e
+
+    pub new-out : isIn v before ≡ false → looked t s v ≡ lookedNew t before s v
+    unfolding lookedNew
+    new-out e = rw e
+
+    -- where looking changes nothing, it does not matter
+    new-same : s ≡ looked t s v → s ≡ lookedNew t before s v
+    unfolding lookedNew
+    new-same e = go (isIn v before)
+      where
+        go : (c : Bool) → s ≡ cond c s (looked t s v)
+        go true = refl
+        go false = e
+
+    probe-new : (vs : List Vector) → probe t s (fresh before (v ∷ vs)) ≡ probe t (lookedNew t before s v) (fresh before vs)
+    unfolding lookedNew fresh probe
+    probe-new vs = go (isIn v before)
+      where
+        go : (c : Bool) → probe t s (cond c (fresh before vs) (v ∷ fresh before vs)) ≡ probe t (cond c s (looked t s v)) (fresh before vs)
+        go true = refl
+        go false = refl
+
+-- outside window 16 there is no candidate of a window up to 16
+module _ (p : Pair) (w y x : ℕ) (l : w ≤ 16) (before : List Vector) (s : Seen) (v : Vector) where
+  far : (Within 16 v → ⊥) → s ≡ lookedNew (target p w y x) before s v
+  far n = new-same (target p w y x) s v before (looked-over (target p w y x) s v (go (candidate (p .sizes) w y x v) refl))
+    where
+      go : (c : Bool) → candidate (p .sizes) w y x v ≡ c → c ≡ false
+      go true e =
+          let k = candidate-older (p .sizes) w y x v (true-T _ e) .window in
+          absurd (n (record { down = omega arith; across = omega arith }))
+      go false e = refl
+
+  pub far-down : 16 < natAbs (v .dy) → s ≡ lookedNew (target p w y x) before s v
+  far-down h = far (λ k. omega arith)
+
+  pub far-across : 16 < natAbs (v .dx) → s ≡ lookedNew (target p w y x) before s v
+  far-across h = far (λ k. omega arith)
+
+-- ---- a part moved by an offset
+
+at-bias : (c : ℕ) → c ≤ 32 → (natAbs (unbias 16 c) ≤ 16) × (bias 16 (unbias 16 c) ≡ c)
+at-bias c h = (omega (arith, unbias-is 16 c, parts (unbias 16 c)), bias-unbias 16 c)
+
+pub part-same : (y a : ℕ) → eqb y a ≡ eqZ (unbias 16 y) (unbias 16 a)
+part-same y a =
+    rw (eqZ-is (unbias 16 y) (unbias 16 a))
+    (eqb-same y a (up (unbias 16 y) + dn (unbias 16 a)) (up (unbias 16 a) + dn (unbias 16 y))
+    (λ q. omega (arith, unbias-is 16 y, unbias-is 16 a)) (λ q. omega (arith, unbias-is 16 y, unbias-is 16 a)))
+
+module _ (c : ℕ) (d : ℤ) (h : c ≤ 32) where
+  pub moved-at : (y : ℕ) → shiftedBy c d 32 ≡ At y → unbias 16 y ≡ unbias 16 c +ℤ d
+  moved-at y e = let k = at-bias c h in point-is 16 (unbias 16 c) d (k .0) y (ap (λ n. shiftedBy n d 32) (k .1) ∙ e)
+
+  pub moved-out : shiftedBy c d 32 ≡ Outside → 16 < natAbs (unbias 16 c +ℤ d)
+  moved-out e = let k = at-bias c h in point-out 16 (unbias 16 c) d (k .0) (ap (λ n. shiftedBy n d 32) (k .1) ∙ e)
+
+  pub from-at : (y a : ℕ) → shiftedBy c d 32 ≡ At a → eqb y a ≡ eqZ (unbias 16 y) (unbias 16 c +ℤ d)
+  from-at y a e = rw (← (moved-at a e)) (part-same y a)
+
+  pub from-out : (y : ℕ) → y ≤ 32 → shiftedBy c d 32 ≡ Outside → false ≡ eqZ (unbias 16 y) (unbias 16 c +ℤ d)
+  from-out y l e =
+      rw (eqZ-is (unbias 16 y) (unbias 16 c +ℤ d))
+      (sym (ne-eqb (up (unbias 16 y) + dn (unbias 16 c +ℤ d)) (up (unbias 16 c +ℤ d) + dn (unbias 16 y)) (λ q. omega (arith, moved-out e, at-bias y l, parts (unbias 16 y), parts (unbias 16 c +ℤ d)))))
+
+-- ---- p times an offset
+
+pub times-up : (p : ℕ) (d : ℤ) → dn d ≡ 0 → times p d ≡ pos (p * natAbs d)
+times-up p (pos n) h = refl
+times-up p (negsuc n) h = absurd (omega arith)
+
+pub times-down : (p : ℕ) (d : ℤ) → 0 < dn d → times p d ≡ negℤ (pos (p * natAbs d))
+times-down p (pos n) h = absurd (omega arith)
+times-down p (negsuc n) h = refl
+
+-- ---- a table's pairs, one at a time
+
+pairs-more : (l : List ℤ) (i : ℕ) → i + 1 < length l → pairs (drop i l) ≡ vec (getD l i (pos 0)) (getD l (i + 1) (pos 0)) ∷ pairs (drop (i + 2) l)
+unfolding pairs
+pairs-more l i h =
+    let e : suc (i + 1) ≡ i + 2 = omega arith in
+    rw (drop-cons l i (pos 0) (omega arith), ← add-one i, drop-cons l (i + 1) (pos 0) h)
+    (ap (λ n. vec (getD l i (pos 0)) (getD l (i + 1) (pos 0)) ∷ pairs (drop n l)) e)
+
+pairs-few : (l : List ℤ) → length l ≤ 1 → pairs l ≡ []
+unfolding pairs
+pairs-few [] h = refl
+pairs-few (a ∷ []) h = refl
+pairs-few (a ∷ (b ∷ l)) h = absurd (omega arith)
+
+pairs-done : (l : List ℤ) (i : ℕ) → length l ≤ i + 1 → pairs (drop i l) ≡ []
+pairs-done l i h = pairs-few (drop i l) (simp length-drop (omega arith))
+
+-- a table that is a pattern, by a test that antt computes
+unfoldable pub pattern? : List ℤ → Bool
+pattern? offsets = leb (length offsets) 18 && all? (inWindow 2) (pairs offsets)
+
+pub pattern-yes : (offsets : List ℤ) → T (pattern? offsets) → Pattern offsets
+unfolding pattern?
+pattern-yes offsets h =
+    record {
+      short = leb→le (length offsets) 18 (and-left (leb (length offsets) 18) (all? (inWindow 2) (pairs offsets)) h);
+      near = all-within 2 (pairs offsets) (and-right (leb (length offsets) 18) (all? (inWindow 2) (pairs offsets)) h);
+    }
+
+-- ---- whether a point is one of a pattern: no offset passed leads to it, so those left decide
+
+pub record Missing (y x cy cx : ℕ) (offsets : List ℤ) (i : ℕ) : Type 0 where
+  pub passed : i ≤ length offsets
+  pub left : isIn (point y x) (around (point cy cx) (pairs (drop i offsets))) ≡ isIn (point y x) (around (point cy cx) (pairs offsets))
+
+module _ (y x cy cx : ℕ) (offsets : List ℤ) where
+  pub missing-none : Missing y x cy cx offsets 0
+  missing-none = record { passed = omega arith; left = refl }
+
+  module _ (i : ℕ) (m : Missing y x cy cx offsets i) where
+    abbrev hit : Bool
+    hit = same? (point y x) (plus (point cy cx) (vec (getD offsets i (pos 0)) (getD offsets (i + 1) (pos 0))))
+
+    turn : i + 1 < length offsets
+        → (hit || isIn (point y x) (around (point cy cx) (pairs (drop (i + 2) offsets)))) ≡ isIn (point y x) (around (point cy cx) (pairs offsets))
+    unfolding isIn around
+    turn h = rw (pairs-more offsets i h) at (m .left)
+
+    pub missing-hit : i + 1 < length offsets → hit ≡ true → true ≡ isIn (point y x) (around (point cy cx) (pairs offsets))
+    missing-hit h a = rw a at (turn h)
+
+    pub missing-more : i + 1 < length offsets → hit ≡ false → Missing y x cy cx offsets (i + 2)
+    missing-more h a = record { passed = omega arith; left = rw a at (turn h) }
+
+    pub missing-done : length offsets ≤ i + 1 → false ≡ isIn (point y x) (around (point cy cx) (pairs offsets))
+    unfolding isIn around
+    missing-done h = rw (pairs-done offsets i h) at (m .left)
+
+-- ---- a pattern, one point after another: what is left leads from the best by now to where all leads from the first
+
+each-head : (P : Vector → Type 0) (v : Vector) (vs : List Vector) → Each P (v ∷ vs) → P v
+each-head P v vs (more h e) = h
+
+each-tail : (P : Vector → Type 0) (v : Vector) (vs : List Vector) → Each P (v ∷ vs) → Each P vs
+each-tail P v vs (more h e) = e
+
+pub record Going (t : Target) (before : List Vector) (cy cx p : ℕ) (offsets : List ℤ) (first best : Held) (i : ℕ) : Type 0 where
+  pub passed : i ≤ length offsets
+  pub near : Each (Within 2) (pairs (drop i offsets))
+  pub left : probe t (seenOf best) (fresh before (around (point cy cx) (widened p (pairs (drop i offsets)))))
+      ≡ probe t (seenOf first) (fresh before (around (point cy cx) (widened p (pairs offsets))))
+  pub down : best .y ≤ 32
+  pub across : best .x ≤ 32
+  pub few : best .count ≤ first .count + i
+
+module _ (t : Target) (before : List Vector) (cy cx p : ℕ) (offsets : List ℤ) (first : Held) where
+  pub going-none : Each (Within 2) (pairs offsets) → first .y ≤ 32 → first .x ≤ 32 → Going t before cy cx p offsets first first 0
+  going-none e h k = record { passed = omega arith; near = e; left = refl; down = h; across = k; few = omega arith }
+
+  module _ (best : Held) (i : ℕ) (g : Going t before cy cx p offsets first best i) where
+    pub going-near : i + 1 < length offsets → Within 2 (vec (getD offsets i (pos 0)) (getD offsets (i + 1) (pos 0)))
+    going-near h = each-head (Within 2) _ _ (rw (pairs-more offsets i h) at (g .near))
+
+    pub going-more : (r : Held) → i + 1 < length offsets
+        → Holds r (lookedNew t before (seenOf best) (plus (point cy cx) (vec (times p (getD offsets i (pos 0))) (times p (getD offsets (i + 1) (pos 0)))))) (best .count + 1)
+        → Going t before cy cx p offsets first r (i + 2)
+    unfolding around widened
+    going-more r h k =
+        record {
+          passed = omega arith;
+          near = each-tail (Within 2) _ _ (rw (pairs-more offsets i h) at (g .near));
+          left = rw (k .is) (sym (probe-new t (seenOf best) _ before _) ∙ (rw (pairs-more offsets i h) at (g .left)));
+          down = k .down;
+          across = k .across;
+          few = let f = g .few in let q = k .few in omega arith;
+        }
+
+    pub going-done : length offsets ≤ i + 1 → seenOf best ≡ probe t (seenOf first) (fresh before (around (point cy cx) (widened p (pairs offsets))))
+    unfolding probe around widened fresh
+    going-done h = rw (pairs-done offsets i h) at (g .left)

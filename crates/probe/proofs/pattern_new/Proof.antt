@@ -1,0 +1,127 @@
+-- `pattern_new`: the points left lead from the best by now to where all lead from the first.
+use Prim.Native.Nat.{_+_, _-_, _≤_}
+use mathlib.Core.Path.{_≡_, _∙_}
+use native.Mathlib.Omega.{arith}
+use borrow.Author.Needs.{needs, sfits-of}
+use denote.Ref.{now}
+use lib.Dec.{lit≤}
+use lib.IntN.{pos}
+use lib.ListN.{length, getD}
+use mir.Syntax.{w32}
+use mir.Val.{toZ, ofZ}
+use mir.Facts.{toZ-ofZ}
+use Rattle.order.specs.Vectors.{vec, Within}
+use Rattle.search.specs.Weighing.{targetOf}
+use Rattle.probe.specs.Probe.{around, times}
+use Rattle.probe.specs.Held.{point, pairs}
+use Rattle.probe.proofs.Probe.{within-more}
+use Rattle.probe.proofs.Looks.{Going, going-none, going-near, going-more, going-done}
+use Rattle.probe.proofs.pattern_new.Statement.{statement}
+use Rattle.probe.proofs.pattern_new.Tie as tie
+
+abbrev Inv-loop : tie.InvT-loop
+Inv-loop older newer b offsets p oy ox before cy cx best₀ i₀ best i =
+    (cy ≤ 32) × (cx ≤ 32) × Going (targetOf older newer b) (around (point oy ox) (pairs before)) cy cx p offsets best₀ best i
+
+abbrev μ-loop : tie.MeasureT-loop
+μ-loop older newer b offsets p oy ox before cy cx best₀ i₀ best i = length offsets - i
+
+loop-holds : tie.Need-loop-holds Inv-loop μ-loop
+loop-holds c =
+    let q = c .before .before .pre in
+    let o = q .0 in
+    (o .down, o .across, going-none _ _ _ _ _ _ _ (q .1 .near) (o .down) (o .across))
+
+add-loop : tie.Need-add-loop Inv-loop μ-loop
+add-loop c = search needs
+
+-- the two offsets are small, and reach look_new as p times what the table has
+small : (c : tie.In-loop Inv-loop μ-loop) →
+    let i = c .before .loop .i in
+    let offsets = now (c .before .before .before .before .args .offsets) in
+    Within 16 (vec (getD offsets i (pos 0)) (getD offsets (i + 1) (pos 0)))
+small c = within-more (lit≤ tt) (going-near _ _ _ _ _ _ _ _ _ (c .before .loop .inv .2) (omega arith))
+
+down : (c : tie.After-scaled Inv-loop μ-loop) →
+    let a = c .before .before .before .before .before .before .args in
+    toZ w32 (ofZ w32 (c .scaled .result)) ≡ times (a .p) (getD (now (a .offsets)) (c .before .before .before .loop .i) (pos 0))
+down c = toZ-ofZ (sfits-of (c .scaled .ok)) ∙ (rw (toZ-ofZ (sfits-of (c .before .scaled-arg .given))) at (c .scaled .ensures))
+
+across : (c : tie.After-scaled2 Inv-loop μ-loop) →
+    let a = c .before .before .before .before .before .before .before .before .args in
+    toZ w32 (ofZ w32 (c .scaled2 .result)) ≡ times (a .p) (getD (now (a .offsets)) (c .before .before .before .before .before .loop .i + 1) (pos 0))
+across c = toZ-ofZ (sfits-of (c .scaled2 .ok)) ∙ (rw (toZ-ofZ (sfits-of (c .before .scaled-arg2 .given))) at (c .scaled2 .ensures))
+
+mul-scaled : tie.Need-mul-scaled Inv-loop μ-loop
+mul-scaled c = search needs
+
+shared-slice-copy-out-scaled : tie.Need-shared-slice-copy-out-scaled Inv-loop μ-loop
+shared-slice-copy-out-scaled c = search needs
+
+scaled-requires : tie.Need-scaled-requires Inv-loop μ-loop
+scaled-requires c κs = (omega arith, rw (toZ-ofZ (sfits-of (c .scaled-arg .given))) (small (c .before) .down))
+
+add-scaled : tie.Need-add-scaled Inv-loop μ-loop
+add-scaled c = search needs
+
+mul-scaled-2 : tie.Need-mul-scaled-2 Inv-loop μ-loop
+mul-scaled-2 c = search needs
+
+shared-slice-copy-out-scaled-2 : tie.Need-shared-slice-copy-out-scaled-2 Inv-loop μ-loop
+shared-slice-copy-out-scaled-2 c = search needs
+
+scaled-requires-2 : tie.Need-scaled-requires-2 Inv-loop μ-loop
+scaled-requires-2 c κs = (omega arith, rw (toZ-ofZ (sfits-of (c .scaled-arg2 .given))) (small (c .before .before .before) .across))
+
+look-new-requires : tie.Need-look-new-requires Inv-loop μ-loop
+look-new-requires c κs =
+    let q = c .before .before .before .before .before .before .before .before .pre in
+    let i = c .before .before .before .before .before .loop .inv in
+    let g = i .2 in (
+      record { ready = q .0 .ready; down = g .down; across = g .across; room = omega arith },
+      i .0,
+      i .1,
+      q .3,
+      q .4,
+      q .5,
+    )
+
+add-i : tie.Need-add-i Inv-loop μ-loop
+add-i c = search needs
+
+loop-less : tie.Need-loop-less Inv-loop μ-loop
+loop-less c = search needs
+
+loop-again : tie.Need-loop-again Inv-loop μ-loop
+loop-again c =
+    let i = c .before .before .before .before .before .before .loop .inv in (
+      i .0,
+      i .1,
+      going-more _ _ _ _ _ _ _ _ _ (i .2) _ (omega arith) (rw (down (c .before .before .before), across (c .before)) at (c .look-new .ensures)),
+    )
+
+returns : tie.Need-returns Inv-loop μ-loop
+returns c =
+    let g = c .before .loop .inv .2 in
+    record { is = going-done _ _ _ _ _ _ _ _ _ g (omega arith); down = g .down; across = g .across; few = omega arith }
+
+pub pattern-new-spec : {M : Type 1} → statement M
+pattern-new-spec =
+    tie.close
+    (tie.spec
+    Inv-loop
+    μ-loop
+    loop-holds
+    add-loop
+    mul-scaled
+    shared-slice-copy-out-scaled
+    scaled-requires
+    add-scaled
+    mul-scaled-2
+    shared-slice-copy-out-scaled-2
+    scaled-requires-2
+    look-new-requires
+    add-i
+    loop-less
+    loop-again
+    returns)

@@ -1,0 +1,57 @@
+-- How the code holds what a search has seen: Held (src) keeps the best vector as dy + 16 and dx + 16, its distortion and the number measured.
+--   point      the vector that two such parts are
+--   seenOf     what is held
+--   pairs      the vectors of a table dy, dx, dy, dx, ..
+--   Pattern    a table of at most nine offsets, each in window 2
+--   lookedNew  a point is looked at, where it is not among those of a list
+--   Ongoing    what a step asks: a block that can be searched, a best in window 16, and room in the count for so many more
+--   Holds      what a step promises: it holds what the definition says, the best in window 16, and at most so many measured
+--   foundOf    the answer. 01: "Searches 3 and 4 count at m = 1."
+use Prim.Native.Nat.{ℕ, _+_, _≤_, _<_}
+use mathlib.Core.Path.{_≡_}
+use mathlib.Core.Bool.{cond}
+use mathlib.Core.List.{List, [], _∷_}
+use lib.IntN.{ℤ}
+use lib.ListN.{length}
+use Rattle.signed.specs.Values.{unbias}
+use Rattle.order.specs.declared.Vector.{Vector}
+use Rattle.order.specs.Vectors.{vec, Within}
+use Rattle.search.specs.declared.Spot.{Spot}
+use Rattle.search.specs.declared.Found.{Found}
+use Rattle.search.specs.Weighing.{Target, Ready}
+use Rattle.search.specs.Found.{foundAs, onlyAtOne}
+use Rattle.probe.specs.declared.Held.{Held}
+use Rattle.probe.specs.Probe.{Seen, seen, looked, isIn, Each}
+
+abbrev pub point : ℕ → ℕ → Vector
+point y x = vec (unbias 16 y) (unbias 16 x)
+
+abbrev pub seenOf : Held → Seen
+seenOf h = seen (point (h .y) (h .x)) (h .least) (h .count)
+
+unfoldable pub pairs : List ℤ → List Vector
+pairs [] = []
+pairs (y ∷ []) = []
+pairs (y ∷ (x ∷ rest)) = vec y x ∷ pairs rest
+
+pub record Pattern (offsets : List ℤ) : Type 0 where
+  pub short : length offsets ≤ 18
+  pub near : Each (Within 2) (pairs offsets)
+
+unfoldable pub lookedNew : Target → List Vector → Seen → Vector → Seen
+lookedNew t before s v = cond (isIn v before) s (looked t s v)
+
+pub record Ongoing (older newer : List ℕ) (b : Spot) (s : Held) (n : ℕ) : Type 0 where
+  pub ready : Ready older newer b
+  pub down : s .y ≤ 32
+  pub across : s .x ≤ 32
+  pub room : s .count + n < 4294967296
+
+pub record Holds (r : Held) (s : Seen) (most : ℕ) : Type 0 where
+  pub is : seenOf r ≡ s
+  pub down : r .y ≤ 32
+  pub across : r .x ≤ 32
+  pub few : r .count ≤ most
+
+unfoldable pub foundOf : Seen → Found
+foundOf s = foundAs (s .best) (s .least) (onlyAtOne (s .count)) 0

@@ -1,0 +1,86 @@
+-- 01, "The four searches": how searches 3 and 4 look at points. "In 3 and 4 a point that is no candidate is neither measured nor counted.
+-- A point met again in a later step is measured and counted again; the centre is not." "Only a strictly smaller distortion replaces."
+--   origin, plus, same?   (0,0), the sum of two vectors, and whether two are one
+--   Seen     the best vector by now, its distortion, the number measured
+--   looked   one point is looked at, and counted where it is a candidate; probe: points, in order; start: (0,0) alone
+--   around   a pattern's points from a centre: its offsets, each added to the centre; widened: the offsets times a step size p
+--   fresh    the points that are not among those of a list: isIn
+--   Each     a property of each vector of a list
+--   Honest   the best is a candidate, and the distortion is its own
+--   Alike    two targets that a search cannot tell apart which looks at no point outside window n
+use Prim.Native.Nat.{ℕ, suc, _+_, _*_}
+use mathlib.Core.Path.{_≡_}
+use mathlib.Core.Bool.{Bool, false, cond, _&&_, _||_}
+use mathlib.Core.List.{List, [], _∷_}
+use lib.Dec.{T, ltb}
+use lib.IntN.{ℤ, pos, negsuc, negℤ, _+ℤ_}
+use Rattle.signed.specs.Int.{eqZ}
+use Rattle.order.specs.declared.Vector.{Vector}
+use Rattle.order.specs.Vectors.{vec, Within}
+use Rattle.search.specs.Weighing.{Target}
+
+abbrev pub origin : Vector
+origin = vec (pos 0) (pos 0)
+
+abbrev pub plus : Vector → Vector → Vector
+plus c o = vec (c .dy +ℤ o .dy) (c .dx +ℤ o .dx)
+
+abbrev pub same? : Vector → Vector → Bool
+same? u v = eqZ (u .dy) (v .dy) && eqZ (u .dx) (v .dx)
+
+pub record Seen : Type 0 where
+  pub best : Vector
+  pub least : ℕ
+  pub count : ℕ
+
+abbrev pub seen : Vector → ℕ → ℕ → Seen
+seen v d n = record { best = v; least = d; count = n }
+
+-- v is measured as d, and counted: only strictly smaller replaces
+unfoldable pub counted : Seen → Vector → ℕ → Seen
+counted s v d = cond (ltb d (s .least)) (seen v d (s .count + 1)) (seen (s .best) (s .least) (s .count + 1))
+
+-- a point that is no candidate is neither measured nor counted
+unfoldable pub looked : Target → Seen → Vector → Seen
+looked t s v = cond (t .candidate v) (counted s v (t .cost v)) s
+
+unfoldable pub probe : Target → Seen → List Vector → Seen
+probe t s [] = s
+probe t s (v ∷ vs) = probe t (looked t s v) vs
+
+-- (0,0) always is a candidate, and is measured before anything else
+unfoldable pub start : Target → Seen
+start t = seen origin (t .cost origin) 1
+
+unfoldable pub around : Vector → List Vector → List Vector
+around c [] = []
+around c (o ∷ os) = plus c o ∷ around c os
+
+abbrev pub times : ℕ → ℤ → ℤ
+times p (pos n) = pos (p * n)
+times p (negsuc n) = negℤ (pos (p * suc n))
+
+unfoldable pub widened : ℕ → List Vector → List Vector
+widened p [] = []
+widened p (o ∷ os) = vec (times p (o .dy)) (times p (o .dx)) ∷ widened p os
+
+unfoldable pub isIn : Vector → List Vector → Bool
+isIn v [] = false
+isIn v (u ∷ us) = same? v u || isIn v us
+
+unfoldable pub fresh : List Vector → List Vector → List Vector
+fresh before [] = []
+fresh before (v ∷ vs) = cond (isIn v before) (fresh before vs) (v ∷ fresh before vs)
+
+pub data Each (P : Vector → Type 0) : List Vector → Type 0 where
+  none : Each P []
+  more : {v : Vector} {vs : List Vector} → P v → Each P vs → Each P (v ∷ vs)
+
+-- what every search owes
+pub record Honest (t : Target) (s : Seen) : Type 0 where
+  pub chosen : T (t .candidate (s .best))
+  pub reported : s .least ≡ t .cost (s .best)
+
+pub record Alike (n : ℕ) (t u : Target) : Type 0 where
+  pub candidate : (v : Vector) → Within n v → t .candidate v ≡ u .candidate v
+  pub cost : (v : Vector) → Within n v → t .cost v ≡ u .cost v

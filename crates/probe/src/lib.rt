@@ -1,0 +1,194 @@
+// How searches 3 and 4 of document 01 look at points: the best seen by now, and the points of a pattern around it, in the table's order.
+
+ghost use mathlib.Core.Path.{_≡_};
+ghost use Prim.Native.Nat.{_+_, _≤_};
+ghost use lib.IntN.{natAbs, _+ℤ_};
+ghost use lib.ListN.{length};
+ghost use Rattle.signed.specs.Int.{eqZ};
+ghost use Rattle.signed.specs.Values.{unbias};
+ghost use Rattle.order.specs.Vectors.{vec};
+ghost use Rattle.search.specs.Weighing.{Ready, targetOf};
+ghost use Rattle.probe.specs.Probe.{plus, same?, looked, probe, start, around, times, widened, isIn, fresh};
+ghost use Rattle.probe.specs.Held.{point, seenOf, pairs, lookedNew, Pattern, Ongoing, Holds, foundOf};
+use search::Found;
+use search::Spot;
+use search::Weighed;
+use signed::Shifted;
+
+// The best vector seen by now, its parts kept as dy + 16 and dx + 16, with its distortion and the number measured.
+pub struct Held {
+    pub y: usize,
+    pub x: usize,
+    pub least: u32,
+    pub count: u32,
+}
+
+// (0,0), measured.
+pub fn first(older: &[u8], newer: &[u8], b: Spot) -> Held
+    requires { ⌜ Ready (now older) (now newer) b ⌝ }
+    ensures { λ r. ⌜ Holds r (start (targetOf (now (older .entry)) (now (newer .entry)) b)) 1 ⌝ }
+{
+    let y = b.y;
+    let x = b.x;
+    Held {
+        y: 16,
+        x: 16,
+        least: distortion::block_distortion(older, newer, b.sizes, y, x, y, x),
+        count: 1,
+    }
+}
+
+// The point (y, x) is looked at: where it is a candidate it is measured, and only strictly smaller replaces.
+fn look(older: &[u8], newer: &[u8], b: Spot, s: Held, y: usize, x: usize) -> Held
+    requires { ⌜ Ongoing (now older) (now newer) b s 1 × (y ≤ 32) × (x ≤ 32) ⌝ }
+    ensures { λ r. ⌜ Holds r (looked (targetOf (now (older .entry)) (now (newer .entry)) b) (seenOf s) (point y x)) (s .count + 1) ⌝ }
+{
+    let dy = signed::unbiased(y);
+    let dx = signed::unbiased(x);
+    let Weighed::Cost(d) = search::weigh(older, newer, b, dy, dx) else {
+        return s;
+    };
+    if d < s.least {
+        return Held {
+            y,
+            x,
+            least: d,
+            count: s.count + 1,
+        };
+    }
+    Held {
+        y: s.y,
+        x: s.x,
+        least: s.least,
+        count: s.count + 1,
+    }
+}
+
+// The part y is the part c moved by d.
+fn is_from(y: usize, c: usize, d: i32) -> bool
+    requires { ⌜ (y ≤ 32) × (c ≤ 32) ⌝ }
+    ensures { λ r. ⌜ r ≡ eqZ (unbias 16 y) (unbias 16 c +ℤ d) ⌝ }
+{
+    let Shifted::At(a) = signed::shift(c, d, 32) else {
+        return false;
+    };
+    y == a
+}
+
+// The point (y, x) is (dy, dx) from the centre (cy, cx).
+fn is_at(y: usize, x: usize, cy: usize, cx: usize, dy: i32, dx: i32) -> bool
+    requires { ⌜ (y ≤ 32) × (x ≤ 32) × (cy ≤ 32) × (cx ≤ 32) ⌝ }
+    ensures { λ r. ⌜ r ≡ same? (point y x) (plus (point cy cx) (vec dy dx)) ⌝ }
+{
+    if is_from(y, cy, dy) {
+        return is_from(x, cx, dx);
+    }
+    false
+}
+
+// The point (y, x) is one of the pattern around (cy, cx).
+pub fn is_in(y: usize, x: usize, cy: usize, cx: usize, offsets: &[i32]) -> bool
+    requires { ⌜ (y ≤ 32) × (x ≤ 32) × (cy ≤ 32) × (cx ≤ 32) × (length (now offsets) ≤ 18) ⌝ }
+    ensures { λ r. ⌜ r ≡ isIn (point y x) (around (point cy cx) (pairs (now (offsets .entry)))) ⌝ }
+{
+    let mut i: usize = 0;
+    while i + 1 < offsets.len() {
+        if is_at(y, x, cy, cx, offsets[i], offsets[i + 1]) {
+            return true;
+        }
+        i += 2;
+    }
+    false
+}
+
+// The point (dy, dx) from the centre (cy, cx) is looked at, where it was not in the pattern `before` around (oy, ox).
+fn look_new(
+    older: &[u8],
+    newer: &[u8],
+    b: Spot,
+    s: Held,
+    cy: usize,
+    cx: usize,
+    dy: i32,
+    dx: i32,
+    oy: usize,
+    ox: usize,
+    before: &[i32],
+) -> Held
+    requires { ⌜ Ongoing (now older) (now newer) b s 1 × (cy ≤ 32) × (cx ≤ 32) × (oy ≤ 32) × (ox ≤ 32) × (length (now before) ≤ 18) ⌝ }
+    ensures { λ r. ⌜ Holds r (lookedNew (targetOf (now (older .entry)) (now (newer .entry)) b) (around (point oy ox) (pairs (now (before .entry)))) (seenOf s) (plus (point cy cx) (vec dy dx))) (s .count + 1) ⌝ }
+{
+    let Shifted::At(y) = signed::shift(cy, dy, 32) else {
+        return s;
+    };
+    let Shifted::At(x) = signed::shift(cx, dx, 32) else {
+        return s;
+    };
+    if is_in(y, x, oy, ox, before) {
+        return s;
+    }
+    look(older, newer, b, s, y, x)
+}
+
+// p times an offset.
+fn scaled(p: u32, d: i32) -> i32
+    requires { ⌜ (p ≤ 16) × (natAbs d ≤ 16) ⌝ }
+    ensures { λ r. ⌜ r ≡ times p d ⌝ }
+{
+    let m = p * signed::magnitude(d);
+    if d < 0 {
+        return signed::negated(m as i32);
+    }
+    m as i32
+}
+
+// A pattern's points around the best by now, at step size p, in the table's order, but for those in the pattern `before` around (oy, ox).
+pub fn pattern_new(
+    older: &[u8],
+    newer: &[u8],
+    b: Spot,
+    s: Held,
+    offsets: &[i32],
+    p: u32,
+    oy: usize,
+    ox: usize,
+    before: &[i32],
+) -> Held
+    requires { ⌜ Ongoing (now older) (now newer) b s 18 × Pattern (now offsets) × (p ≤ 8) × (oy ≤ 32) × (ox ≤ 32) × (length (now before) ≤ 18) ⌝ }
+    ensures { λ r. ⌜ Holds r (probe (targetOf (now (older .entry)) (now (newer .entry)) b) (seenOf s) (fresh (around (point oy ox) (pairs (now (before .entry)))) (around (point (s .y) (s .x)) (widened p (pairs (now (offsets .entry))))))) (s .count + 18) ⌝ }
+{
+    let cy = s.y;
+    let cx = s.x;
+    let mut best = s;
+    let mut i: usize = 0;
+    while i + 1 < offsets.len() {
+        let dy = scaled(p, offsets[i]);
+        let dx = scaled(p, offsets[i + 1]);
+        best = look_new(older, newer, b, best, cy, cx, dy, dx, oy, ox, before);
+        i += 2;
+    }
+    best
+}
+
+// A pattern's points around the best by now, at step size p, in the table's order: none was in a pattern before.
+pub fn pattern(older: &[u8], newer: &[u8], b: Spot, s: Held, offsets: &[i32], p: u32) -> Held
+    requires { ⌜ Ongoing (now older) (now newer) b s 18 × Pattern (now offsets) × (p ≤ 8) ⌝ }
+    ensures { λ r. ⌜ Holds r (probe (targetOf (now (older .entry)) (now (newer .entry)) b) (seenOf s) (around (point (s .y) (s .x)) (widened p (pairs (now (offsets .entry)))))) (s .count + 18) ⌝ }
+{
+    pattern_new(older, newer, b, s, offsets, p, 16, 16, &offsets[0..0])
+}
+
+// The answer: the parts without their 16.
+pub fn answered(s: Held) -> Found
+    requires { ⌜ (s .y ≤ 32) × (s .x ≤ 32) ⌝ }
+    ensures { λ r. ⌜ r ≡ foundOf (seenOf s) ⌝ }
+{
+    Found {
+        refusal: 0,
+        dy: signed::unbiased(s.y),
+        dx: signed::unbiased(s.x),
+        distortion: s.least,
+        counts: [0, 0, 0, 0, s.count],
+        dropped: 0,
+    }
+}
