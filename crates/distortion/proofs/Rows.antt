@@ -1,66 +1,58 @@
--- Rows of a block one below the other: where the last of four lies inside, all four do; and sums over four rows more.
+-- Rows of a block one below the other: four of them are four terms of a sum, and the rows below the first k begin k widths on.
 use Prim.Native.Nat.{ℕ, _+_, _*_, _≤_, _<_}
-use mathlib.Core.Path.{_≡_, refl}
+use mathlib.Core.Path.{_≡_, refl, ap₂}
 use mathlib.Core.List.{List}
-use native.Mathlib.Nat.{add-zero, add-assoc, add-mul, le-mul-of-pos-right, mul-le-mul-right}
+use native.Mathlib.Nat.{add-zero, zero-mul, one-mul, add-assoc, add-mul, mul-le-mul-right}
 use native.Mathlib.Omega.{arith}
 use lib.Dec.{T}
 use lib.ListN.{length}
-use Rattle.base.specs.Sum.{sumTo, sumTo-none, sumTo-four, sumTo-cut}
+use Rattle.base.specs.Sum.{sumTo, sumTo-none, sumTo-ext, sumTo-four, sumTo-cut}
 use Rattle.frame.specs.declared.Sizes.{Sizes}
 use Rattle.frame.specs.Refusals.{listed, listed-elim}
-use Rattle.distortion.specs.Blocks.{Measure, rowBy, Comparable}
+use Rattle.distortion.specs.Blocks.{Measure, rowFrom, rowsFrom, Rows, UpTo, Comparable}
 
--- four rows of n pels from row y, column x on, in a frame of `all` pels
-pub record Four (all width y x n : ℕ) : Type 0 where
-  pub few : y + 3 ≤ all
-  pub row0 : y * width + x + n ≤ all
-  pub row1 : (y + 1) * width + x + n ≤ all
-  pub row2 : (y + 2) * width + x + n ≤ all
-  pub row3 : (y + 3) * width + x + n ≤ all
-
-pub four : (all width y x n : ℕ) → 0 < width → (y + 3) * width + x + n ≤ all → Four all width y x n
-four all width y x n w h =
-    record {
-      few = omega (arith, le-mul-of-pos-right (y + 3) w);
-      row0 = omega (arith, add-mul y 3 width);
-      row1 = omega (arith, add-mul y 3 width, add-mul y 1 width);
-      row2 = omega (arith, add-mul y 3 width, add-mul y 2 width);
-      row3 = h;
-    }
-
-module _ (μ : Measure) (older newer : List ℕ) (width y x r c n : ℕ) where
+module _ (μ : Measure) (older newer : List ℕ) (width a b n : ℕ) where
   pub rows-four :
-      rowBy μ older newer width y x r c n
-      + rowBy μ older newer width (y + 1) x (r + 1) c n
-      + rowBy μ older newer width (y + 2) x (r + 2) c n
-      + rowBy μ older newer width (y + 3) x (r + 3) c n
-      ≡ sumTo (λ i. rowBy μ older newer width (y + i) x (r + i) c n) 4
+      rowFrom μ older newer a b n
+      + rowFrom μ older newer (a + width) (b + width) n
+      + rowFrom μ older newer (a + 2 * width) (b + 2 * width) n
+      + rowFrom μ older newer (a + 3 * width) (b + 3 * width) n
+      ≡ rowsFrom μ older newer width a b n 4
   rows-four =
-      let f : ℕ → ℕ = λ i. rowBy μ older newer width (y + i) x (r + i) c n in
-      let first : rowBy μ older newer width y x r c n ≡ f 0 = rw (add-zero y, add-zero r) in
-      omega (arith, sumTo-four f 0, sumTo-none f, first)
+      let f : ℕ → ℕ = λ i. rowFrom μ older newer (a + i * width) (b + i * width) n in
+      let first : rowFrom μ older newer a b n ≡ f 0 = rw (zero-mul width, add-zero a, add-zero b) in
+      let second : rowFrom μ older newer (a + width) (b + width) n ≡ f 1 = rw one-mul in
+      omega (arith, sumTo-four f 0, sumTo-none f, first, second)
 
   -- m rows below the first k
   pub rows-cut : (k m : ℕ)
-      → sumTo (λ i. rowBy μ older newer width (y + i) x (r + i) c n) (k + m)
-      ≡ sumTo (λ i. rowBy μ older newer width (y + i) x (r + i) c n) k + sumTo (λ i. rowBy μ older newer width (y + k + i) x (r + k + i) c n) m
-  rows-cut k m = simp add-assoc (sumTo-cut (λ i. rowBy μ older newer width (y + i) x (r + i) c n) k m)
+      → rowsFrom μ older newer width a b n (k + m)
+      ≡ rowsFrom μ older newer width a b n k + rowsFrom μ older newer width (a + k * width) (b + k * width) n m
+  rows-cut k m =
+      rw (sumTo-cut (λ i. rowFrom μ older newer (a + i * width) (b + i * width) n) k m)
+      (ap₂ _+_ refl (sumTo-ext _ _ m (λ i h. ap₂ (λ (p q : ℕ). rowFrom μ older newer p q n) (place a i) (place b i))))
+    where
+      place : (a i : ℕ) → a + (k + i) * width ≡ a + k * width + i * width
+      place a i = omega (arith, add-mul k i width)
+
+  -- a sum of the first k rows that reaches the ceiling
+  pub reached : (k m ceiling d : ℕ) → d ≡ rowsFrom μ older newer width a b n k → ceiling ≤ d → UpTo ceiling (rowsFrom μ older newer width a b n (k + m)) d
+  reached k m ceiling d e h = record { below = λ l. absurd (omega arith); beyond = λ l. omega (arith, rows-cut k m) }
 
 -- n rows of n pels that begin inside two frames end inside them
-pub record Inside (older newer : List ℕ) (width y x r c n : ℕ) : Type 0 where
-  pub in-newer : (y + n) * width + x + n ≤ length newer + width
-  pub in-older : (r + n) * width + c + n ≤ length older + width
-  pub some : 0 < width
-
-pub inside : (older newer : List ℕ) (s : Sizes) (y x r c n : ℕ) → Comparable older newer s y x r c → s .n ≡ n → Inside older newer (s .width) y x r c n
-inside older newer s y x r c n k e =
-    rw (← e)
-    (record {
-      in-newer = omega (arith, mul-le-mul-right (s .width) (k .placed .down));
-      in-older = omega (arith, mul-le-mul-right (s .width) (k .down));
-      some = omega arith;
-    })
+pub inside : (older newer : List ℕ) (s : Sizes) (y x r c n groups : ℕ) → Comparable older newer s y x r c → s .n ≡ n → n ≡ 4 * groups → groups ≤ 256
+    → Rows older newer (s .width) (y * s .width + x) (r * s .width + c) n groups
+inside older newer s y x r c n groups k e four few =
+    record {
+      in-newer = omega (arith, mul-le-mul-right (s .width) (k .placed .down), add-mul y (s .n) (s .width), rows);
+      in-older = omega (arith, mul-le-mul-right (s .width) (k .down), add-mul r (s .n) (s .width), rows);
+      wide = k .placed .paired .fitting .wide;
+      thin = omega arith;
+      few = few;
+    }
+  where
+    rows : s .n * s .width ≡ 4 * groups * s .width
+    rows = rw (e, four)
 
 -- an allowed N that is not 16 and not 8
 pub last-size : (n : ℕ) → T (listed n) → (n ≡ 16 → ⊥) → (n ≡ 8 → ⊥) → n ≡ 4

@@ -5,14 +5,15 @@
 --   Measure       how two pels differ, and how far a distance at m may go for a bound E (search 2)
 --   distortionBy  the distortion of two N × N blocks by a measure
 --   distortion    of a pair: the newer block at (y, x) against the older block at (y + dy, x + dx)
---   rowBy         one row's share of it
+--   rowFrom       a row's share of it, rowsFrom: of several rows
+--   UpTo          a distortion as far as a ceiling goes
 use Prim.Native.Nat.{ℕ, _+_, _*_, _≤_, _<_}
-use mathlib.Core.Path.{_≡_, refl}
+use mathlib.Core.Path.{_≡_, ap₂}
 use mathlib.Core.List.{List}
-use native.Mathlib.Nat.{add-assoc}
+use native.Mathlib.Nat.{add-mul}
 use native.Mathlib.Omega.{arith}
 use lib.ListN.{length, getD}
-use Rattle.base.specs.Sum.{sumTo, sumTo-none, sumTo-more, sumOver, sumOver-bound}
+use Rattle.base.specs.Sum.{sumTo, sumTo-none, sumTo-more, sumOver, sumOver-ext, sumOver-bound}
 use Rattle.signed.specs.Values.{absDiff}
 use Rattle.order.specs.declared.Vector.{Vector}
 use Rattle.frame.specs.declared.Sizes.{Sizes}
@@ -45,26 +46,44 @@ olderBlock p y x v = blockAt (p .older) (p .sizes .width) (olderRow y v) (olderC
 unfoldable pub distortion : Pair → ℕ → ℕ → Vector → ℕ
 distortion p y x v = distortionBy absolute (p .sizes .n) (newerBlock p y x) (olderBlock p y x v)
 
--- n pels of the newer frame's row y from column x on, against the older frame's row r from column c on
-unfoldable pub rowBy : Measure → List ℕ → List ℕ → ℕ → ℕ → ℕ → ℕ → ℕ → ℕ → ℕ
-rowBy μ older newer width y x r c n = sumTo (λ j. μ .diff (pel newer width y (x + j)) (pel older width r (c + j))) n
+-- n pels of the newer frame from place a on, against n pels of the older frame from place b on
+unfoldable pub rowFrom : Measure → List ℕ → List ℕ → ℕ → ℕ → ℕ → ℕ
+rowFrom μ older newer a b n = sumTo (λ j. μ .diff (getD newer (a + j) 0) (getD older (b + j) 0)) n
 
-pub row-none : (μ : Measure) (older newer : List ℕ) (width y x r c : ℕ) → rowBy μ older newer width y x r c 0 ≡ 0
-unfolding rowBy
-row-none μ older newer width y x r c = sumTo-none _
+-- m such rows, one below the other
+abbrev pub rowsFrom : Measure → List ℕ → List ℕ → ℕ → ℕ → ℕ → ℕ → ℕ → ℕ
+rowsFrom μ older newer width a b n m = sumTo (λ i. rowFrom μ older newer (a + i * width) (b + i * width) n) m
 
--- one pel more, its place as the code works it out
-pub row-more : (μ : Measure) (older newer : List ℕ) (width y x r c j : ℕ)
-    → rowBy μ older newer width y x r c (j + 1)
-    ≡ rowBy μ older newer width y x r c j + μ .diff (getD newer (y * width + x + j) 0) (getD older (r * width + c + j) 0)
-unfolding rowBy
-row-more μ older newer width y x r c j = rw (add-assoc (y * width) x j, add-assoc (r * width) c j) (sumTo-more _ j)
+pub row-none : (μ : Measure) (older newer : List ℕ) (a b : ℕ) → rowFrom μ older newer a b 0 ≡ 0
+unfolding rowFrom
+row-none μ older newer a b = sumTo-none _
+
+pub row-more : (μ : Measure) (older newer : List ℕ) (a b j : ℕ)
+    → rowFrom μ older newer a b (j + 1) ≡ rowFrom μ older newer a b j + μ .diff (getD newer (a + j) 0) (getD older (b + j) 0)
+unfolding rowFrom
+row-more μ older newer a b j = sumTo-more _ j
 
 -- a block's distortion, row by row
 pub block-rows : (μ : Measure) (older newer : List ℕ) (width y x r c n : ℕ)
-    → distortionBy μ n (blockAt newer width y x) (blockAt older width r c) ≡ sumTo (λ i. rowBy μ older newer width (y + i) x (r + i) c n) n
-unfolding distortionBy rowBy
-block-rows μ older newer width y x r c n = refl
+    → distortionBy μ n (blockAt newer width y x) (blockAt older width r c) ≡ rowsFrom μ older newer width (y * width + x) (r * width + c) n n
+unfolding distortionBy rowFrom
+block-rows μ older newer width y x r c n = sumOver-ext n n _ _ (λ i j hi hj. ap₂ (λ (k l : ℕ). μ .diff (getD newer k 0) (getD older l 0)) (place y x i j) (place r c i j))
+  where
+    place : (y x i j : ℕ) → (y + i) * width + (x + j) ≡ y * width + x + i * width + j
+    place y x i j = omega (arith, add-mul y i width)
+
+-- 4 × groups rows of n pels, from places a and b on, lie inside two frames of so many columns
+pub record Rows (older newer : List ℕ) (width a b n groups : ℕ) : Type 0 where
+  pub in-newer : a + 4 * groups * width + n ≤ length newer + width
+  pub in-older : b + 4 * groups * width + n ≤ length older + width
+  pub wide : width ≤ 1024
+  pub thin : n ≤ 1024
+  pub few : groups ≤ 256
+
+-- d is the sum `all` as far as a ceiling goes: below the ceiling it is that sum, and else the sum is not below it either
+pub record UpTo (ceiling all d : ℕ) : Type 0 where
+  pub below : d < ceiling → d ≡ all
+  pub beyond : ceiling ≤ d → ceiling ≤ all
 
 -- two blocks that stand wholly inside frames of allowed sizes: the newer one at (y, x), the older one at (r, c)
 pub record Comparable (older newer : List ℕ) (s : Sizes) (y x r c : ℕ) : Type 0 where

@@ -1,12 +1,11 @@
 // Distortion: the sum of absolute pel differences of two blocks, and the call that measures one vector.
 
 ghost use mathlib.Core.Path.{_≡_};
-ghost use Prim.Native.Nat.{_+_, _*_, _≤_, _<_};
+ghost use Prim.Native.Nat.{_+_, _*_, _≤_};
 ghost use lib.ListN.{length};
-ghost use Rattle.base.specs.Sum.{sumTo};
 ghost use Rattle.order.specs.Vectors.{vec};
 ghost use Rattle.frame.specs.Pictures.{pairOf};
-ghost use Rattle.distortion.specs.Blocks.{absolute, blockAt, distortionBy, rowBy, Comparable};
+ghost use Rattle.distortion.specs.Blocks.{absolute, blockAt, distortionBy, rowFrom, rowsFrom, UpTo, Rows, Comparable};
 ghost use Rattle.distortion.specs.Measured.{measured, refusedBy};
 use frame::Older;
 use frame::Sizes;
@@ -28,22 +27,11 @@ fn refused(refusal: u32) -> Measured
     }
 }
 
-// n pels of the newer frame's row y from column x on, against the older frame's row r from column c on.
-fn row(
-    older: &[u8],
-    newer: &[u8],
-    width: usize,
-    y: usize,
-    x: usize,
-    r: usize,
-    c: usize,
-    n: usize,
-) -> u32
-    requires { ⌜ (y * width + x + n ≤ length (now newer)) × (r * width + c + n ≤ length (now older)) × (n ≤ 1024) ⌝ }
-    ensures { λ d. ⌜ (d ≡ rowBy absolute (now (older .entry)) (now (newer .entry)) width y x r c n) × (d ≤ 255 * n) ⌝ }
+// n pels of the newer frame from place a on, against n pels of the older frame from place b on.
+fn row(older: &[u8], newer: &[u8], a: usize, b: usize, n: usize) -> u32
+    requires { ⌜ (a + n ≤ length (now newer)) × (b + n ≤ length (now older)) × (n ≤ 1024) ⌝ }
+    ensures { λ d. ⌜ (d ≡ rowFrom absolute (now (older .entry)) (now (newer .entry)) a b n) × (d ≤ 255 * n) ⌝ }
 {
-    let a = y * width + x;
-    let b = r * width + c;
     let mut sum: u32 = 0;
     let mut j = 0;
     while j < n {
@@ -54,48 +42,72 @@ fn row(
 }
 
 // Four rows in a straight line.
-fn four_rows(
-    older: &[u8],
-    newer: &[u8],
-    width: usize,
-    y: usize,
-    x: usize,
-    r: usize,
-    c: usize,
-    n: usize,
-) -> u32
-    requires { ⌜ ((y + 3) * width + x + n ≤ length (now newer)) × ((r + 3) * width + c + n ≤ length (now older)) × (n ≤ 1024) × (0 < width) ⌝ }
-    ensures { λ d. ⌜ (d ≡ sumTo (λ i. rowBy absolute (now (older .entry)) (now (newer .entry)) width (y + i) x (r + i) c n) 4) × (d ≤ 1020 * n) ⌝ }
+fn four_rows(older: &[u8], newer: &[u8], width: usize, a: usize, b: usize, n: usize) -> u32
+    requires { ⌜ (a + 3 * width + n ≤ length (now newer)) × (b + 3 * width + n ≤ length (now older)) × (n ≤ 1024) × (width ≤ 1024) ⌝ }
+    ensures { λ d. ⌜ (d ≡ rowsFrom absolute (now (older .entry)) (now (newer .entry)) width a b n 4) × (d ≤ 1020 * n) ⌝ }
 {
-    row(older, newer, width, y, x, r, c, n)
-        + row(older, newer, width, y + 1, x, r + 1, c, n)
-        + row(older, newer, width, y + 2, x, r + 2, c, n)
-        + row(older, newer, width, y + 3, x, r + 3, c, n)
+    row(older, newer, a, b, n)
+        + row(older, newer, a + width, b + width, n)
+        + row(older, newer, a + 2 * width, b + 2 * width, n)
+        + row(older, newer, a + 3 * width, b + 3 * width, n)
 }
 
-// 4 × groups rows, four at a time.
+// 4 × groups rows, four at a time, as far as the ceiling goes.
 fn rows_by_four(
     older: &[u8],
     newer: &[u8],
     width: usize,
+    a: usize,
+    b: usize,
+    n: usize,
+    groups: usize,
+    ceiling: u32,
+) -> u32
+    requires { ⌜ Rows (now older) (now newer) width a b n groups ⌝ }
+    ensures { λ d. ⌜ UpTo ceiling (rowsFrom absolute (now (older .entry)) (now (newer .entry)) width a b n (4 * groups)) d × (d ≤ groups * (1020 * n)) ⌝ }
+{
+    let mut sum: u32 = 0;
+    let mut p = a;
+    let mut q = b;
+    let mut g = 0;
+    while g < groups {
+        if ceiling <= sum {
+            return sum;
+        }
+        sum += four_rows(older, newer, width, p, q, n);
+        p += 4 * width;
+        q += 4 * width;
+        g += 1;
+    }
+    sum
+}
+
+// The distortion of the newer block at row y, column x against the older block at row r, column c, as far as the ceiling goes: a sum that
+// reaches the ceiling may stop there.
+pub fn distortion_under(
+    older: &[u8],
+    newer: &[u8],
+    s: Sizes,
     y: usize,
     x: usize,
     r: usize,
     c: usize,
-    n: usize,
-    groups: usize,
+    ceiling: u32,
 ) -> u32
-    requires { ⌜ ((y + 4 * groups) * width + x + n ≤ length (now newer) + width) × ((r + 4 * groups) * width + c + n ≤ length (now older) + width) × (n ≤ 1024) × (groups ≤ 256) × (0 < width) ⌝ }
-    ensures { λ d. ⌜ (d ≡ sumTo (λ i. rowBy absolute (now (older .entry)) (now (newer .entry)) width (y + i) x (r + i) c n) (4 * groups)) × (d ≤ groups * (1020 * n)) ⌝ }
+    requires { ⌜ Comparable (now older) (now newer) s y x r c ⌝ }
+    ensures { λ d. ⌜ UpTo ceiling (distortionBy absolute (s .n) (blockAt (now (newer .entry)) (s .width) y x) (blockAt (now (older .entry)) (s .width) r c)) d × (d ≤ s .n * (s .n * 255)) ⌝ }
 {
-    let mut sum: u32 = 0;
-    let mut g = 0;
-    while g < groups {
-        let i = 4 * g;
-        sum += four_rows(older, newer, width, y + i, x, r + i, c, n);
-        g += 1;
+    let n = s.n;
+    let width = s.width;
+    let a = y * width + x;
+    let b = r * width + c;
+    if n == 16 {
+        return rows_by_four(older, newer, width, a, b, 16, 4, ceiling);
     }
-    sum
+    if n == 8 {
+        return rows_by_four(older, newer, width, a, b, 8, 2, ceiling);
+    }
+    rows_by_four(older, newer, width, a, b, 4, 1, ceiling)
 }
 
 // The distortion of the newer block at row y, column x against the older block at row r, column c.
@@ -111,15 +123,7 @@ pub fn block_distortion(
     requires { ⌜ Comparable (now older) (now newer) s y x r c ⌝ }
     ensures { λ d. ⌜ (d ≡ distortionBy absolute (s .n) (blockAt (now (newer .entry)) (s .width) y x) (blockAt (now (older .entry)) (s .width) r c)) × (d ≤ s .n * (s .n * 255)) ⌝ }
 {
-    let n = s.n;
-    let width = s.width;
-    if n == 16 {
-        return rows_by_four(older, newer, width, y, x, r, c, 16, 4);
-    }
-    if n == 8 {
-        return rows_by_four(older, newer, width, y, x, r, c, 8, 2);
-    }
-    rows_by_four(older, newer, width, y, x, r, c, 4, 1)
+    distortion_under(older, newer, s, y, x, r, c, 4294967295)
 }
 
 // Measures one vector: the newer block at row y, column x against the older block at (y + dy, x + dx).

@@ -1,59 +1,66 @@
 -- `four_rows`: where the last of four rows lies inside, all four do, and their sums are the four terms.
 use native.Mathlib.Omega.{arith}
 use borrow.Author.Needs.{needs}
-use lib.ListN.{length}
 use Rattle.distortion.specs.Blocks.{absolute}
-use Rattle.distortion.proofs.Rows.{Four, four, rows-four}
+use Rattle.distortion.proofs.Rows.{rows-four}
 use Rattle.distortion.proofs.four_rows.Statement.{statement}
 use Rattle.distortion.proofs.four_rows.Tie as tie
 
-inside : (s : tie.Start) → let a = s .args in
-    Four (length (a .newer .now)) (a .width) (a .y) (a .x) (a .n) × Four (length (a .older .now)) (a .width) (a .r) (a .c) (a .n)
-inside s = (four _ _ _ _ _ (s .pre .3) (s .pre .0), four _ _ _ _ _ (s .pre .3) (s .pre .1))
-
 row-requires : tie.Need-row-requires
-row-requires c κs = omega (arith, inside (c .before .before))
+row-requires c κs = omega arith
 
 add-row : tie.Need-add-row
-add-row c = omega (arith, inside (c .before .before .before))
+add-row c = omega arith
 
 add-row-2 : tie.Need-add-row-2
-add-row-2 c = omega (arith, inside (c .before .before .before))
+add-row-2 c = omega arith
 
 row-requires-2 : tie.Need-row-requires-2
-row-requires-2 c κs = omega (arith, inside (c .before .before .before))
+row-requires-2 c κs = omega arith
 
 add-result : tie.Need-add-result
-add-result c = search needs
+add-result c = omega arith
+
+mul-row : tie.Need-mul-row
+mul-row c = omega arith
 
 add-row-3 : tie.Need-add-row-3
-add-row-3 c = omega (arith, inside (c .before .before .before .before))
+add-row-3 c = omega arith
+
+mul-row-2 : tie.Need-mul-row-2
+mul-row-2 c = omega arith
 
 add-row-4 : tie.Need-add-row-4
-add-row-4 c = omega (arith, inside (c .before .before .before .before))
+add-row-4 c = omega arith
 
 row-requires-3 : tie.Need-row-requires-3
-row-requires-3 c κs = omega (arith, inside (c .before .before .before .before))
+row-requires-3 c κs = omega arith
 
 add-result-2 : tie.Need-add-result-2
-add-result-2 c = search needs
+add-result-2 c = omega arith
+
+mul-row-3 : tie.Need-mul-row-3
+mul-row-3 c = omega arith
 
 add-row-5 : tie.Need-add-row-5
-add-row-5 c = omega (arith, inside (c .before .before .before .before .before))
+add-row-5 c = omega arith
+
+mul-row-4 : tie.Need-mul-row-4
+mul-row-4 c = omega arith
 
 add-row-6 : tie.Need-add-row-6
-add-row-6 c = omega (arith, inside (c .before .before .before .before .before))
+add-row-6 c = omega arith
 
 row-requires-4 : tie.Need-row-requires-4
-row-requires-4 c κs = omega (arith, inside (c .before .before .before .before .before))
+row-requires-4 c κs = omega arith
 
 add-result-3 : tie.Need-add-result-3
-add-result-3 c = search needs
+add-result-3 c = omega arith
 
 returns : tie.Need-returns
-returns c =
+returns c = 
     let a = c .before .before .before .before .before .before .args in
-    omega (arith, rows-four absolute (a .older .now) (a .newer .now) (a .width) (a .y) (a .x) (a .r) (a .c) (a .n))
+    omega (arith, rows-four absolute (a .older .now) (a .newer .now) (a .width) (a .a) (a .b) (a .n))
 
 pub four-rows-spec : {M : Type 1} → statement M
 four-rows-spec =
@@ -64,11 +71,15 @@ four-rows-spec =
     add-row-2
     row-requires-2
     add-result
+    mul-row
     add-row-3
+    mul-row-2
     add-row-4
     row-requires-3
     add-result-2
+    mul-row-3
     add-row-5
+    mul-row-4
     add-row-6
     row-requires-4
     add-result-3

@@ -3,30 +3,18 @@ use Prim.Native.Nat.{_-_, _*_, _≤_}
 use mathlib.Core.Path.{_≡_, sym}
 use native.Mathlib.Omega.{arith}
 use borrow.Author.Needs.{needs}
-use Rattle.distortion.specs.Blocks.{absolute, rowBy, row-none, row-more}
+use Rattle.distortion.specs.Blocks.{absolute, rowFrom, row-none, row-more}
 use Rattle.distortion.proofs.row.Statement.{statement}
 use Rattle.distortion.proofs.row.Tie as tie
 
 abbrev Inv-loop : tie.InvT-loop
-Inv-loop older newer width y x r c n a b sum₀ j₀ sum j = (j ≤ n) × (sum ≤ 255 * j) × (sum ≡ rowBy absolute older newer width y x r c j)
+Inv-loop older newer a b n sum₀ j₀ sum j = (j ≤ n) × (sum ≤ 255 * j) × (sum ≡ rowFrom absolute older newer a b j)
 
 abbrev μ-loop : tie.MeasureT-loop
-μ-loop older newer width y x r c n a b sum₀ j₀ sum j = n - j
-
-mul-a : tie.Need-mul-a Inv-loop μ-loop
-mul-a c = search needs
-
-add-a : tie.Need-add-a Inv-loop μ-loop
-add-a c = search needs
-
-mul-b : tie.Need-mul-b Inv-loop μ-loop
-mul-b c = search needs
-
-add-b : tie.Need-add-b Inv-loop μ-loop
-add-b c = search needs
+μ-loop older newer a b n sum₀ j₀ sum j = n - j
 
 loop-holds : tie.Need-loop-holds Inv-loop μ-loop
-loop-holds c = (search needs, search needs, sym (row-none absolute _ _ _ _ _ _ _))
+loop-holds c = (search needs, search needs, sym (row-none absolute _ _ _ _))
 
 add-abs-diff : tie.Need-add-abs-diff Inv-loop μ-loop
 add-abs-diff c = search needs
@@ -56,7 +44,7 @@ loop-again : tie.Need-loop-again Inv-loop μ-loop
 loop-again c =
     let l = c .before .before .before .before .loop in
     let a = c .before .before .before .before .before .before .before .args in
-    omega (arith, row-more absolute (a .older .now) (a .newer .now) (a .width) (a .y) (a .x) (a .r) (a .c) (l .j))
+    omega (arith, row-more absolute (a .older .now) (a .newer .now) (a .a) (a .b) (l .j))
 
 returns : tie.Need-returns Inv-loop μ-loop
 returns c =
@@ -70,10 +58,6 @@ row-spec =
     (tie.spec
     Inv-loop
     μ-loop
-    mul-a
-    add-a
-    mul-b
-    add-b
     loop-holds
     add-abs-diff
     shared-slice-read-abs-diff

@@ -1,85 +1,97 @@
--- `rows_by_four`: after g turns the sum is that of the first 4 × g rows; the rows of each turn lie above the end.
+-- `rows_by_four`: after g turns the sum is that of the first 4 × g rows, and the next row begins 4 × g widths on.
 use Prim.Native.Nat.{_+_, _-_, _*_, _≤_}
-use mathlib.Core.Path.{_≡_}
-use native.Mathlib.Nat.{mul-le-mul}
+use mathlib.Core.Path.{_≡_, refl}
+use native.Mathlib.Nat.{add-zero, zero-mul, add-mul, mul-le-mul, mul-le-mul-right}
 use native.Mathlib.Omega.{arith}
 use borrow.Author.Needs.{needs}
-use lib.ListN.{length}
 use Rattle.base.specs.Sum.{sumTo}
-use Rattle.base.specs.Index.{row-next, row-fits}
-use Rattle.distortion.specs.Blocks.{absolute, rowBy}
-use Rattle.distortion.proofs.Rows.{Four, four, rows-cut}
+use Rattle.base.specs.Index.{row-next}
+use Rattle.distortion.specs.Blocks.{absolute, rowsFrom, UpTo}
+use Rattle.distortion.proofs.Rows.{rows-cut, reached}
 use Rattle.distortion.proofs.rows_by_four.Statement.{statement}
 use Rattle.distortion.proofs.rows_by_four.Tie as tie
 
 abbrev Inv-loop : tie.InvT-loop
-Inv-loop older newer width y x r c n groups sum₀ g₀ sum g =
-    (g ≤ groups) × (sum ≤ g * (1020 * n)) × (sum ≡ sumTo (λ i. rowBy absolute older newer width (y + i) x (r + i) c n) (4 * g))
+Inv-loop older newer width a b n groups ceiling sum₀ p₀ q₀ g₀ sum p q g =
+    (g ≤ groups) × (p ≡ a + 4 * g * width) × (q ≡ b + 4 * g * width) × (sum ≤ g * (1020 * n)) × (sum ≡ rowsFrom absolute older newer width a b n (4 * g))
 
 abbrev μ-loop : tie.MeasureT-loop
-μ-loop older newer width y x r c n groups sum₀ g₀ sum g = groups - g
+μ-loop older newer width a b n groups ceiling sum₀ p₀ q₀ g₀ sum p q g = groups - g
 
--- the four rows of a turn lie inside
-inside : (b : tie.In-loop Inv-loop μ-loop) → let a = b .before .before .before .before .args in
-    let i = 4 * b .before .loop .g in
-    Four (length (a .newer .now)) (a .width) (a .y + i) (a .x) (a .n) × Four (length (a .older .now)) (a .width) (a .r + i) (a .c) (a .n)
-inside b =
-    let a = b .before .before .before .before .args in
-    let i = 4 * b .before .loop .g in
-    let some = b .before .before .before .before .pre .4 in (
-      four _ _ _ _ _ some (omega (arith, row-fits (a .y + i + 3) (a .y + 4 * a .groups) (a .width) (omega arith))),
-      four _ _ _ _ _ some (omega (arith, row-fits (a .r + i + 3) (a .r + 4 * a .groups) (a .width) (omega arith))),
-    )
+-- a turn's rows end above the last
+turn : (i : tie.In-loop Inv-loop μ-loop) → let a = i .before .before .before .before .args in
+    let g = i .before .loop .g in
+    (4 * (g + 1) * a .width ≡ 4 * g * a .width + 4 * a .width) × (4 * (g + 1) * a .width ≤ 4 * a .groups * a .width)
+turn i =
+    let a = i .before .before .before .before .args in
+    let g = i .before .loop .g in
+    let e : 4 * (g + 1) ≡ 4 * g + 4 = omega arith in
+    (rw e (add-mul (4 * g) 4 (a .width)), mul-le-mul-right (a .width) (omega arith))
+
+-- the sum with a turn's rows more, and that it fits
+more : (i : tie.In-loop Inv-loop μ-loop) → let a = i .before .before .before .before .args in
+    let g = i .before .loop .g in
+    ((g + 1) * (1020 * a .n) ≡ g * (1020 * a .n) + 1020 * a .n) × ((g + 1) * (1020 * a .n) ≤ 256 * 1044480)
+more i =
+    let a = i .before .before .before .before .args in
+    let g = i .before .loop .g in
+    let r = i .before .before .before .before .pre in
+    (row-next g (1020 * a .n), mul-le-mul {n₂ = 256} {m₂ = 1044480} (omega (arith, r .few)) (omega (arith, r .thin)))
 
 loop-holds : tie.Need-loop-holds Inv-loop μ-loop
 unfolding sumTo
-loop-holds c = search needs
-
-mul-i : tie.Need-mul-i Inv-loop μ-loop
-mul-i c = search needs
-
-add-four-rows : tie.Need-add-four-rows Inv-loop μ-loop
-add-four-rows c = omega (arith, inside c)
-
-add-four-rows-2 : tie.Need-add-four-rows-2 Inv-loop μ-loop
-add-four-rows-2 c = omega (arith, inside c)
-
-four-rows-requires : tie.Need-four-rows-requires Inv-loop μ-loop
-four-rows-requires c κs = omega (arith, inside c)
-
--- the sum with a turn's rows more, and that it fits
-more : (b : tie.In-loop Inv-loop μ-loop) → let a = b .before .before .before .before .args in
-    let g = b .before .loop .g in
-    ((g + 1) * (1020 * a .n) ≡ g * (1020 * a .n) + 1020 * a .n) × ((g + 1) * (1020 * a .n) ≤ 256 * 1044480)
-more b =
-    let a = b .before .before .before .before .args in
-    let g = b .before .loop .g in
-    (row-next g (1020 * a .n), mul-le-mul {n₂ = 256} {m₂ = 1044480} (omega arith) (omega arith))
-
-add-sum : tie.Need-add-sum Inv-loop μ-loop
-add-sum c = omega (arith, more (c .before))
-
-add-g : tie.Need-add-g Inv-loop μ-loop
-add-g c = search needs
-
-loop-less : tie.Need-loop-less Inv-loop μ-loop
-loop-less c = search needs
-
-loop-again : tie.Need-loop-again Inv-loop μ-loop
-loop-again c =
-    let l = c .before .before .loop in
-    let a = c .before .before .before .before .before .args in
-    let e : 4 * (l .g + 1) ≡ 4 * l .g + 4 = omega arith in (
-      search needs,
-      search needs,
-      rw e (omega (arith, rows-cut absolute (a .older .now) (a .newer .now) (a .width) (a .y) (a .x) (a .r) (a .c) (a .n) (4 * l .g) 4)),
-    )
+loop-holds c =
+    let a = c .before .before .args in
+    let z = zero-mul (a .width) in
+    (omega arith, omega (arith, z), omega (arith, z), omega (arith, zero-mul (1020 * a .n)), refl)
 
 returns : tie.Need-returns Inv-loop μ-loop
 returns c =
+    let l = c .before .before .loop in
+    let a = c .before .before .before .before .before .args in
+    let all : 4 * a .groups ≡ 4 * l .g + 4 * (a .groups - l .g) = omega arith in
+    let most : l .g * (1020 * a .n) ≤ a .groups * (1020 * a .n) = mul-le-mul-right (1020 * a .n) (l .inv .0) in
+    rw all (reached absolute (a .older .now) (a .newer .now) (a .width) (a .a) (a .b) (a .n) (4 * l .g) (4 * (a .groups - l .g)) _ _ (l .inv .4) (c .if1 .taken), omega arith)
+
+four-rows-requires : tie.Need-four-rows-requires Inv-loop μ-loop
+four-rows-requires c κs = omega (arith, turn (c .before), c .before .before .before .before .before .pre)
+
+add-sum : tie.Need-add-sum Inv-loop μ-loop
+add-sum c = omega (arith, more (c .before .before))
+
+mul-p : tie.Need-mul-p Inv-loop μ-loop
+mul-p c = omega arith
+
+add-p : tie.Need-add-p Inv-loop μ-loop
+add-p c = omega (arith, turn (c .before .before), c .before .before .before .before .before .before .pre .in-newer)
+
+mul-q : tie.Need-mul-q Inv-loop μ-loop
+mul-q c = omega arith
+
+add-q : tie.Need-add-q Inv-loop μ-loop
+add-q c = omega (arith, turn (c .before .before), c .before .before .before .before .before .before .pre .in-older)
+
+add-g : tie.Need-add-g Inv-loop μ-loop
+add-g c = omega arith
+
+loop-less : tie.Need-loop-less Inv-loop μ-loop
+loop-less c = omega arith
+
+loop-again : tie.Need-loop-again Inv-loop μ-loop
+loop-again c =
+    let i = c .before .before in
+    let l = i .before .loop in
+    let a = i .before .before .before .before .args in
+    let e : 4 * (l .g + 1) ≡ 4 * l .g + 4 = omega arith in
+    let cut = rows-cut absolute (a .older .now) (a .newer .now) (a .width) (a .a) (a .b) (a .n) (4 * l .g) 4 in
+    let four = rw (l .inv .1, l .inv .2) at (c .four-rows .ensures .0) in
+    (omega arith, omega (arith, turn i), omega (arith, turn i), omega (arith, more i), rw e (omega (arith, cut, four, l .inv .4)))
+
+returns-2 : tie.Need-returns-2 Inv-loop μ-loop
+returns-2 c =
     let l = c .before .loop in
     let e : l .g ≡ c .before .before .before .before .args .groups = omega arith in
-    rw (← e) (l .inv .2, l .inv .1)
+    rw (← e) (record { below = λ h. l .inv .4; beyond = λ h. omega (arith, l .inv .4) }, l .inv .3)
 
 pub rows-by-four-spec : {M : Type 1} → statement M
 rows-by-four-spec =
@@ -88,12 +100,14 @@ rows-by-four-spec =
     Inv-loop
     μ-loop
     loop-holds
-    mul-i
-    add-four-rows
-    add-four-rows-2
+    returns
     four-rows-requires
     add-sum
+    mul-p
+    add-p
+    mul-q
+    add-q
     add-g
     loop-less
     loop-again
-    returns)
+    returns-2)
