@@ -1,5 +1,5 @@
-/* The C boundary, through include/gauge.h: document 01's worked pairs A, B, D and J as far as measuring goes, and every refusal of
- * each call at the edge of its range, with the order in which they are tested. */
+/* The C boundary, through include/gauge.h: document 01's worked pairs A to F and J as far as measuring and single blocks go, and every
+ * refusal of each call at the edge of its range, with the order in which they are tested. */
 #include <stdio.h>
 #include <stdlib.h>
 #include <string.h>
@@ -210,6 +210,120 @@ static void row_views(void)
     viewed("3 before 12", p, 2, 0, 0, 3, 0, 0);
 }
 
+/* ---- searching a block */
+
+static gauge_found search(struct pair p, uint32_t search, size_t w, uint32_t t, size_t row, size_t column)
+{
+    gauge_request request = {p.width, p.height, p.n, search, w, t};
+    return gauge_search_block(p.older, p.older_length, p.newer, p.newer_length, request, row, column);
+}
+
+/* Counts are those at m = 16, 8, 4, 2, 1. */
+static void found(const char *what, gauge_found f, int32_t dy, int32_t dx, uint32_t distortion, const uint32_t counts[5], uint32_t dropped)
+{
+    same(what, f.refusal, 0);
+    same(what, (uint32_t)f.dy, (uint32_t)dy);
+    same(what, (uint32_t)f.dx, (uint32_t)dx);
+    same(what, f.distortion, distortion);
+    for (int i = 0; i < 5; i++)
+        same(what, f.counts[i], counts[i]);
+    same(what, f.dropped, dropped);
+}
+
+static void probed(const char *what, gauge_found f, uint32_t probes)
+{
+    found(what, f, 0, 0, 0, (uint32_t[]){0, 0, 0, 0, probes}, 0);
+}
+
+static void refused(const char *what, gauge_found f, uint32_t refusal)
+{
+    gauge_found wanted;
+    memset(&wanted, 0, sizeof wanted);
+    wanted.refusal = refusal;
+    same(what, (uint64_t)memcmp(&f, &wanted, sizeof f), 0);
+}
+
+static void worked_blocks(void)
+{
+    uint8_t twelve[16], ten[16], seven[64], chequered[16], older[20], newer[20];
+    static const uint8_t row_older[5] = {0, 10, 20, 30, 40}, row_newer[5] = {10, 20, 30, 40, 99};
+    memset(twelve, 12, sizeof twelve);
+    memset(ten, 10, sizeof ten);
+    memset(seven, 7, sizeof seven);
+    for (int i = 0; i < 16; i++)
+        chequered[i] = (i / 4 + i % 4) % 2 ? 20 : 0;
+    for (int r = 0; r < 4; r++) {
+        memcpy(older + 5 * r, row_older, 5);
+        memcpy(newer + 5 * r, row_newer, 5);
+    }
+
+    struct pair a = pair_of(twelve, ten, 4, 4, 4);
+    found("A, full", search(a, 1, 16, 0, 0, 0), 0, 0, 32, (uint32_t[]){0, 0, 0, 0, 1}, 0);
+    found("A, pruned", search(a, 2, 16, 0, 0, 0), 0, 0, 32, (uint32_t[]){0, 0, 1, 1, 1}, 0);
+    struct pair b = pair_of(older, newer, 5, 4, 4);
+    found("B, full", search(b, 1, 1, 0, 0, 0), 0, 1, 0, (uint32_t[]){0, 0, 0, 0, 2}, 0);
+    found("B, pruned", search(b, 2, 1, 0, 0, 0), 0, 1, 0, (uint32_t[]){0, 0, 2, 2, 1}, 1);
+    struct pair c = pair_of(seven, seven, 8, 8, 4);
+    for (size_t k = 0; k < 4; k++) {
+        found("C, full", search(c, 1, 1, 0, k / 2 * 4, k % 2 * 4), 0, 0, 0, (uint32_t[]){0, 0, 0, 0, 4}, 0);
+        found("C, pruned", search(c, 2, 1, 0, k / 2 * 4, k % 2 * 4), 0, 0, 0, (uint32_t[]){0, 0, 4, 4, 4}, 0);
+    }
+    struct pair d = pair_of(ten, chequered, 4, 4, 4);
+    found("D, pruned", search(d, 2, 0, 0, 0, 0), 0, 0, 160, (uint32_t[]){0, 0, 1, 1, 1}, 0);
+    probed("E, four-step", search(c, 3, 7, 0, 2, 2), 17);
+    probed("E, cross, T 0", search(c, 4, 2, 0, 2, 2), 9);
+    probed("E, cross, T 1", search(c, 4, 2, 1, 2, 2), 1);
+    probed("F, four-step", search(c, 3, 7, 0, 0, 0), 7);
+    probed("F, cross, T 0", search(c, 4, 2, 0, 0, 0), 4);
+    probed("F, cross, T 1", search(c, 4, 2, 1, 0, 0), 1);
+
+    uint8_t black[256], white[256];
+    memset(black, 0, sizeof black);
+    memset(white, 255, sizeof white);
+    found("J, full", search(pair_of(black, white, 16, 16, 16), 1, 16, 0, 0, 0), 0, 0, 65280, (uint32_t[]){0, 0, 0, 0, 1}, 0);
+}
+
+static uint32_t search_at_corner(struct pair p)
+{
+    return search(p, 2, 16, 0, 0, 0).refusal;
+}
+
+static void searching_refusals(void)
+{
+    static uint8_t frame[64 * 48];
+    struct pair p = pair_of(frame, frame, 64, 48, 16);
+
+    refused("search 0", search(p, 0, 1, 0, 0, 0), 4);
+    refused("search 5", search(p, 5, 1, 0, 0, 0), 4);
+    refused("search at the top of its type", search(p, UINT32_MAX, 1, 0, 0, 0), 4);
+    for (uint32_t s = 1; s <= 2; s++) {
+        same("w 0", search(p, s, 0, 0, 0, 0).refusal, 0);
+        same("w 16", search(p, s, 16, 0, 0, 0).refusal, 0);
+        refused("w 17", search(p, s, 17, 0, 0, 0), 5);
+        refused("w at the top of its type", search(p, s, SIZE_MAX, 0, 0, 0), 5);
+    }
+    for (size_t w = 0; w <= 40; w++) {
+        same("four-step's window", search(p, 3, w, 0, 0, 0).refusal, w == 7 ? 0 : 5);
+        same("cross's window", search(p, 4, w, 0, 0, 0).refusal, w == 2 || w == 4 || w == 8 || w == 16 ? 0 : 5);
+    }
+    refused("cross, w the top bit", search(p, 4, (size_t)1 << 63, 0, 0, 0), 5);
+    same("T 65,280", search(p, 4, 4, 65280, 0, 0).refusal, 0);
+    refused("T 65,281", search(p, 4, 4, 65281, 0, 0), 6);
+    refused("T at the top of its type", search(p, 4, 4, UINT32_MAX, 0, 0), 6);
+    for (uint32_t s = 1; s <= 3; s++)
+        refused("T 1", search(p, s, 7, 1, 0, 0), 6);
+    same("last place", search(p, 2, 3, 0, 32, 48).refusal, 0);
+    refused("one row too low", search(p, 2, 3, 0, 33, 48), 7);
+    refused("one column too far", search(p, 2, 3, 0, 32, 49), 7);
+    refused("row at the top of its type", search(p, 1, 3, 0, SIZE_MAX, 0), 7);
+    refused("column + N would wrap", search(p, 1, 3, 0, 0, SIZE_MAX - 15), 7);
+    refused("4 before 5", search(p, 0, 99, 0, 0, 0), 4);
+    refused("5 before 6", search(p, 3, 6, 9, 0, 0), 5);
+    refused("6 before 7", search(p, 1, 3, 9, 33, 0), 6);
+    p.n = 5;
+    refused("3 before 4", search(p, 0, 3, 0, 0, 0), 3);
+}
+
 int main(void)
 {
     worked_pairs();
@@ -217,6 +331,9 @@ int main(void)
     first_three("gauge_row_view", view_at_corner);
     measuring_refusals();
     row_views();
+    worked_blocks();
+    first_three("gauge_search_block", search_at_corner);
+    searching_refusals();
     printf("gauge.h: %d checks, %d failed\n", checks, failures);
     return failures != 0;
 }

@@ -13,7 +13,11 @@ use Rattle.frame.specs.declared.Request.{Request}
 use Rattle.frame.specs.Pictures.{Pair, pairOf}
 use Rattle.frame.specs.Refusals.{unless, first, placeOk, requestRefusal, sizesOf, unless-zero, first-zero, Placed, Asked, asked}
 use Rattle.search.specs.declared.Found.{Found}
+use Rattle.search.specs.Weighing.{target}
 use Rattle.search.specs.Found.{refusedSearch}
+use Rattle.probe.specs.Held.{foundOf}
+use Rattle.four_step.specs.FourStep.{fourStep}
+use Rattle.cross.specs.Cross.{cross}
 use Rattle.full.specs.Full.{fullFound}
 
 unfoldable pub searchRefusal : ℕ → ℕ → Request → ℕ → ℕ → ℕ
@@ -21,7 +25,10 @@ searchRefusal older newer q y x = first (requestRefusal older newer q) (unless (
 
 -- 1 full, 2 pruned, 3 four-step, 4 cross
 unfoldable pub searched : Pair → Request → ℕ → ℕ → Found
-searched p q y x = fullFound p (q .w) y x
+searched p q y x =
+    cond (eqb (q .search) 1) (fullFound p (q .w) y x)
+    (cond (eqb (q .search) 3) (foundOf (fourStep (target p (q .w) y x)))
+    (foundOf (cross (target p (q .w) y x) (q .t) (q .w))))
 
 unfoldable pub blockFound : List ℕ → List ℕ → Request → ℕ → ℕ → Found
 blockFound older newer q y x =

@@ -49,6 +49,12 @@ pub fn search_block(older: &[u8], newer: &[u8], q: Request, y: usize, x: usize) 
         y,
         x,
     };
+    if q.search == 3 {
+        return four_step::search(older, newer, b);
+    }
+    if q.search == 4 {
+        return cross::search(older, newer, b, q.t);
+    }
     let order = order::table();
     full::search(older, newer, &order, b)
 }

@@ -1,58 +1,73 @@
 // Search 1 of document 01, full: the candidate of least distortion; equals go to the earlier in preference order.
 
 ghost use mathlib.Core.Path.{_≡_};
-ghost use Prim.Native.Nat.{_+_, _<_};
-ghost use lib.ListN.{length};
+ghost use Prim.Native.Nat.{_<_};
+ghost use lib.Dec.{T};
 ghost use Rattle.order.specs.Preference.{preference, flat};
 ghost use Rattle.frame.specs.Pictures.{pairOf};
+ghost use Rattle.distortion.specs.Blocks.{UpTo};
 ghost use Rattle.search.specs.Weighing.{Ready};
-ghost use Rattle.full.specs.Full.{fullFound, Scanned};
+ghost use Rattle.remaining.specs.Gathered.{passes, Listed};
+ghost use Rattle.full.specs.Full.{distortionOf, Choice, fullFound};
 use search::Found;
 use search::Spot;
-use search::Weighed;
 
-// The best of the candidates met so far: its place in the preference table, its distortion, and how many they are.
-pub struct Scan {
+// A candidate's place in the preference table, and its distortion.
+pub struct Chosen {
     pub place: usize,
-    pub least: u32,
-    pub count: u32,
+    pub distortion: u32,
 }
 
-// (0,0), the first of the table.
-fn first(older: &[u8], newer: &[u8], b: Spot) -> Scan
-    requires { ⌜ Ready (now older) (now newer) b ⌝ }
-    ensures { λ r. ⌜ Scanned (now (older .entry)) (now (newer .entry)) b 1 r ⌝ }
+// The distortion of the candidate at place k of the preference table, as far as the ceiling goes.
+pub fn distortion_of(
+    older: &[u8],
+    newer: &[u8],
+    order: &[i32; 2178],
+    b: Spot,
+    k: usize,
+    ceiling: u32,
+) -> u32
+    requires { ⌜ Ready (now older) (now newer) b × (now order ≡ flat preference) ⌝ }
+    requires { ⌜ (k < 1089) × T (passes b k) ⌝ }
+    ensures { λ d. ⌜ UpTo ceiling (distortionOf (now (older .entry)) (now (newer .entry)) b k) d × (d < 4294967295) ⌝ }
 {
     let s = b.sizes;
     let y = b.y;
     let x = b.x;
-    Scan {
-        place: 0,
-        least: distortion::block_distortion(older, newer, s, y, x, y, x),
-        count: 1,
-    }
+    let v = order::vector_at(order, k);
+    let r = search::past(v.dy, y, 0);
+    let c = search::past(v.dx, x, 0);
+    distortion::distortion_under(older, newer, s, y, x, r, c, ceiling)
 }
 
-// The vector at place k of the table: measured where it is a candidate, and only strictly smaller replaces.
-fn tried(older: &[u8], newer: &[u8], order: &[i32; 2178], b: Spot, k: usize, s: Scan) -> Scan
-    requires { ⌜ Ready (now older) (now newer) b × (now order ≡ flat preference) × (k < 1089) × Scanned (now older) (now newer) b k s ⌝ }
-    ensures { λ r. ⌜ Scanned (now (older .entry)) (now (newer .entry)) b (k + 1) r ⌝ }
+// Of the listed candidates, the first of least distortion.
+pub fn choose(
+    older: &[u8],
+    newer: &[u8],
+    order: &[i32; 2178],
+    b: Spot,
+    alive: &[u16; 1089],
+    count: usize,
+) -> Chosen
+    requires { ⌜ Ready (now older) (now newer) b × (now order ≡ flat preference) ⌝ }
+    requires { ⌜ Listed b (now alive) count × (0 < count) ⌝ }
+    ensures { λ r. ⌜ Choice (distortionOf (now (older .entry)) (now (newer .entry)) b) (now (alive .entry)) count (r .place) (r .distortion) ⌝ }
 {
-    let v = order::vector_at(order, k);
-    let Weighed::Cost(d) = search::weigh(older, newer, b, v.dy, v.dx) else {
-        return s;
-    };
-    if d < s.least {
-        return Scan {
-            place: k,
-            least: d,
-            count: s.count + 1,
-        };
+    let mut best = remaining::wide(alive[0]);
+    let mut least = distortion_of(older, newer, order, b, best, 4294967295);
+    let mut i: usize = 1;
+    while i < count {
+        let k = remaining::wide(alive[i]);
+        let d = distortion_of(older, newer, order, b, k, least);
+        if d < least {
+            best = k;
+            least = d;
+        }
+        i += 1;
     }
-    Scan {
-        place: s.place,
-        least: s.least,
-        count: s.count + 1,
+    Chosen {
+        place: best,
+        distortion: least,
     }
 }
 
@@ -61,19 +76,16 @@ pub fn search(older: &[u8], newer: &[u8], order: &[i32; 2178], b: Spot) -> Found
     requires { ⌜ Ready (now older) (now newer) b × (now order ≡ flat preference) ⌝ }
     ensures { λ r. ⌜ r ≡ fullFound (pairOf (now (older .entry)) (now (newer .entry)) (b .sizes)) (b .w) (b .y) (b .x) ⌝ }
 {
-    let mut s = first(older, newer, b);
-    let mut k: usize = 1;
-    while k < 1089 {
-        s = tried(older, newer, order, b, k, s);
-        k += 1;
-    }
-    let v = order::vector_at(order, s.place);
+    let mut alive = [0u16; 1089];
+    let count = remaining::gather(order, b, &mut alive);
+    let best = choose(older, newer, order, b, &alive, count);
+    let v = order::vector_at(order, best.place);
     Found {
         refusal: 0,
         dy: v.dy,
         dx: v.dx,
-        distortion: s.least,
-        counts: [0, 0, 0, 0, s.count],
+        distortion: best.distortion,
+        counts: [0, 0, 0, 0, count as u32],
         dropped: 0,
     }
 }

@@ -1,8 +1,11 @@
 // What the four searches of document 01 share: the block that is searched, the distortion of a candidate, and the answer.
 
 ghost use mathlib.Core.Path.{_≡_};
+ghost use Prim.Native.Nat.{_-_, _≤_};
+ghost use lib.IntN.{pos, _+ℤ_};
+ghost use Rattle.signed.specs.Int.{up};
 ghost use Rattle.order.specs.Vectors.{vec};
-ghost use Rattle.search.specs.Weighing.{Ready, targetOf, weighed};
+ghost use Rattle.search.specs.Weighing.{Ready, Past, targetOf, weighed};
 use frame::Older;
 use frame::Sizes;
 
@@ -23,6 +26,14 @@ pub struct Found {
     pub distortion: u32,
     pub counts: [u32; 5],
     pub dropped: u32,
+}
+
+// at + d, counted from `from`: the row or the column of a candidate's older block.
+pub fn past(d: i32, at: usize, from: usize) -> usize
+    requires { ⌜ Past d at from ⌝ }
+    ensures { λ r. ⌜ (r ≡ up (pos at +ℤ d) - from) × (r ≤ 1024) ⌝ }
+{
+    signed::biased(d) + at - (16 + from)
 }
 
 // The distortion of a candidate, or nothing where a vector is none.

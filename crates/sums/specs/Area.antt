@@ -31,17 +31,20 @@ pub record SumsOf (g : Block) (rows columns : ℕ) (table : List ℕ) : Type 0 w
   pub long : (rows + 1) * (columns + 1) ≤ length table
   pub at : (r c : ℕ) → r ≤ rows → c ≤ columns → getD table (r * (columns + 1) + c) 0 ≡ area g r c
 
+-- lists of w one behind the other: place r * w + c holds entry c of list r, whatever lies behind them
+pub rows-at : (f : ℕ → ℕ → ℕ) (w n r c : ℕ) (d : List ℕ) → r < n → c < w → getD (concatTo (λ i. listTo (f i) w) n ++ d) (r * w + c) 0 ≡ f r c
+rows-at f w n r c d h l =
+    let short : r * w + c < length (concatTo (λ i. listTo (f i) w) n) = rw (length-concatTo (λ i. listTo (f i) w) w (λ i. length-listTo _ w) n) (omega (arith, row-fits r n w h)) in
+    List·getD-append (concatTo (λ i. listTo (f i) w) n) d 0 (r * w + c) short
+    ∙ getD-concatTo _ w (λ i. length-listTo _ w) n r c 0 h l
+    ∙ getD-listTo _ w c 0 l
+
 module _ (g : Block) (columns : ℕ) where
   pub length-sums : (n : ℕ) → length (sumsTo g columns n) ≡ n * (columns + 1)
   length-sums n = length-concatTo _ (columns + 1) (λ r. length-listTo _ (columns + 1)) n
 
-  -- whatever lies behind the first n rows
   pub sums-at : (n r c : ℕ) (d : List ℕ) → r < n → c ≤ columns → getD (sumsTo g columns n ++ d) (r * (columns + 1) + c) 0 ≡ area g r c
-  sums-at n r c d h l =
-      let short : r * (columns + 1) + c < length (sumsTo g columns n) = rw length-sums (omega (arith, row-fits r n (columns + 1) h)) in
-      List·getD-append (sumsTo g columns n) d 0 (r * (columns + 1) + c) short
-      ∙ getD-concatTo _ (columns + 1) (λ i. length-listTo _ (columns + 1)) n r c 0 h (omega arith)
-      ∙ getD-listTo _ (columns + 1) c 0 (omega arith)
+  sums-at n r c d h l = rows-at (area g) (columns + 1) n r c d h (omega arith)
 
 -- a list that begins with the table
 pub sums-of : (g : Block) (rows columns : ℕ) (d table : List ℕ) → table ≡ summed g rows columns ++ d → SumsOf g rows columns table

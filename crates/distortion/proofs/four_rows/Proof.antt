@@ -58,7 +58,7 @@ add-result-3 : tie.Need-add-result-3
 add-result-3 c = omega arith
 
 returns : tie.Need-returns
-returns c = 
+returns c =
     let a = c .before .before .before .before .before .before .args in
     omega (arith, rows-four absolute (a .older .now) (a .newer .now) (a .width) (a .a) (a .b) (a .n))
 

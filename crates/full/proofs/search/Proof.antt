@@ -1,58 +1,52 @@
--- `search`: when all places are passed, the best met is the best of all candidates.
-use Prim.Native.Nat.{_-_, _≤_}
-use mathlib.Core.Path.{_≡_, subst}
+-- `search`: the array has all candidates, and the first of least distortion among them is the exhaustive best.
+use Prim.Native.Nat.{_<_}
+use mathlib.Core.Path.{refl}
 use native.Mathlib.Omega.{arith}
-use borrow.Author.Needs.{needs, sfits-of}
+use borrow.Author.Needs.{sfits-of, fits-under}
 use denote.Ref.{now}
-use mir.Facts.{toZ-ofZ}
 use mir.Syntax.{w32}
+use mir.Facts.{toZ-ofZ}
+use Rattle.base.specs.Picks.{pick-head}
+use Rattle.frame.specs.Pictures.{pairOf}
+use Rattle.search.proofs.Exhaustive.{still-passes}
+use Rattle.remaining.specs.Gathered.{passes}
+use Rattle.remaining.proofs.Listing.{gathered-few, gathered-listed}
 use Rattle.search.specs.Exhaustive.{best}
-use Rattle.full.specs.Full.{fullFound, Scanned}
-use Rattle.full.proofs.Scans.{scanned-below}
+use Rattle.full.specs.Full.{fullFound}
 use Rattle.full.proofs.search.Statement.{statement}
 use Rattle.full.proofs.search.Tie as tie
 
-abbrev Inv-loop : tie.InvT-loop
-Inv-loop older newer order b s₀ k₀ s k = (1 ≤ k) × (k ≤ 1089) × Scanned older newer b k s
+-- (0,0) is among them
+some : (g : tie.After-gather) → 0 < g .gather .result
+some g =
+    let s = g .before .before .before .before in
+    let r = s .pre .0 in
+    let b = s .args .b in
+    let still = still-passes (pairOf (now (s .args .older)) (now (s .args .newer)) (b .sizes)) (b .w) (b .y) (b .x) (r .window) (r .placed .down) (r .placed .across) in
+    omega (arith, g .gather .ensures .many, pick-head (passes b) 1088 still .0)
 
-abbrev μ-loop : tie.MeasureT-loop
-μ-loop older newer order b s₀ k₀ s k = 1089 - k
+gather-requires : tie.Need-gather-requires
+gather-requires c κs = (c .before .before .before .pre .1, refl)
 
-first-requires : tie.Need-first-requires Inv-loop μ-loop
-first-requires c κs = search needs
+choose-requires : tie.Need-choose-requires
+choose-requires c κs =
+    let g = c .before in
+    let s = g .before .before .before .before in
+    (s .pre, (gathered-listed (g .gather .ensures), some g))
 
-loop-holds : tie.Need-loop-holds Inv-loop μ-loop
-loop-holds c = (omega arith, omega arith, c .first .ensures)
+vector-at-requires : tie.Need-vector-at-requires
+vector-at-requires c κs = (c .before .before .before .before .before .before .pre .1, c .choose .ensures .small)
 
-tried-requires : tie.Need-tried-requires Inv-loop μ-loop
-tried-requires c κs =
-    let s = c .before .before .before .before .before in
-    (s .pre .0, s .pre .1, omega arith, c .before .loop .inv .2)
+cast-t11 : tie.Need-cast-t11
+cast-t11 c = fits-under w32 _ 1090 (omega (arith, gathered-few (c .before .before .before .gather .ensures))) tt
 
-add-k : tie.Need-add-k Inv-loop μ-loop
-add-k c = search needs
-
-loop-less : tie.Need-loop-less Inv-loop μ-loop
-loop-less c = omega arith
-
-loop-again : tie.Need-loop-again Inv-loop μ-loop
-loop-again c = (omega arith, omega arith, c .tried .ensures)
-
-vector-at-requires : tie.Need-vector-at-requires Inv-loop μ-loop
-vector-at-requires c κs =
-    let s = c .before .before .before .before .before in
-    (s .pre .1, scanned-below _ _ _ _ _ (c .before .loop .inv .2) 1089 (c .before .loop .inv .1))
-
-returns : tie.Need-returns Inv-loop μ-loop
+returns : tie.Need-returns
 unfolding fullFound best
 returns c =
-    let v = c .before .vector-at in
-    let l = c .before .before .before .loop in
-    let g = c .struct-told .given in
-    let all : l .k ≡ 1089 = omega arith in
-    let a = c .before .before .before .before .before .before .before .args in
-    let done = subst (λ k. Scanned (now (a .older)) (now (a .newer)) (a .b) k (l .s)) all (l .inv .2) in
-    rw (toZ-ofZ (sfits-of {w = w32} (g .0 .1)), toZ-ofZ (sfits-of {w = w32} (g .1 .0 .1)), v .ensures, done .least, done .count, done .place)
+    let h = c .before .before .before .before .gather .ensures in
+    let k = c .before .before .choose .ensures in
+    rw (toZ-ofZ (sfits-of (c .struct-told .given .0 .1)), toZ-ofZ (sfits-of (c .struct-told .given .1 .0 .1)), c .before .vector-at .ensures, k .cost, k .first, h .front, ← h .many)
 
 pub search-spec : {M : Type 1} → statement M
-search-spec = tie.close (tie.spec Inv-loop μ-loop first-requires loop-holds tried-requires add-k loop-less loop-again vector-at-requires returns)
+search-spec =
+    tie.close (tie.spec gather-requires choose-requires vector-at-requires cast-t11 returns)

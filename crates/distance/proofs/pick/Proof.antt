@@ -1,0 +1,103 @@
+-- `pick`: after i turns the first i candidates have their number (`Filled`).
+use Prim.Native.Nat.{ℕ, _-_, _≤_, _<_}
+use mathlib.Core.Path.{_≡_, ap}
+use native.Mathlib.Omega.{arith}
+use borrow.Author.Needs.{needs}
+use denote.Ref.{now}
+use lib.ListN.{getD}
+use Rattle.order.specs.Preference.{preferred}
+use Rattle.remaining.specs.Gathered.{Filled}
+use Rattle.distance.specs.Remaining.{Reached, placeOf}
+use Rattle.distance.proofs.Turns.{filled-none, filled-more}
+use Rattle.distance.proofs.pick.Statement.{statement}
+use Rattle.distance.proofs.pick.Tie as tie
+
+abbrev Inv-loop : tie.InvT-loop
+Inv-loop part order o alive count dist₀ i₀ dist i = (i ≤ count) × Filled (λ k. getD part (placeOf o (preferred k)) 0) alive i dist
+
+abbrev μ-loop : tie.MeasureT-loop
+μ-loop part order o alive count dist₀ i₀ dist i = count - i
+
+-- what is asked of a turn's candidate
+candidate : (b : tie.In-loop Inv-loop μ-loop) →
+    let a = b .before .before .args in
+    let k = getD (now (a .alive)) (b .before .loop .i) 0 in
+    (k < 1089) × Reached (a .o) (preferred k) × (placeOf (a .o) (preferred k) < 1089)
+candidate b = b .before .before .pre .1 (b .before .loop .i) (b .loop-test .taken)
+
+-- the place of a turn's candidate
+at-place : (c : tie.After-place-of Inv-loop μ-loop) →
+    let a = c .before .before .before .before .before .args in
+    (c .place-of .result ≡ placeOf (a .o) (preferred (getD (now (a .alive)) (c .before .before .before .before .loop .i) 0))) × (c .place-of .result < 1089)
+at-place c =
+    let a = c .before .before .before .before .before .args in
+    let e : c .place-of .result ≡ placeOf (a .o) (preferred (getD (now (a .alive)) (c .before .before .before .before .loop .i) 0)) =
+    rw (c .before .wide .ensures) at (c .place-of .ensures) in
+    (e, rw e (candidate (c .before .before .before) .2))
+
+loop-holds : tie.Need-loop-holds Inv-loop μ-loop
+loop-holds c = (search needs, filled-none _ _ _ (c .pre .0 .1))
+
+mul-wide : tie.Need-mul-wide Inv-loop μ-loop
+mul-wide c = search needs
+
+element-copy-out-wide : tie.Need-element-copy-out-wide Inv-loop μ-loop
+element-copy-out-wide c = search needs
+
+wide-requires : tie.Need-wide-requires Inv-loop μ-loop
+wide-requires c κs = search needs
+
+place-of-requires : tie.Need-place-of-requires Inv-loop μ-loop
+place-of-requires c κs =
+    let b = c .before .before in
+    let h = candidate b in
+    rw (c .wide .ensures) (b .before .before .pre .0 .0, h .0, h .1)
+
+mul-dist : tie.Need-mul-dist Inv-loop μ-loop
+mul-dist c = omega (arith, at-place c .1)
+
+element-copy-out-dist : tie.Need-element-copy-out-dist Inv-loop μ-loop
+element-copy-out-dist c = at-place c .1
+
+mul-dist-2 : tie.Need-mul-dist-2 Inv-loop μ-loop
+mul-dist-2 c = search needs
+
+element-write-dist : tie.Need-element-write-dist Inv-loop μ-loop
+element-write-dist c = omega arith
+
+add-i : tie.Need-add-i Inv-loop μ-loop
+add-i c = search needs
+
+loop-less : tie.Need-loop-less Inv-loop μ-loop
+loop-less c = search needs
+
+loop-again : tie.Need-loop-again Inv-loop μ-loop
+loop-again c =
+    let l = c .before .before .before .before .before .loop in
+    (search needs, filled-more _ (l .inv .1) (omega arith) (ap (λ (k : ℕ). getD (now (c .before .before .before .before .before .before .args .part)) k 0) (at-place (c .before) .0)))
+
+returns : tie.Need-returns Inv-loop μ-loop
+returns c =
+    let l = c .before .loop in
+    let e : l .i ≡ c .before .before .args .count = omega arith in
+    rw e at (l .inv .1)
+
+pub pick-spec : {M : Type 1} → statement M
+pick-spec =
+    tie.close
+    (tie.spec
+    Inv-loop
+    μ-loop
+    loop-holds
+    mul-wide
+    element-copy-out-wide
+    wide-requires
+    place-of-requires
+    mul-dist
+    element-copy-out-dist
+    mul-dist-2
+    element-write-dist
+    add-i
+    loop-less
+    loop-again
+    returns)

@@ -1,0 +1,197 @@
+// The tests of search 2: the distance at m of every remaining candidate, over the summed-area table of the older frame or of a part of it.
+
+ghost use mathlib.Core.Path.{_≡_};
+ghost use Prim.Native.Nat.{ℕ, _+_, _*_, _≤_, _<_};
+ghost use lib.ListN.{length, getD};
+ghost use Rattle.base.specs.Sum.{sumTo};
+ghost use Rattle.order.specs.Preference.{preference, preferred, flat};
+ghost use Rattle.distortion.specs.Blocks.{blockAt};
+ghost use Rattle.squares.specs.Squares.{Cut, gapAt, Compared};
+ghost use Rattle.remaining.specs.Gathered.{Filled};
+ghost use Rattle.distance.specs.Remaining.{Reached, placeOf, distanceOf, Tested};
+use search::Spot;
+use sums::Window;
+
+// Where the older blocks of a block's candidates stand: the block is at row y, column x, and places count from row `top` and column `left`
+// of the older frame, in rows of `stride`.
+pub struct Origin {
+    pub y: usize,
+    pub x: usize,
+    pub top: usize,
+    pub left: usize,
+    pub stride: usize,
+}
+
+// The place of the older block of the vector at place k of the preference table.
+fn place_of(order: &[i32; 2178], k: usize, o: Origin) -> usize
+    requires { ⌜ (now order ≡ flat preference) × (k < 1089) × Reached o (preferred k) ⌝ }
+    ensures { λ r. ⌜ r ≡ placeOf o (preferred k) ⌝ }
+{
+    let v = order::vector_at(order, k);
+    search::past(v.dy, o.y, o.top) * o.stride + search::past(v.dx, o.x, o.left)
+}
+
+// Each remaining candidate by itself.
+fn fill_few(
+    block: &[u32],
+    steps: &[usize],
+    sums: &[u32],
+    low: usize,
+    m: usize,
+    squares: usize,
+    order: &[i32; 2178],
+    o: Origin,
+    alive: &[u16; 1089],
+    count: usize,
+    dist: &mut [u32; 1089],
+)
+    requires { ⌜ (now order ≡ flat preference) × (length (now dist) ≡ 1089) × (length (now alive) ≡ 1089) × (count ≤ 1089) ⌝ }
+    requires { ⌜ ((i : ℕ) → i < count → (getD (now alive) i 0 < 1089) × Reached o (preferred (getD (now alive) i 0)) × Compared (now block) (now steps) (now sums) low m squares (placeOf o (preferred (getD (now alive) i 0)))) ⌝ }
+    ensures { λ _. ⌜ Filled (λ k. sumTo (gapAt (now (block .entry)) (now (steps .entry)) (now (sums .entry)) low m (placeOf o (preferred k))) squares) (now (alive .entry)) count (now (dist .exit)) ⌝ }
+{
+    let mut i: usize = 0;
+    while i < count {
+        let at = place_of(order, remaining::wide(alive[i]), o);
+        dist[i] = squares::distance_from(block, steps, sums, low, m, squares, at);
+        i += 1;
+    }
+}
+
+// Each remaining candidate from the distances of all older blocks.
+fn pick(
+    part: &[u32; 1089],
+    order: &[i32; 2178],
+    o: Origin,
+    alive: &[u16; 1089],
+    count: usize,
+    dist: &mut [u32; 1089],
+)
+    requires { ⌜ (now order ≡ flat preference) × (length (now dist) ≡ 1089) × (length (now alive) ≡ 1089) × (length (now part) ≡ 1089) × (count ≤ 1089) ⌝ }
+    requires { ⌜ ((i : ℕ) → i < count → (getD (now alive) i 0 < 1089) × Reached o (preferred (getD (now alive) i 0)) × (placeOf o (preferred (getD (now alive) i 0)) < 1089)) ⌝ }
+    ensures { λ _. ⌜ Filled (λ k. getD (now (part .entry)) (placeOf o (preferred k)) 0) (now (alive .entry)) count (now (dist .exit)) ⌝ }
+{
+    let mut i: usize = 0;
+    while i < count {
+        dist[i] = part[place_of(order, remaining::wide(alive[i]), o)];
+        i += 1;
+    }
+}
+
+// The remaining candidates where they are many: the distances of all older blocks in reach first.
+fn fill_many(
+    older: &[u8],
+    newer: &[u8],
+    order: &[i32; 2178],
+    b: Spot,
+    sums: &[u32],
+    a: Window,
+    m: usize,
+    block: &[u32],
+    steps: &[usize],
+    k: usize,
+    alive: &[u16; 1089],
+    count: usize,
+    dist: &mut [u32; 1089],
+)
+    requires { ⌜ (now order ≡ flat preference) × (length (now dist) ≡ 1089) × Tested (now older) (now newer) b (now sums) a m (now alive) count ⌝ }
+    requires { ⌜ (k * m ≡ b .sizes .n) × Cut (blockAt (now newer) (b .sizes .width) (b .y) (b .x)) m k (a .columns + 1) (now block) (now steps) ⌝ }
+    ensures { λ _. ⌜ Filled (distanceOf (now (older .entry)) (now (newer .entry)) b m) (now (alive .entry)) count (now (dist .exit)) ⌝ }
+{
+    let y = b.y;
+    let x = b.x;
+    let stride = a.columns + 1;
+    let r = reach::reach(b);
+    let top = r.top;
+    let left = r.left;
+    let rows = r.rows;
+    let columns = r.columns;
+    let at = (top - a.top) * stride + (left - a.left);
+    let mut part = [0u32; 1089];
+    spread::spread(
+        block,
+        steps,
+        sums,
+        m * stride,
+        m,
+        k * k,
+        at,
+        stride,
+        rows,
+        columns,
+        &mut part,
+    );
+    let o = Origin {
+        y,
+        x,
+        top,
+        left,
+        stride: columns,
+    };
+    pick(&part, order, o, alive, count, dist);
+}
+
+// The distance at m of every remaining candidate. The older frame stands for the contract alone: its sums are read.
+pub fn fill_distances(
+    older: &[u8],
+    newer: &[u8],
+    order: &[i32; 2178],
+    b: Spot,
+    sums: &[u32],
+    a: Window,
+    m: usize,
+    alive: &[u16; 1089],
+    count: usize,
+    dist: &mut [u32; 1089],
+)
+    requires { ⌜ (now order ≡ flat preference) × (length (now dist) ≡ 1089) × Tested (now older) (now newer) b (now sums) a m (now alive) count ⌝ }
+    ensures { λ _. ⌜ Filled (distanceOf (now (older .entry)) (now (newer .entry)) b m) (now (alive .entry)) count (now (dist .exit)) ⌝ }
+{
+    let s = b.sizes;
+    let y = b.y;
+    let x = b.x;
+    let k = s.n / m;
+    let stride = a.columns + 1;
+    let mut block = [0u32; 64];
+    let mut steps = [0usize; 64];
+    squares::cut(newer, b, m, k, stride, &mut block, &mut steps);
+    if count <= 256 {
+        let top = a.top;
+        let left = a.left;
+        let o = Origin {
+            y,
+            x,
+            top,
+            left,
+            stride,
+        };
+        fill_few(
+            &block,
+            &steps,
+            sums,
+            m * stride,
+            m,
+            k * k,
+            order,
+            o,
+            alive,
+            count,
+            dist,
+        );
+    } else {
+        fill_many(
+            older,
+            newer,
+            order,
+            b,
+            sums,
+            a,
+            m,
+            &block,
+            &steps,
+            k,
+            alive,
+            count,
+            dist,
+        );
+    }
+}

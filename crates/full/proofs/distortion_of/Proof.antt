@@ -1,0 +1,68 @@
+-- `distortion_of`: the vector at place k is a candidate, so its older block stands inside, dy rows and dx columns on.
+use Prim.Native.Nat.{_*_, _≤_}
+use mathlib.Core.Path.{_≡_}
+use native.Mathlib.Nat.{mul-le-mul}
+use native.Mathlib.Omega.{arith}
+use borrow.Author.Needs.{needs, sfits-of}
+use denote.Ref.{now}
+use mir.Facts.{toZ-ofZ}
+use Rattle.order.specs.Preference.{preferred}
+use Rattle.frame.specs.Candidates.{olderRow, olderColumn, OlderInside, candidate-older}
+use Rattle.distortion.specs.Blocks.{distortion}
+use Rattle.search.specs.Weighing.{Past, candidate-past}
+use Rattle.full.proofs.distortion_of.Statement.{statement}
+use Rattle.full.proofs.distortion_of.Tie as tie
+
+-- the candidate's older block
+older-in : (s : tie.Start) → let b = s .args .b in OlderInside (b .sizes) (b .w) (b .y) (b .x) (preferred (s .args .k))
+older-in s = candidate-older _ _ _ _ _ (s .pre .1 .1)
+
+stands : (s : tie.Start) → let b = s .args .b in Past (preferred (s .args .k) .dy) (b .y) 0 × Past (preferred (s .args .k) .dx) (b .x) 0
+stands s = candidate-past _ _ _ _ (s .pre .0 .0) (s .pre .1 .1)
+
+-- where it stands
+place : (c : tie.After-past2) →
+    let s = c .before .before .before .before .before .before .before .before in
+    (c .before .before .past .result ≡ olderRow (s .args .b .y) (preferred (s .args .k)))
+    × (c .past2 .result ≡ olderColumn (s .args .b .x) (preferred (s .args .k)))
+place c =
+    let p = c .before .before in
+    let e = p .before .before .vector-at .ensures in
+    let row = rw (toZ-ofZ (sfits-of (p .before .struct-told .given .0 .1)), e) at (p .past .ensures .0) in
+    let column = rw (toZ-ofZ (sfits-of (c .before .struct-told2 .given .1 .0 .1)), e) at (c .past2 .ensures .0) in
+    (omega (arith, row), omega (arith, column))
+
+vector-at-requires : tie.Need-vector-at-requires
+vector-at-requires c κs = (c .before .before .before .pre .0 .1, c .before .before .before .pre .1 .0)
+
+past-requires : tie.Need-past-requires
+past-requires c κs =
+    rw (toZ-ofZ (sfits-of (c .struct-told .given .0 .1)), c .before .vector-at .ensures) (stands (c .before .before .before .before .before) .0)
+
+past-requires-2 : tie.Need-past-requires-2
+past-requires-2 c κs =
+    rw (toZ-ofZ (sfits-of (c .struct-told2 .given .1 .0 .1)), c .before .before .before .vector-at .ensures) (stands (c .before .before .before .before .before .before .before) .1)
+
+distortion-under-requires : tie.Need-distortion-under-requires
+distortion-under-requires c κs =
+    let s = c .before .before .before .before .before .before .before .before in
+    let o = older-in s in
+    let at = place c in
+    record { placed = s .pre .0 .0 .placed; down = rw (at .0) (o .down); across = rw (at .1) (o .across) }
+
+returns : tie.Need-returns
+unfolding distortion
+returns c =
+    let s = c .before .before .before .before .before .before .before .before .before in
+    let f = s .pre .0 .0 .placed .paired .fitting in
+    let at = place (c .before) in
+    let n = s .args .b .sizes .n in
+    let side : n ≤ 1024 = omega (arith, f .across, f .wide) in
+    let line : n * 255 ≤ 261120 = omega arith in
+    let most : n * (n * 255) ≤ 1024 * 261120 = mul-le-mul side line in
+    (rw (at .0, at .1) at (c .distortion-under .ensures .0), omega (arith, c .distortion-under .ensures .1, most))
+
+pub distortion-of-spec : {M : Type 1} → statement M
+distortion-of-spec =
+    tie.close
+    (tie.spec vector-at-requires past-requires past-requires-2 distortion-under-requires returns)

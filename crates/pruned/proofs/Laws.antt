@@ -1,0 +1,81 @@
+-- What search 2's answer is worth, at a block that stands wholly inside: it is the exhaustive best, because no test drops it; what is dropped is
+-- strictly worse; dropped and finally measured are all candidates.
+use Prim.Native.Nat.{ℕ, _+_, _≤_, _<_}
+use mathlib.Core.Path.{_≡_, refl, ap, _∙_}
+use native.Mathlib.Omega.{arith}
+use lib.Dec.{T}
+use lib.ListN.{length, getD}
+use Rattle.base.specs.Least.{_∈_}
+use Rattle.base.specs.Picks.{pick-head}
+use Rattle.order.specs.Preference.{preferred}
+use Rattle.frame.specs.Pictures.{Pair}
+use Rattle.frame.specs.Refusals.{listed, listed-elim}
+use Rattle.distortion.specs.Blocks.{absolute, distortion, newerBlock, olderBlock}
+use Rattle.search.specs.Found.{vectorIn, probes}
+use Rattle.search.specs.Exhaustive.{Best, places}
+use Rattle.search.proofs.Exhaustive.{best-below, still-passes}
+use Rattle.pruning.specs.Prune.{halves, resolutions}
+use Rattle.pruning.proofs.Blocks.{absolute-lawful}
+use Rattle.pruning.proofs.Counts.{Counted, prune-counted, search-counts, counts-few, dropped-few, last-count}
+use Rattle.pruning.proofs.Pruned.{Holds, prune-holds}
+use Rattle.pruning.proofs.Search.{search-best, search-drops}
+use Rattle.pruned.specs.Answer.{distortionAt, pruning, chosen, prunedFound}
+use Rattle.pruned.proofs.Blocks.{divides, safe-at}
+
+-- whatever the block is
+module _ (p : Pair) (w y x : ℕ) where
+  pub pruned-distortion : prunedFound p w y x .distortion ≡ distortion p y x (vectorIn (prunedFound p w y x))
+  unfolding prunedFound
+  pruned-distortion = refl
+
+  pub pruned-counted : Counted (places (p .sizes) w y x) (pruning p w y x)
+  unfolding pruning
+  pruned-counted = prune-counted _ _ _ _ _ _
+
+  -- no count exceeds the number of candidates
+  pub counts-at-most : (j : ℕ) → getD (prunedFound p w y x .counts) j 0 ≤ length (places (p .sizes) w y x)
+  unfolding prunedFound pruning
+  counts-at-most = counts-few _ _ _ _ _ _
+
+  pub dropped-at-most : prunedFound p w y x .dropped ≤ length (places (p .sizes) w y x)
+  unfolding prunedFound pruning
+  dropped-at-most = dropped-few _ _ _ _ _ _
+
+few-rounds : (n : ℕ) → T (listed n) → length (resolutions n) ≤ 3
+unfolding halves
+few-rounds = listed-elim (λ n. length (resolutions n) ≤ 3) (omega arith) (omega arith) (omega arith)
+
+module _ (p : Pair) (w y x : ℕ) (allowed : T (listed (p .sizes .n))) where
+  -- the count at m = 1 is how many are finally measured
+  pub pruned-probes : probes (prunedFound p w y x) ≡ length (pruning p w y x .left)
+  unfolding prunedFound pruning
+  pruned-probes = last-count _ _ _ _ _ _ (few-rounds (p .sizes .n) allowed)
+
+  -- dropped and finally measured are all candidates
+  pub pruned-adds : prunedFound p w y x .dropped + probes (prunedFound p w y x) ≡ length (places (p .sizes) w y x)
+  unfolding prunedFound pruning
+  pruned-adds = ap (_+_ _) pruned-probes ∙ search-counts _ _ _ _ _ _
+
+  module _ (small : w ≤ 16) (down : y + p .sizes .n ≤ p .sizes .height) (across : x + p .sizes .n ≤ p .sizes .width) where
+    some : 0 < length (places (p .sizes) w y x)
+    some = pick-head _ 1088 (still-passes p w y x small down across) .0
+
+    -- what holds of the candidates left and those dropped
+    pub pruned-holds : Holds (distortionAt p y x) (places (p .sizes) w y x) (pruning p w y x)
+    unfolding pruning
+    pruned-holds = prune-holds _ _ _ _ _ _ some (λ m i. safe-at p y x m (divides (p .sizes .n) allowed m i))
+
+    -- the answer is the exhaustive best
+    pub pruned-best : Best p w y x (vectorIn (prunedFound p w y x))
+    unfolding prunedFound chosen distortion
+    pruned-best =
+        best-below p w y x small (chosen p w y x)
+        (search-best absolute absolute-lawful (p .sizes .n) (newerBlock p y x) (λ k. olderBlock p y x (preferred k)) (resolutions (p .sizes .n))
+        (divides (p .sizes .n) allowed) _ 1088 (still-passes p w y x small down across))
+
+    -- every candidate dropped has strictly more
+    pub pruned-drops : {k : ℕ} → k ∈ pruning p w y x .dropped → prunedFound p w y x .distortion < distortion p y x (preferred k)
+    unfolding prunedFound chosen pruning distortion
+    pruned-drops i =
+        search-drops absolute absolute-lawful (p .sizes .n) (newerBlock p y x) (λ k. olderBlock p y x (preferred k)) (resolutions (p .sizes .n))
+        (places (p .sizes) w y x) some (divides (p .sizes .n) allowed) i

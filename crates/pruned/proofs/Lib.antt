@@ -1,0 +1,4 @@
+pub mod Blocks
+pub mod State
+pub mod Rounds
+pub mod Laws

@@ -1,0 +1,27 @@
+-- `begin`: (0,0) is a candidate, and N has its first count.
+use mathlib.Core.Path.{refl}
+use native.Mathlib.Omega.{arith}
+use denote.Ref.{now}
+use Rattle.base.specs.Tests.{true-T}
+use Rattle.frame.specs.Pictures.{pairOf}
+use Rattle.search.proofs.Exhaustive.{still-passes}
+use Rattle.remaining.specs.Gathered.{passes}
+use Rattle.pruned.proofs.begin.Statement.{statement}
+use Rattle.pruned.proofs.begin.Tie as tie
+
+distortion-of-requires : tie.Need-distortion-of-requires
+distortion-of-requires c κs =
+    let s = c .before .before in
+    let r = s .pre .0 in
+    (s .pre, (omega arith, true-T (passes (s .args .b) 0) (still-passes (pairOf (now (s .args .older)) (now (s .args .newer)) (s .args .b .sizes)) _ _ _ (r .window) (r .placed .down) (r .placed .across))))
+
+first-slot-requires : tie.Need-first-slot-requires
+first-slot-requires c κs = c .before .before .before .before .pre .0 .placed .paired .allowed
+
+returns : tie.Need-returns
+returns c =
+    let e = c .before .before .distortion-of .ensures in
+    record { bound = e .0 .below (e .1); count = refl; slot = c .first-slot .ensures; counts = refl }
+
+pub begin-spec : {M : Type 1} → statement M
+begin-spec = tie.close (tie.spec distortion-of-requires first-slot-requires returns)

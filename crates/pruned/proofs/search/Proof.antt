@@ -1,0 +1,126 @@
+-- `search`: what is in memory follows the steps, and the rounds ahead lead to their end.
+use Prim.Native.Nat.{_≤_}
+use mathlib.Core.List.{List·Memᴰ·tail}
+use mathlib.Core.Path.{_≡_, refl, _∙_}
+use native.Mathlib.Nat.{dvd-refl, div-mul-cancel}
+use native.Mathlib.Omega.{arith}
+use borrow.Author.Needs.{needs}
+use lib.ListN.{length}
+use denote.Ref.{now}
+use Rattle.base.specs.Picks.{pick}
+use Rattle.frame.specs.Pictures.{pairOf}
+use Rattle.search.proofs.Exhaustive.{still-passes}
+use Rattle.pruned.specs.Answer.{pruning, chosen, prunedFound}
+use Rattle.distance.specs.Remaining.{distanceOf}
+use Rattle.remaining.specs.Gathered.{passes}
+use Rattle.full.specs.Full.{distortionOf}
+use Rattle.pruned.proofs.Blocks.{divides, two-least, safe-at}
+use Rattle.remaining.proofs.Listing.{gathered-few, gathered-listed}
+use Rattle.pruned.proofs.Rounds.{Going, going-start, going-some, going-few, going-room, going-divides, going-listed, going-more, going-done}
+use Rattle.pruned.proofs.search.Statement.{statement}
+use Rattle.pruned.proofs.search.Tie as tie
+
+abbrev Inv-loop : tie.InvT-loop
+Inv-loop older newer order b sums a alive₀ dist₀ n total r₀ m₀ alive dist r m =
+    Going (distortionOf older newer b) (distanceOf older newer b) (b .sizes .n) (passes b) m alive dist r × (length (pick (passes b) 1089) ≡ total)
+
+abbrev μ-loop : tie.MeasureT-loop
+μ-loop older newer order b sums a alive₀ dist₀ n total r₀ m₀ alive dist r m = m
+
+gather-requires : tie.Need-gather-requires Inv-loop μ-loop
+gather-requires c κs = search needs
+
+begin-requires : tie.Need-begin-requires Inv-loop μ-loop
+begin-requires c κs = (c .before .before .before .before .before .before .pre .0 .ready, c .before .before .before .before .before .before .pre .1)
+
+fill-distances-requires : tie.Need-fill-distances-requires Inv-loop μ-loop
+fill-distances-requires c κs =
+    let l = c .before .before .before .before .before .before .before .before .before .pre .0 in (
+      c .before .before .before .before .before .before .before .before .before .pre .1,
+      refl,
+      record {
+        ready = l .ready;
+        whole = div-mul-cancel _ (dvd-refl _);
+        two = two-least _ (l .ready .placed .paired .allowed);
+        covers = l .covers;
+        table = l .table;
+        listed = gathered-listed (c .before .before .before .gather .ensures);
+      },
+    )
+
+sifted-requires : tie.Need-sifted-requires Inv-loop μ-loop
+sifted-requires c κs =
+    let a = c .before .before .before .before .before .before .gather .ensures in
+    let f = c .before .before .before .before .before .begin .ensures in
+    (a .long, omega (arith, gathered-few a, f .count), omega (arith, f .slot))
+
+loop-holds : tie.Need-loop-holds Inv-loop μ-loop
+loop-holds c =
+    let s = c .before .before .before .before .before .before .before .before .before .before .before .before .before in
+    let a = c .before .before .before .before .before .before .before .gather .ensures in
+    let f = c .before .before .before .before .before .before .begin .ensures in
+    let d = c .before .before .before .fill-distances .ensures in
+    let r = s .pre .0 .ready in
+    let p = pairOf (now (s .args .older)) (now (s .args .newer)) (s .args .b .sizes) in (
+      going-start _ _ _ (still-passes p _ _ _ (r .window) (r .placed .down) (r .placed .across)) a f _ (λ h. c .sifted .ensures _ _ _ _ h (rw (f .count) d)) (d .long) (safe-at p _ _ _ (dvd-refl _))
+          (λ i k. divides _ (r .placed .paired .allowed) i (List·Memᴰ·tail k)),
+      a .many,
+    )
+
+level-requires : tie.Need-level-requires Inv-loop μ-loop
+level-requires c κs =
+    let g = c .before .before .before .loop .inv .0 in
+    let h : 2 ≤ c .before .before .before .loop .m = omega (arith, c .before .before .loop-test .taken) in
+    let l = c .before .before .before .before .before .before .before .before .before .before .before .before .before .before .before .before .before .pre .0 in (
+      c .before .before .before .before .before .before .before .before .before .before .before .before .before .before .before .before .before .pre .1,
+      g .wide,
+      record {
+        ready = l .ready;
+        whole = div-mul-cancel _ (going-divides g h);
+        two = h;
+        covers = l .covers;
+        table = l .table;
+        listed = going-listed g;
+      },
+      going-some g,
+      omega (arith, going-room g h),
+    )
+
+loop-less : tie.Need-loop-less Inv-loop μ-loop
+loop-less c = omega arith
+
+loop-again : tie.Need-loop-again Inv-loop μ-loop
+loop-again c =
+    let l = c .before .before .before .before .loop .inv in
+    let s = c .before .before .before .before .before .before .before .before .before .before .before .before .before .before .before .before .before .before in
+    (going-more (l .0) _ _ _ (safe-at (pairOf (now (s .args .older)) (now (s .args .newer)) (s .args .b .sizes)) _ _) (omega (arith, c .before .before .before .loop-test .taken)) (c .level .ensures .0 .step) (c .level .ensures .1), l .1)
+
+finish-requires : tie.Need-finish-requires Inv-loop μ-loop
+finish-requires c κs =
+    let l = c .before .before .loop .inv in
+    let few = gathered-few (c .before .before .before .before .before .before .before .before .before .before .gather .ensures) in
+    let s = c .before .before .before .before .before .before .before .before .before .before .before .before .before .before .before .before in
+    ((s .pre .0 .ready, s .pre .1), (going-listed (l .0), going-some (l .0), omega (arith, l .0 .slots), omega (arith, going-few (l .0), l .1), few))
+
+returns : tie.Need-returns Inv-loop μ-loop
+unfolding prunedFound chosen pruning
+returns c =
+    let l = c .before .before .before .loop .inv in
+    c .finish .ensures ∙ going-done (l .0) _ (omega (arith, c .before .before .loop-test .left)) (l .1)
+
+pub search-spec : {M : Type 1} → statement M
+search-spec =
+    tie.close
+    (tie.spec
+    Inv-loop
+    μ-loop
+    gather-requires
+    begin-requires
+    fill-distances-requires
+    sifted-requires
+    loop-holds
+    level-requires
+    loop-less
+    loop-again
+    finish-requires
+    returns)

@@ -1,0 +1,33 @@
+-- 01, "The four searches", search 2, of the block at row y, column x of a pair, for window w: its steps (pruning/specs/Prune.antt) over the block's
+-- candidates, each known by its place in the preference table.
+--   distortionAt  the distortion of the vector at place k of the preference table
+--   distanceAt    its distance at m
+--   pruning       where search 2's steps end: what they leave, and what they drop
+--   chosen        the place of the vector that they choose
+--   prunedFound   what search 2 answers
+use Prim.Native.Nat.{ℕ}
+use lib.ListN.{length}
+use Rattle.order.specs.Preference.{preferred}
+use Rattle.frame.specs.Pictures.{Pair}
+use Rattle.distortion.specs.Blocks.{absolute, distortion, newerBlock, olderBlock}
+use Rattle.search.specs.declared.Found.{Found}
+use Rattle.search.specs.Found.{foundAs}
+use Rattle.search.specs.Exhaustive.{places}
+use Rattle.pruning.specs.Distance.{distances}
+use Rattle.pruning.specs.Prune.{Pruning, prune, prunedBest, counts, resolutions}
+
+abbrev pub distortionAt : Pair → ℕ → ℕ → ℕ → ℕ
+distortionAt p y x k = distortion p y x (preferred k)
+
+abbrev pub distanceAt : Pair → ℕ → ℕ → ℕ → ℕ → ℕ
+distanceAt p y x = distances absolute (p .sizes .n) (newerBlock p y x) (λ k. olderBlock p y x (preferred k))
+
+module _ (p : Pair) (w y x : ℕ) where
+  unfoldable pub pruning : Pruning
+  pruning = prune (distortionAt p y x) (distanceAt p y x) (absolute .limit) (p .sizes .n) (resolutions (p .sizes .n)) (places (p .sizes) w y x)
+
+  unfoldable pub chosen : ℕ
+  chosen = prunedBest (distortionAt p y x) (distanceAt p y x) (absolute .limit) (p .sizes .n) (resolutions (p .sizes .n)) (places (p .sizes) w y x)
+
+  unfoldable pub prunedFound : Found
+  prunedFound = foundAs (preferred chosen) (distortion p y x (preferred chosen)) (counts pruning) (length (pruning .dropped))

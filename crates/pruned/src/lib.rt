@@ -1,0 +1,192 @@
+// Search 2, the pruned search, of one block: document 01's steps over the candidates' places in the preference table.
+// The remaining candidates stand in front of the array `alive`, in preference order, and their distances at m in `dist` (crates remaining and distance).
+
+ghost use mathlib.Core.Path.{_≡_};
+ghost use Prim.Native.Nat.{ℕ, _+_, _≤_, _<_};
+ghost use lib.Dec.{T};
+ghost use lib.ListN.{length};
+ghost use Rattle.order.specs.Preference.{preference, flat};
+ghost use Rattle.frame.specs.Pictures.{pairOf};
+ghost use Rattle.frame.specs.Refusals.{listed};
+ghost use Rattle.distortion.specs.Blocks.{absolute};
+ghost use Rattle.search.specs.Weighing.{Ready};
+ghost use Rattle.pruning.specs.Prune.{Pruning, lower, sift, resolutions};
+ghost use Rattle.remaining.specs.Gathered.{Listed, Filled};
+ghost use Rattle.full.specs.Full.{distortionOf};
+ghost use Rattle.distance.specs.Remaining.{distanceOf, Tested};
+ghost use Rattle.pruned.specs.Answer.{prunedFound};
+ghost use Rattle.pruned.specs.Memory.{Lent, InMemory, Begun, Leveled, finished};
+use search::Found;
+use search::Spot;
+use sums::Window;
+
+// The search between two resolutions: how many candidates remain, E, and how many were tested at each resolution so far; the next
+// count stands at `slot`.
+pub struct Rest {
+    pub count: usize,
+    pub bound: u32,
+    pub slot: usize,
+    pub counts: [u32; 5],
+}
+
+// Where the count of the tests at N stands among the five.
+fn first_slot(n: usize) -> usize
+    requires { ⌜ T (listed n) ⌝ }
+    ensures { λ r. ⌜ r + length (resolutions n) ≡ 3 ⌝ }
+{
+    if n == 16 {
+        return 0;
+    }
+    if n == 8 {
+        return 1;
+    }
+    2
+}
+
+// All candidates, and E the distortion of (0,0).
+fn begin(older: &[u8], newer: &[u8], order: &[i32; 2178], b: Spot, total: usize) -> Rest
+    requires { ⌜ Ready (now older) (now newer) b × (now order ≡ flat preference) ⌝ }
+    ensures { λ r. ⌜ Begun (distortionOf (now (older .entry)) (now (newer .entry)) b 0) (b .sizes .n) total r ⌝ }
+{
+    let bound = full::distortion_of(older, newer, order, b, 0, 4294967295);
+    let s = b.sizes;
+    let slot = first_slot(s.n);
+    Rest {
+        count: total,
+        bound,
+        slot,
+        counts: [0; 5],
+    }
+}
+
+// Lowers E to the distortion of the remaining candidate of least distance, if that is less.
+fn lowered(
+    older: &[u8],
+    newer: &[u8],
+    order: &[i32; 2178],
+    b: Spot,
+    alive: &[u16; 1089],
+    dist: &[u32; 1089],
+    r: Rest,
+) -> Rest
+    requires { ⌜ Ready (now older) (now newer) b × (now order ≡ flat preference) ⌝ }
+    requires { ⌜ Listed b (now alive) (r .count) × (0 < r .count) ⌝ }
+    ensures { λ q. ⌜ ((z m : ℕ) (s : Pruning) (d : ℕ → ℕ → ℕ) → InMemory z s (now (alive .entry)) r → Filled (d m) (now (alive .entry)) (r .count) (now (dist .entry))
+        → InMemory z (lower (distortionOf (now (older .entry)) (now (newer .entry)) b) d m s) (now (alive .entry)) q) × (q .count ≡ r .count) × (q .slot ≡ r .slot) ⌝ }
+{
+    let count = r.count;
+    let k = remaining::nearest(alive, count, dist);
+    let bound = r.bound;
+    let e = full::distortion_of(older, newer, order, b, k, bound);
+    let slot = r.slot;
+    let counts = r.counts;
+    if e < bound {
+        return Rest {
+            count,
+            bound: e,
+            slot,
+            counts,
+        };
+    }
+    r
+}
+
+// Counts the tests and drops each candidate whose distance exceeds E.
+fn sifted(alive: &mut [u16; 1089], dist: &[u32; 1089], r: Rest) -> Rest
+    requires { ⌜ (length (now alive) ≡ 1089) × (r .count ≤ 1089) × (r .slot < 5) ⌝ }
+    ensures { λ q. ⌜ ((z m : ℕ) (s : Pruning) (d : ℕ → ℕ → ℕ) → InMemory z s (now (alive .entry)) r → Filled (d m) (now (alive .entry)) (r .count) (now (dist .entry))
+        → InMemory z (sift d (absolute .limit) m s) (now (alive .exit)) q) ⌝ }
+{
+    let count = r.count;
+    let bound = r.bound;
+    let slot = r.slot;
+    let mut counts = r.counts;
+    counts[slot] = count as u32;
+    let kept = remaining::keep_within(alive, count, dist, bound);
+    Rest {
+        count: kept,
+        bound,
+        slot: slot + 1,
+        counts,
+    }
+}
+
+// One resolution of the rounds.
+fn level(
+    older: &[u8],
+    newer: &[u8],
+    order: &[i32; 2178],
+    b: Spot,
+    sums: &[u32],
+    a: Window,
+    m: usize,
+    alive: &mut [u16; 1089],
+    dist: &mut [u32; 1089],
+    r: Rest,
+) -> Rest
+    requires { ⌜ (now order ≡ flat preference) × (length (now dist) ≡ 1089) × Tested (now older) (now newer) b (now sums) a m (now alive) (r .count) × (0 < r .count) × (r .slot < 5) ⌝ }
+    ensures { λ q. ⌜ Leveled (distortionOf (now (older .entry)) (now (newer .entry)) b) (distanceOf (now (older .entry)) (now (newer .entry)) b) m (now (alive .entry)) r (now (alive .exit)) q × (length (now (dist .exit)) ≡ 1089) ⌝ }
+{
+    let count = r.count;
+    distance::fill_distances(older, newer, order, b, sums, a, m, &*alive, count, dist);
+    let q = lowered(older, newer, order, b, &*alive, &*dist, r);
+    sifted(alive, &*dist, q)
+}
+
+// Measures the rest, counts them, and answers.
+fn finish(
+    older: &[u8],
+    newer: &[u8],
+    order: &[i32; 2178],
+    b: Spot,
+    alive: &[u16; 1089],
+    total: usize,
+    r: Rest,
+) -> Found
+    requires { ⌜ Ready (now older) (now newer) b × (now order ≡ flat preference) ⌝ }
+    requires { ⌜ Listed b (now alive) (r .count) × (0 < r .count) × (r .slot < 5) × (r .count ≤ total) × (total ≤ 1089) ⌝ }
+    ensures { λ q. ⌜ q ≡ finished (distortionOf (now (older .entry)) (now (newer .entry)) b) (now (alive .entry)) total r ⌝ }
+{
+    let count = r.count;
+    let slot = r.slot;
+    let mut counts = r.counts;
+    counts[slot] = count as u32;
+    let best = full::choose(older, newer, order, b, alive, count);
+    let v = order::vector_at(order, best.place);
+    Found {
+        refusal: 0,
+        dy: v.dy,
+        dx: v.dx,
+        distortion: best.distortion,
+        counts,
+        dropped: (total - count) as u32,
+    }
+}
+
+// Search 2 of one block, whose candidates' older blocks lie in the part `a` of the older frame that `sums` is the summed-area table of.
+pub fn search(
+    older: &[u8],
+    newer: &[u8],
+    order: &[i32; 2178],
+    b: Spot,
+    sums: &[u32],
+    a: Window,
+) -> Found
+    requires { ⌜ Lent (now older) (now newer) b (now sums) a × (now order ≡ flat preference) ⌝ }
+    ensures { λ r. ⌜ r ≡ prunedFound (pairOf (now (older .entry)) (now (newer .entry)) (b .sizes)) (b .w) (b .y) (b .x) ⌝ }
+{
+    let mut alive = [0u16; 1089];
+    let mut dist = [0u32; 1089];
+    let s = b.sizes;
+    let n = s.n;
+    let total = remaining::gather(order, b, &mut alive);
+    let first = begin(older, newer, order, b, total);
+    distance::fill_distances(older, newer, order, b, sums, a, n, &alive, total, &mut dist);
+    let mut r = sifted(&mut alive, &dist, first);
+    let mut m = n / 2;
+    while m >= 2 {
+        r = level(older, newer, order, b, sums, a, m, &mut alive, &mut dist, r);
+        m = m / 2;
+    }
+    finish(older, newer, order, b, &alive, total, r)
+}

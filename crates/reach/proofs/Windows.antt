@@ -1,0 +1,44 @@
+-- The search window holds every candidate's older block, as all of the frame does; and its summed-area table has at most 49 × 49 places.
+use Prim.Native.Nat.{ℕ, _*_, _≤_}
+use mathlib.Core.List.{List}
+use native.Mathlib.Nat.{le-trans, mul-le-mul, mul-le-mul-right}
+use native.Mathlib.Omega.{arith}
+use lib.ListN.{length}
+use Rattle.search.specs.declared.Spot.{Spot}
+use Rattle.sums.specs.Filling.{Fillable}
+use Rattle.reach.specs.Reach.{Standing, windowOf, wholeFrame, Covers}
+
+pub covers-frame : (b : Spot) → Covers b (wholeFrame (b .sizes))
+covers-frame b = record {
+  high = omega arith;
+  wide = omega arith;
+  above = λ r h. omega arith;
+  below = λ r h k. omega arith;
+  before = λ c h. omega arith;
+  behind = λ c h k. omega arith;
+}
+
+pub covers-window : (b : Spot) → Standing b → Covers b (windowOf b)
+unfolding windowOf
+covers-window b s = record {
+  high = omega (arith, s .down);
+  wide = omega (arith, s .across);
+  above = λ r h. omega arith;
+  below = λ r h k. omega (arith, s .down);
+  before = λ c h. omega arith;
+  behind = λ c h k. omega (arith, s .across);
+}
+
+-- room for N + 2 w ≤ 48 rows and columns
+pub window-fillable : (older : List ℕ) (b : Spot) → Standing b → b .sizes .n ≤ 16 → b .sizes .height * b .sizes .width ≤ length older
+    → Fillable older (b .sizes .width) (windowOf b) 2401
+unfolding windowOf
+window-fillable older b s n h =
+    let v = covers-window b s in
+    record {
+      across = v .wide;
+      down = le-trans (mul-le-mul-right (b .sizes .width) (v .high)) h;
+      wide = s .wide;
+      high = omega (arith, s .window, n);
+      table = mul-le-mul {n₂ = 49} {m₂ = 49} (omega (arith, s .window, n)) (omega (arith, s .window, n));
+    }

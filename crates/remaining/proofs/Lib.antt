@@ -1,0 +1,3 @@
+pub mod Clear
+pub mod Turns
+pub mod Listing

@@ -1,0 +1,72 @@
+-- `gather_some`: those of the first k places that pass stand in front.
+use Prim.Native.Nat.{_-_}
+use mathlib.Core.Path.{_≡_, sym, _∙_}
+use mathlib.Core.Logic.{⊎-elim}
+use native.Mathlib.Omega.{arith}
+use borrow.Author.Needs.{needs}
+use Rattle.remaining.specs.Gathered.{passes}
+use Rattle.remaining.proofs.Turns.{Gathering, gathering-none, gathering-in, gathering-out}
+use Rattle.remaining.proofs.gather_some.Statement.{statement}
+use Rattle.remaining.proofs.gather_some.Tie as tie
+
+abbrev Inv-loop : tie.InvT-loop
+Inv-loop order b alive₀ count₀ k₀ alive count k = Gathering (passes b) k count alive
+
+abbrev μ-loop : tie.MeasureT-loop
+μ-loop order b alive₀ count₀ k₀ alive count k = 1089 - k
+
+loop-holds : tie.Need-loop-holds Inv-loop μ-loop
+loop-holds c = gathering-none _ _ (search needs)
+
+cast-alive : tie.Need-cast-alive Inv-loop μ-loop
+cast-alive c = search needs
+
+mul-alive : tie.Need-mul-alive Inv-loop μ-loop
+mul-alive c = search needs
+
+element-write-alive : tie.Need-element-write-alive Inv-loop μ-loop
+element-write-alive c = search needs
+
+is-among-requires : tie.Need-is-among-requires Inv-loop μ-loop
+is-among-requires c κs = search needs
+
+add-count : tie.Need-add-count Inv-loop μ-loop
+add-count c = search needs
+
+add-k : tie.Need-add-k Inv-loop μ-loop
+add-k c = search needs
+
+loop-less : tie.Need-loop-less Inv-loop μ-loop
+loop-less c = search needs
+
+loop-again : tie.Need-loop-again Inv-loop μ-loop
+loop-again c =
+    let l = c .before .before .before .loop in
+    let t = c .before .before .loop-test .taken in
+    ⊎-elim
+    (λ w. rw (w .1) (gathering-in _ (l .inv) t (sym (c .before .is-among .ensures) ∙ w .0 .taken)))
+    (λ w. rw (w .1) (gathering-out _ (l .inv) t (sym (c .before .is-among .ensures) ∙ w .0 .left)))
+    (c .if1 .came)
+
+returns : tie.Need-returns Inv-loop μ-loop
+returns c =
+    let l = c .before .loop in
+    let e : l .k ≡ 1089 = omega arith in
+    record { long = l .inv .long; many = rw (← e) (l .inv .many); front = rw (← e) (l .inv .front) }
+
+pub gather-some-spec : {M : Type 1} → statement M
+gather-some-spec =
+    tie.close
+    (tie.spec
+    Inv-loop
+    μ-loop
+    loop-holds
+    cast-alive
+    mul-alive
+    element-write-alive
+    is-among-requires
+    add-count
+    add-k
+    loop-less
+    loop-again
+    returns)

@@ -1,0 +1,133 @@
+// The candidates that remain in search 2, as places in the preference table: they stand in front of the array `alive`, in preference order, and a
+// number for each of them, its distance at some m, in the array `dist`.
+
+ghost use mathlib.Core.Path.{_≡_};
+ghost use Prim.Native.Nat.{ℕ, _≤_, _<_};
+ghost use lib.ListN.{length, getD, take};
+ghost use Rattle.base.specs.Lists.{listTo};
+ghost use Rattle.base.specs.Least.{leastOf};
+ghost use Rattle.order.specs.Preference.{preference, flat};
+ghost use Rattle.remaining.specs.Gathered.{passes, roomy, clear, Gathered, Filled, Kept};
+use search::Spot;
+
+// A place of the preference table, as it stands in the array.
+pub fn wide(k: u16) -> usize
+    ensures { λ r. ⌜ r ≡ k ⌝ }
+{
+    k as usize
+}
+
+// The vector at place k of the preference table is a candidate.
+fn is_among(order: &[i32; 2178], b: Spot, k: usize) -> bool
+    requires { ⌜ (now order ≡ flat preference) × (k < 1089) ⌝ }
+    ensures { λ r. ⌜ r ≡ passes b k ⌝ }
+{
+    let v = order::vector_at(order, k);
+    frame::is_candidate(b.sizes, b.w, b.y, b.x, v.dy, v.dx)
+}
+
+// n pels from `at` on have 16 more on either side.
+fn is_roomy(at: usize, n: usize, side: usize) -> bool
+    ensures { λ r. ⌜ r ≡ roomy at n side ⌝ }
+{
+    if at < 16 {
+        return false;
+    }
+    if side < 16 {
+        return false;
+    }
+    let end = side - 16;
+    if end < n {
+        return false;
+    }
+    at <= end - n
+}
+
+// Every vector of window 16 is a candidate.
+fn is_clear(b: Spot) -> bool
+    ensures { λ r. ⌜ r ≡ clear b ⌝ }
+{
+    let s = b.sizes;
+    if b.w < 16 {
+        return false;
+    }
+    if !is_roomy(b.y, s.n, s.height) {
+        return false;
+    }
+    is_roomy(b.x, s.n, s.width)
+}
+
+// Every place of the preference table.
+fn gather_every(alive: &mut [u16; 1089])
+    requires { ⌜ length (now alive) ≡ 1089 ⌝ }
+    ensures { λ _. ⌜ now (alive .exit) ≡ listTo (λ k. k) 1089 ⌝ }
+{
+    let mut k: usize = 0;
+    while k < 1089 {
+        alive[k] = k as u16;
+        k += 1;
+    }
+}
+
+// The places whose vectors are candidates; answers how many. Each place is stored, and counted if its vector is a candidate.
+fn gather_some(order: &[i32; 2178], b: Spot, alive: &mut [u16; 1089]) -> usize
+    requires { ⌜ (now order ≡ flat preference) × (length (now alive) ≡ 1089) ⌝ }
+    ensures { λ r. ⌜ Gathered b (now (alive .exit)) r ⌝ }
+{
+    let mut count: usize = 0;
+    let mut k: usize = 0;
+    while k < 1089 {
+        alive[count] = k as u16;
+        if is_among(order, b, k) {
+            count += 1;
+        }
+        k += 1;
+    }
+    count
+}
+
+// All candidates, in preference order; answers how many.
+pub fn gather(order: &[i32; 2178], b: Spot, alive: &mut [u16; 1089]) -> usize
+    requires { ⌜ (now order ≡ flat preference) × (length (now alive) ≡ 1089) ⌝ }
+    ensures { λ r. ⌜ Gathered b (now (alive .exit)) r ⌝ }
+{
+    if is_clear(b) {
+        gather_every(alive);
+        return 1089;
+    }
+    gather_some(order, b, alive)
+}
+
+// The first remaining candidate of least distance.
+pub fn nearest(alive: &[u16; 1089], count: usize, dist: &[u32; 1089]) -> usize
+    requires { ⌜ (length (now alive) ≡ 1089) × (0 < count) × (count ≤ 1089) ⌝ }
+    ensures { λ r. ⌜ ((f : ℕ → ℕ) → Filled f (now (alive .entry)) count (now (dist .entry)) → r ≡ leastOf f (take count (now (alive .entry))))
+        × ((i : ℕ) × (i < count) × (r ≡ getD (now (alive .entry)) i 0)) ⌝ }
+{
+    let mut best: usize = 0;
+    let mut i: usize = 1;
+    while i < count {
+        if dist[i] < dist[best] {
+            best = i;
+        }
+        i += 1;
+    }
+    wide(alive[best])
+}
+
+// Drops each candidate whose distance exceeds `limit`; answers how many remain. Each is stored, and counted if it stays.
+pub fn keep_within(alive: &mut [u16; 1089], count: usize, dist: &[u32; 1089], limit: u32) -> usize
+    requires { ⌜ (length (now alive) ≡ 1089) × (count ≤ 1089) ⌝ }
+    ensures { λ r. ⌜ ((f : ℕ → ℕ) → Filled f (now (alive .entry)) count (now (dist .entry)) → Kept f limit (take count (now (alive .entry))) (now (alive .exit)) r) ⌝ }
+{
+    let mut kept: usize = 0;
+    let mut from: usize = 0;
+    while from < count {
+        alive[kept] = alive[from];
+        if dist[from] <= limit {
+            kept += 1;
+        }
+        from += 1;
+    }
+    kept
+}

@@ -1,0 +1,94 @@
+// The distances of all older blocks whose corners stand in so many rows and columns of the summed-area table, square by square.
+
+ghost use mathlib.Core.Path.{_≡_};
+ghost use Prim.Native.Nat.{ℕ, _+_, _*_, _≤_, _<_};
+ghost use lib.ListN.{length, getD};
+ghost use Rattle.base.specs.Sum.{sumTo};
+ghost use Rattle.base.specs.Lists.{fillTo};
+ghost use Rattle.signed.specs.Values.{absDiff};
+ghost use Rattle.squares.specs.Squares.{looked, Looked, gapAt, Compared};
+ghost use Rattle.spread.specs.Spread.{Added, Summed};
+
+// Adds the differences at one square to `columns` places from `from` on.
+fn add_run(
+    sums: &[u32],
+    low: usize,
+    m: usize,
+    at: usize,
+    value: u32,
+    columns: usize,
+    part: &mut [u32],
+    from: usize,
+)
+    requires { ⌜ (value ≤ 65280) × (from + columns ≤ length (now part)) ⌝ }
+    requires { ⌜ ((c : ℕ) → c < columns → Looked (now sums) low m (at + c) × (getD (now part) (from + c) 0 ≤ 4177920)) ⌝ }
+    ensures { λ _. ⌜ now (part .exit) ≡ fillTo (now (part .entry)) from (λ c. getD (now (part .entry)) (from + c) 0 + absDiff value (looked (now (sums .entry)) low m (at + c))) columns ⌝ }
+{
+    let mut c: usize = 0;
+    while c < columns {
+        part[from + c] = part[from + c] + squares::gap(value, squares::look(sums, low, m, at + c));
+        c += 1;
+    }
+}
+
+// Adds the differences at one square to all places.
+fn add_square(
+    sums: &[u32],
+    low: usize,
+    m: usize,
+    at: usize,
+    stride: usize,
+    value: u32,
+    rows: usize,
+    columns: usize,
+    part: &mut [u32],
+)
+    requires { ⌜ (value ≤ 65280) × (0 < columns) × (rows * columns ≤ length (now part)) × (stride ≤ 1025) ⌝ }
+    requires { ⌜ ((i j : ℕ) → i < rows → j < columns → Looked (now sums) low m (at + i * stride + j) × (getD (now part) (i * columns + j) 0 ≤ 4177920)) ⌝ }
+    ensures { λ _. ⌜ Added (λ i j. absDiff value (looked (now (sums .entry)) low m (at + i * stride + j))) rows columns (now (part .entry)) (now (part .exit)) ⌝ }
+{
+    let mut i: usize = 0;
+    let mut here = at;
+    let mut from: usize = 0;
+    while i < rows {
+        add_run(sums, low, m, here, value, columns, part, from);
+        here += stride;
+        from += columns;
+        i += 1;
+    }
+}
+
+// The distances of all older blocks whose corners stand in so many rows and columns from place `at` on.
+pub fn spread(
+    block: &[u32],
+    steps: &[usize],
+    sums: &[u32],
+    low: usize,
+    m: usize,
+    count: usize,
+    at: usize,
+    stride: usize,
+    rows: usize,
+    columns: usize,
+    part: &mut [u32],
+)
+    requires { ⌜ (0 < rows) × (0 < columns) × (rows * columns ≤ length (now part)) × (stride ≤ 1025) ⌝ }
+    requires { ⌜ ((i j : ℕ) → i < rows → j < columns → Compared (now block) (now steps) (now sums) low m count (at + i * stride + j) × (getD (now part) (i * columns + j) 0 ≡ 0)) ⌝ }
+    ensures { λ _. ⌜ Summed (λ i j. sumTo (gapAt (now (block .entry)) (now (steps .entry)) (now (sums .entry)) low m (at + i * stride + j)) count) rows columns (now (part .entry)) (now (part .exit)) ⌝ }
+{
+    let mut s: usize = 0;
+    while s < count {
+        add_square(
+            sums,
+            low,
+            m,
+            at + steps[s],
+            stride,
+            block[s],
+            rows,
+            columns,
+            part,
+        );
+        s += 1;
+    }
+}

@@ -1,0 +1,102 @@
+-- `distance_from`: the sum so far is that of the differences at the first s squares, each at most 65,280.
+use Prim.Native.Nat.{_+_, _-_, _*_, _≤_}
+use mathlib.Core.Path.{_≡_, sym}
+use native.Mathlib.Omega.{arith}
+use borrow.Author.Needs.{needs}
+use denote.Ref.{now}
+use lib.ListN.{getD}
+use Rattle.base.specs.Sum.{sumTo, sumTo-none, sumTo-more}
+use Rattle.squares.specs.Squares.{gapAt, Looked}
+use Rattle.squares.proofs.distance_from.Statement.{statement}
+use Rattle.squares.proofs.distance_from.Tie as tie
+
+abbrev Inv-loop : tie.InvT-loop
+Inv-loop block steps sums low m count at sum₀ s₀ sum s =
+    (s ≤ count) × (sum ≤ 65280 * s) × (sum ≡ sumTo (gapAt block steps sums low m at) s)
+
+abbrev μ-loop : tie.MeasureT-loop
+μ-loop block steps sums low m count at sum₀ s₀ sum s = count - s
+
+-- the look-ups of a turn
+here : (b : tie.In-loop Inv-loop μ-loop) →
+    let a = b .before .before .before .before .before .args in
+    Looked (now (a .sums)) (a .low) (a .m) (a .at + getD (now (a .steps)) (b .before .loop .s) 0)
+here b = b .before .before .before .before .before .pre .each (b .before .loop .s) (b .loop-test .taken)
+
+-- the difference of a turn
+turn : (c : tie.After-gap Inv-loop μ-loop) →
+    let b = c .before .before .before .before in
+    let a = b .before .before .before .before .before .args in
+    (c .gap .result ≡ gapAt (now (a .block)) (now (a .steps)) (now (a .sums)) (a .low) (a .m) (a .at) (b .before .loop .s)) × (c .gap .result ≤ 65280)
+turn c =
+    let b = c .before .before .before .before in
+    let s = b .before .before .before .before .before in
+    let k = c .before .look .ensures in
+    let e : c .gap .result ≡ gapAt (now (s .args .block)) (now (s .args .steps)) (now (s .args .sums)) (s .args .low) (s .args .m) (s .args .at) (b .before .loop .s) =
+    rw (k .0) at (c .gap .ensures) in
+    (e, omega (arith, e, here b .small, s .pre .small (b .before .loop .s) (b .loop-test .taken)))
+
+loop-holds : tie.Need-loop-holds Inv-loop μ-loop
+loop-holds c = (search needs, search needs, sym (sumTo-none _))
+
+mul-gap : tie.Need-mul-gap Inv-loop μ-loop
+mul-gap c = search needs
+
+shared-slice-read-gap : tie.Need-shared-slice-read-gap Inv-loop μ-loop
+shared-slice-read-gap c = search needs
+
+mul-look : tie.Need-mul-look Inv-loop μ-loop
+mul-look c = search needs
+
+shared-slice-read-look : tie.Need-shared-slice-read-look Inv-loop μ-loop
+shared-slice-read-look c = search needs
+
+add-look : tie.Need-add-look Inv-loop μ-loop
+add-look c = omega (arith, here (c .before .before) .inside)
+
+look-requires : tie.Need-look-requires Inv-loop μ-loop
+look-requires c κs = here (c .before .before)
+
+gap-requires : tie.Need-gap-requires Inv-loop μ-loop
+gap-requires c κs = search needs
+
+add-sum : tie.Need-add-sum Inv-loop μ-loop
+add-sum c = omega (arith, turn c)
+
+add-s : tie.Need-add-s Inv-loop μ-loop
+add-s c = search needs
+
+loop-less : tie.Need-loop-less Inv-loop μ-loop
+loop-less c = search needs
+
+loop-again : tie.Need-loop-again Inv-loop μ-loop
+loop-again c =
+    let l = c .before .before .before .before .before .loop in
+    let g = turn c in
+    (search needs, omega (arith, g), rw (sumTo-more _ (l .s), l .inv .2, g .0))
+
+returns : tie.Need-returns Inv-loop μ-loop
+returns c =
+    let l = c .before .loop in
+    let e : l .s ≡ c .before .before .before .before .before .args .count = omega arith in
+    rw e at (l .inv .2)
+
+pub distance-from-spec : {M : Type 1} → statement M
+distance-from-spec =
+    tie.close
+    (tie.spec
+    Inv-loop
+    μ-loop
+    loop-holds
+    mul-gap
+    shared-slice-read-gap
+    mul-look
+    shared-slice-read-look
+    add-look
+    look-requires
+    gap-requires
+    add-sum
+    add-s
+    loop-less
+    loop-again
+    returns)

@@ -1,0 +1,137 @@
+// A block's m × m squares: the sums of the newer block's, and the distance of an older block by look-ups in its summed-area table.
+
+ghost use mathlib.Core.Path.{_≡_};
+ghost use Prim.Native.Nat.{_+_, _*_, _≤_, _<_};
+ghost use lib.ListN.{length};
+ghost use Rattle.base.specs.Sum.{sumTo};
+ghost use Rattle.base.specs.Lists.{fillTo};
+ghost use Rattle.signed.specs.Values.{absDiff};
+ghost use Rattle.distortion.specs.Blocks.{blockAt};
+ghost use Rattle.pruning.specs.Distance.{squareSum};
+ghost use Rattle.sums.specs.Area.{SumsOf};
+ghost use Rattle.reach.specs.Reach.{Standing};
+ghost use Rattle.squares.specs.Squares.{looked, Looked, Cut, gapAt, Compared};
+use search::Spot;
+use sums::Window;
+
+// |a - b|.
+pub fn gap(a: u32, b: u32) -> u32
+    ensures { λ r. ⌜ r ≡ absDiff a b ⌝ }
+{
+    if a < b { b - a } else { a - b }
+}
+
+// The sum of the square at place `at` of the table, by four look-ups.
+pub fn look(sums: &[u32], low: usize, m: usize, at: usize) -> u32
+    requires { ⌜ Looked (now sums) low m at ⌝ }
+    ensures { λ r. ⌜ (r ≡ looked (now (sums .entry)) low m at) × (r ≤ 65280) ⌝ }
+{
+    let right = sums[at + low + m] - sums[at + m];
+    let beside = sums[at + low] - sums[at];
+    right - beside
+}
+
+// Row p of the newer block's squares.
+fn cut_row(
+    newer: &[u8],
+    width: usize,
+    a: Window,
+    own: &[u32],
+    m: usize,
+    k: usize,
+    stride: usize,
+    p: usize,
+    from: usize,
+    block: &mut [u32],
+    steps: &mut [usize],
+)
+    requires { ⌜ SumsOf (blockAt (now newer) width (a .top) (a .left)) (a .rows) (a .columns) (now own) × (k * m ≤ a .rows) × (k * m ≤ a .columns) × (a .rows ≤ 16) × (a .columns ≤ 16) × (stride ≤ 1025) × (p < k) ⌝ }
+    requires { ⌜ (from + k ≤ length (now block)) × (from + k ≤ length (now steps)) ⌝ }
+    ensures { λ _. ⌜ (now (block .exit) ≡ fillTo (now (block .entry)) from (λ q. squareSum (blockAt (now (newer .entry)) width (a .top) (a .left)) m p q) k) × (now (steps .exit) ≡ fillTo (now (steps .entry)) from (λ q. p * m * stride + q * m) k) ⌝ }
+{
+    let down = p * m;
+    let mut q: usize = 0;
+    while q < k {
+        let across = q * m;
+        block[from + q] = sums::square_sum(newer, width, a, own, down, across, m);
+        steps[from + q] = down * stride + across;
+        q += 1;
+    }
+}
+
+// The newer block's squares, row by row.
+fn cut_block(
+    newer: &[u8],
+    width: usize,
+    a: Window,
+    own: &[u32],
+    m: usize,
+    k: usize,
+    stride: usize,
+    block: &mut [u32],
+    steps: &mut [usize],
+)
+    requires { ⌜ SumsOf (blockAt (now newer) width (a .top) (a .left)) (a .rows) (a .columns) (now own) × (k * m ≤ a .rows) × (k * m ≤ a .columns) × (a .rows ≤ 16) × (a .columns ≤ 16) × (stride ≤ 1025) ⌝ }
+    requires { ⌜ (k * k ≤ length (now block)) × (k * k ≤ length (now steps)) ⌝ }
+    ensures { λ _. ⌜ Cut (blockAt (now (newer .entry)) width (a .top) (a .left)) m k stride (now (block .exit)) (now (steps .exit)) ⌝ }
+{
+    let mut p: usize = 0;
+    let mut from: usize = 0;
+    while p < k {
+        cut_row(newer, width, a, own, m, k, stride, p, from, block, steps);
+        from += k;
+        p += 1;
+    }
+}
+
+// The squares of the newer block, by a table of its own.
+pub fn cut(
+    newer: &[u8],
+    b: Spot,
+    m: usize,
+    k: usize,
+    stride: usize,
+    block: &mut [u32],
+    steps: &mut [usize],
+)
+    requires { ⌜ Standing b × (b .sizes .height * b .sizes .width ≤ length (now newer)) × (b .sizes .n ≤ 16) × (k * m ≡ b .sizes .n) × (stride ≤ 1025) ⌝ }
+    requires { ⌜ (k * k ≤ length (now block)) × (k * k ≤ length (now steps)) ⌝ }
+    ensures { λ _. ⌜ Cut (blockAt (now (newer .entry)) (b .sizes .width) (b .y) (b .x)) m k stride (now (block .exit)) (now (steps .exit)) ⌝ }
+{
+    let s = b.sizes;
+    let n = s.n;
+    let width = s.width;
+    let top = b.y;
+    let left = b.x;
+    let a = Window {
+        top,
+        left,
+        rows: n,
+        columns: n,
+    };
+    let mut table = [0u32; 289];
+    sums::fill_sums(newer, width, a, &mut table);
+    cut_block(newer, width, a, &table, m, k, stride, block, steps);
+}
+
+// The distance of one older block, its corner at place `at` of the table.
+pub fn distance_from(
+    block: &[u32],
+    steps: &[usize],
+    sums: &[u32],
+    low: usize,
+    m: usize,
+    count: usize,
+    at: usize,
+) -> u32
+    requires { ⌜ Compared (now block) (now steps) (now sums) low m count at ⌝ }
+    ensures { λ r. ⌜ r ≡ sumTo (gapAt (now (block .entry)) (now (steps .entry)) (now (sums .entry)) low m at) count ⌝ }
+{
+    let mut sum: u32 = 0;
+    let mut s: usize = 0;
+    while s < count {
+        sum += gap(block[s], look(sums, low, m, at + steps[s]));
+        s += 1;
+    }
+    sum
+}
