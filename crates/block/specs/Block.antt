@@ -19,6 +19,7 @@ use Rattle.probe.specs.Held.{foundOf}
 use Rattle.four_step.specs.FourStep.{fourStep}
 use Rattle.cross.specs.Cross.{cross}
 use Rattle.full.specs.Full.{fullFound}
+use Rattle.pruned.specs.Answer.{prunedFound}
 
 unfoldable pub searchRefusal : ℕ → ℕ → Request → ℕ → ℕ → ℕ
 searchRefusal older newer q y x = first (requestRefusal older newer q) (unless (placeOk (sizesOf q) y x) 7 0)
@@ -27,8 +28,9 @@ searchRefusal older newer q y x = first (requestRefusal older newer q) (unless (
 unfoldable pub searched : Pair → Request → ℕ → ℕ → Found
 searched p q y x =
     cond (eqb (q .search) 1) (fullFound p (q .w) y x)
+    (cond (eqb (q .search) 2) (prunedFound p (q .w) y x)
     (cond (eqb (q .search) 3) (foundOf (fourStep (target p (q .w) y x)))
-    (foundOf (cross (target p (q .w) y x) (q .t) (q .w))))
+    (foundOf (cross (target p (q .w) y x) (q .t) (q .w)))))
 
 unfoldable pub blockFound : List ℕ → List ℕ → Request → ℕ → ℕ → Found
 blockFound older newer q y x =
@@ -58,3 +60,21 @@ module _ (older newer : List ℕ) (q : Request) (y x : ℕ) where
   pub block-accepted : searchRefusal (length older) (length newer) q y x ≡ 0 → blockFound older newer q y x ≡ searched (pairOf older newer (sizesOf q)) q y x
   unfolding blockFound
   block-accepted h = rw h
+
+-- the search asked for, by its number
+module _ (p : Pair) (q : Request) (y x : ℕ) where
+  pub searched-full : q .search ≡ 1 → searched p q y x ≡ fullFound p (q .w) y x
+  unfolding searched
+  searched-full e = rw e
+
+  pub searched-pruned : q .search ≡ 2 → searched p q y x ≡ prunedFound p (q .w) y x
+  unfolding searched
+  searched-pruned e = rw e
+
+  pub searched-four-step : q .search ≡ 3 → searched p q y x ≡ foundOf (fourStep (target p (q .w) y x))
+  unfolding searched
+  searched-four-step e = rw e
+
+  pub searched-cross : q .search ≡ 4 → searched p q y x ≡ foundOf (cross (target p (q .w) y x) (q .t) (q .w))
+  unfolding searched
+  searched-cross e = rw e

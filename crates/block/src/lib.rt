@@ -1,8 +1,11 @@
 // The single-block call of document 01: refusals 1 to 7, then the search asked for, of a block at any pel row and column.
 
 ghost use mathlib.Core.Path.{_≡_};
-ghost use lib.ListN.{length};
+ghost use Rattle.order.specs.Preference.{preference, flat};
+ghost use Rattle.frame.specs.Pictures.{pairOf};
 ghost use Rattle.search.specs.Found.{refusedSearch};
+ghost use Rattle.search.specs.Weighing.{Ready};
+ghost use Rattle.pruned.specs.Answer.{prunedFound};
 ghost use Rattle.block.specs.Block.{searchRefusal, blockFound};
 use frame::Request;
 use search::Found;
@@ -35,6 +38,18 @@ fn refused(refusal: u32) -> Found
     }
 }
 
+// Search 2 of a block by itself: the sums of the older squares come from a table of its search window alone.
+fn pruned_alone(older: &[u8], newer: &[u8], order: &[i32; 2178], b: Spot) -> Found
+    requires { ⌜ Ready (now older) (now newer) b × (now order ≡ flat preference) ⌝ }
+    ensures { λ r. ⌜ r ≡ prunedFound (pairOf (now (older .entry)) (now (newer .entry)) (b .sizes)) (b .w) (b .y) (b .x) ⌝ }
+{
+    let s = b.sizes;
+    let a = reach::search_window(b);
+    let mut table = [0u32; 2401];
+    sums::fill_sums(older, s.width, a, &mut table);
+    pruned::search(older, newer, order, b, &table, a)
+}
+
 // Searches the block at row y, column x.
 pub fn search_block(older: &[u8], newer: &[u8], q: Request, y: usize, x: usize) -> Found
     ensures { λ r. ⌜ r ≡ blockFound (now (older .entry)) (now (newer .entry)) q y x ⌝ }
@@ -56,5 +71,8 @@ pub fn search_block(older: &[u8], newer: &[u8], q: Request, y: usize, x: usize) 
         return cross::search(older, newer, b, q.t);
     }
     let order = order::table();
+    if q.search == 2 {
+        return pruned_alone(older, newer, &order, b);
+    }
     full::search(older, newer, &order, b)
 }

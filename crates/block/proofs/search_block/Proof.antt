@@ -1,11 +1,13 @@
 -- `search_block`: past the chain the block is ready for each search, and the search asked for answers.
-use mathlib.Core.Path.{_≡_, sym, _∙_, ap}
+use mathlib.Core.Path.{_≡_, sym, _∙_}
+use native.Mathlib.Omega.{arith}
 use borrow.Author.Needs.{needs}
 use denote.Ref.{now}
 use lib.ListN.{length}
-use Rattle.frame.specs.Refusals.{window-small}
+use Rattle.frame.specs.Refusals.{sizesOf, window-small}
+use Rattle.frame.specs.Pictures.{pairOf}
 use Rattle.search.specs.Weighing.{Ready}
-use Rattle.block.specs.Block.{searchRefusal, searched, Searchable, searchable, block-refused, block-accepted}
+use Rattle.block.specs.Block.{searchRefusal, blockFound, searched, searched-full, searched-pruned, searched-four-step, searched-cross, searchable, block-refused, block-accepted}
 use Rattle.block.proofs.search_block.Statement.{statement}
 use Rattle.block.proofs.search_block.Tie as tie
 
@@ -22,6 +24,11 @@ ready c =
     let s = searchable _ _ _ _ _ (zero-is (c .before)) in
     record { placed = rw (c .sizes-of .ensures) (s .placed); window = window-small _ _ (s .asked .window) }
 
+accepted : (c : tie.After-sizes-of) →
+    let a = c .before .before .before .before .before .args in
+    blockFound (now (a .older)) (now (a .newer)) (a .q) (a .y) (a .x) ≡ searched (pairOf (now (a .older)) (now (a .newer)) (sizesOf (a .q))) (a .q) (a .y) (a .x)
+accepted c = block-accepted _ _ _ _ _ (zero-is (c .before))
+
 search-refusal-requires : tie.Need-search-refusal-requires
 search-refusal-requires c κs = search needs
 
@@ -36,17 +43,58 @@ returns c =
 sizes-of-requires : tie.Need-sizes-of-requires
 sizes-of-requires c κs = search needs
 
+search-requires : tie.Need-search-requires
+search-requires c κs = ready (c .before .before)
+
+returns-2 : tie.Need-returns-2
+returns-2 c =
+    let z = c .before .before .before in
+    (rw (z .sizes-of .ensures) at (c .search .ensures)) ∙ sym (accepted z ∙ searched-four-step _ _ _ _ (c .before .if2 .taken))
+
+search-requires-2 : tie.Need-search-requires-2
+search-requires-2 c κs = ready (c .before .before .before .before)
+
+returns-3 : tie.Need-returns-3
+returns-3 c =
+    let z = c .before .before .before .before .before in
+    (rw (z .sizes-of .ensures) at (c .search2 .ensures)) ∙ sym (accepted z ∙ searched-cross _ _ _ _ (c .before .if3 .taken))
+
 table-requires : tie.Need-table-requires
 table-requires c κs = search needs
 
-search-requires : tie.Need-search-requires
-search-requires c κs = (ready (c .before .before), c .before .table .ensures)
+pruned-alone-requires : tie.Need-pruned-alone-requires
+pruned-alone-requires c κs = (ready (c .before .before .before .before .before .before .before .before), c .before .before .before .table .ensures)
 
-returns-2 : tie.Need-returns-2
-unfolding searched
-returns-2 c =
-    let o = c .before .before .before in
-    (rw (o .sizes-of .ensures) at (c .search .ensures)) ∙ sym (block-accepted _ _ _ _ _ (zero-is (o .before)))
+returns-4 : tie.Need-returns-4
+returns-4 c =
+    let z = c .before .before .before .before .before .before .before .before .before in
+    (rw (z .sizes-of .ensures) at (c .pruned-alone .ensures)) ∙ sym (accepted z ∙ searched-pruned _ _ _ _ (c .before .before .if4 .taken))
+
+search-requires-3 : tie.Need-search-requires-3
+search-requires-3 c κs = (ready (c .before .before .before .before .before .before .before .before), c .before .before .before .table .ensures)
+
+returns-5 : tie.Need-returns-5
+returns-5 c =
+    let d = c .before .before in
+    let z = d .before .before .before .before .before .before .before in
+    let a = searchable _ _ _ _ _ (zero-is (z .before)) .asked in
+    let one : z .before .before .before .before .before .args .q .search ≡ 1 = omega (arith, a .least, a .most, d .if4 .left, d .before .before .before .if3 .left, d .before .before .before .before .before .if2 .left) in
+    (rw (z .sizes-of .ensures) at (c .search3 .ensures)) ∙ sym (accepted z ∙ searched-full _ _ _ _ one)
 
 pub search-block-spec : {M : Type 1} → statement M
-search-block-spec = tie.close (tie.spec search-refusal-requires refused-requires returns sizes-of-requires table-requires search-requires returns-2)
+search-block-spec =
+    tie.close
+    (tie.spec
+    search-refusal-requires
+    refused-requires
+    returns
+    sizes-of-requires
+    search-requires
+    returns-2
+    search-requires-2
+    returns-3
+    table-requires
+    pruned-alone-requires
+    returns-4
+    search-requires-3
+    returns-5)

@@ -1,0 +1,60 @@
+-- `pruned_alone`: the table is that of the search window, which holds every candidate's older block.
+use Prim.Native.Nat.{_+_, _*_, _≤_}
+use mathlib.Core.Path.{_≡_, sym, _∙_}
+use native.Mathlib.Omega.{arith}
+use borrow.Author.Needs.{needs}
+use denote.Ref.{now}
+use lib.ListN.{length}
+use Rattle.frame.specs.Refusals.{listed-elim}
+use Rattle.sums.specs.Area.{sums-of}
+use Rattle.pruned.specs.Memory.{Lent}
+use Rattle.reach.specs.Reach.{Standing}
+use Rattle.reach.proofs.Windows.{covers-window, window-fillable}
+use Rattle.block.proofs.pruned_alone.Statement.{statement}
+use Rattle.block.proofs.pruned_alone.Tie as tie
+
+standing : (s : tie.Start) → Standing (s .args .b)
+standing s =
+    let p = s .pre .0 .placed in
+    record { down = p .down; across = p .across; high = p .paired .fitting .high; wide = p .paired .fitting .wide; window = s .pre .0 .window }
+
+small : (s : tie.Start) → s .args .b .sizes .n ≤ 16
+small s = listed-elim (λ n. n ≤ 16) (omega arith) (omega arith) (omega arith) _ (s .pre .0 .placed .paired .allowed)
+
+whole : (s : tie.Start) → s .args .b .sizes .height * s .args .b .sizes .width ≤ length (now (s .args .older))
+whole s = omega (arith, s .pre .0 .placed .paired .older-whole)
+
+search-window-requires : tie.Need-search-window-requires
+search-window-requires c κs = standing (c .before .before .before)
+
+slice-aggregate-fill-sums : tie.Need-slice-aggregate-fill-sums
+slice-aggregate-fill-sums c = search needs
+
+fill-sums-requires : tie.Need-fill-sums-requires
+fill-sums-requires c κs =
+    let s = c .before .before .before .before .before in
+    rw (c .before .search-window .ensures) (window-fillable _ _ (standing s) (small s) (whole s))
+
+slice-aggregate-search : tie.Need-slice-aggregate-search
+slice-aggregate-search c = search needs
+
+search-requires : tie.Need-search-requires
+search-requires c κs =
+    let f = c .before .before in
+    let w = f .before .before in
+    let s = w .before .before .before .before in
+    (record { ready = s .pre .0; covers = rw (w .search-window .ensures) (covers-window _ (standing s)); table = sums-of _ _ _ _ _ (f .fill-sums .ensures) }, s .pre .1)
+
+returns : tie.Need-returns
+returns c = c .search .ensures
+
+pub pruned-alone-spec : {M : Type 1} → statement M
+pruned-alone-spec =
+    tie.close
+    (tie.spec
+    search-window-requires
+    slice-aggregate-fill-sums
+    fill-sums-requires
+    slice-aggregate-search
+    search-requires
+    returns)

@@ -1,0 +1,490 @@
+//! The edges of document 01's ranges, each from both sides and with the expected number written down here, the order in which the
+//! refusals are tested, and a table of small combinations, most of them invalid. Values near the top of their type must be
+//! refused and must never end the program.
+
+use crate::archive;
+use crate::group::Group;
+use crate::question::{Measuring, Pair, Request, Viewing};
+use crate::rival;
+
+/// Bits above the lower 32, which a careless narrowing would lose.
+const ABOVE_32: usize = 1 << 32;
+
+/// The top bit, which a careless change of sign would turn into a negative number.
+const TOP_BIT: usize = 1 << 63;
+
+/// A pair of these sizes whose frames have these lengths; the pels differ from frame to frame.
+fn pair_with_lengths(width: usize, height: usize, older: usize, newer: usize) -> Pair {
+    Pair {
+        older: (0..older).map(|k| (k * 7 % 251) as u8).collect(),
+        newer: (0..newer).map(|k| (k * 11 % 241) as u8).collect(),
+        width,
+        height,
+    }
+}
+
+/// A pair of these sizes with frames that fit.
+fn pair_of(width: usize, height: usize) -> Pair {
+    pair_with_lengths(width, height, width * height, width * height)
+}
+
+/// Both sides must answer with this refusal (0: accepted), and alike in all else.
+fn searched(group: &mut Group, pair: &Pair, request: Request, refusal: i64) {
+    let answer = archive::search_block(pair, &request);
+    let wanted = rival::search_block(pair, &request);
+    group.same(format_args!("{pair}, {request}"), answer.refusal, refusal);
+    group.same(format_args!("{pair}, {request}"), answer, wanted);
+}
+
+/// Likewise for the measuring call.
+fn measured(group: &mut Group, pair: &Pair, asked: Measuring, refusal: i64) {
+    let answer = archive::measure(pair, &asked);
+    let wanted = rival::measure(pair, &asked);
+    group.same(format_args!("{pair}, {asked}"), answer.refusal, refusal);
+    group.same(format_args!("{pair}, {asked}"), answer, wanted);
+}
+
+/// Likewise for the row view.
+fn viewed(group: &mut Group, pair: &Pair, asked: Viewing, refusal: i64) {
+    let answer = archive::row_view(pair, &asked);
+    let wanted = rival::row_view(pair, &asked);
+    group.same(format_args!("{pair}, {asked}"), answer.refusal, refusal);
+    group.same(format_args!("{pair}, {asked}"), answer, wanted);
+}
+
+/// All three calls at one place, in all four searches, must answer with this refusal.
+fn all_calls(group: &mut Group, pair: &Pair, n: usize, row: usize, column: usize, refusal: i64) {
+    for (search, w) in [(1, 1), (2, 1), (3, 7), (4, 2)] {
+        let request = Request {
+            n,
+            search,
+            w,
+            t: 0,
+            row,
+            column,
+        };
+        searched(group, pair, request, refusal);
+    }
+    let asked = Measuring {
+        n,
+        row,
+        column,
+        dy: 0,
+        dx: 0,
+    };
+    measured(group, pair, asked, refusal);
+    for side in [0, 1] {
+        let asked = Viewing {
+            n,
+            side,
+            row,
+            column,
+        };
+        viewed(group, pair, asked, refusal);
+    }
+}
+
+/// Refusal 1: width and height 3/4 and 1,024/1,025, and values far outside.
+fn sizes() -> u64 {
+    let mut group = Group::new("edges, width and height");
+    let near = [3, 4, 5, 1023, 1024, 1025];
+    for width in near {
+        for height in near {
+            let inside = (4..=1024).contains(&width) && (4..=1024).contains(&height);
+            let pair = pair_of(width, height);
+            all_calls(&mut group, &pair, 4, 0, 0, i64::from(!inside));
+            if inside {
+                let (row, column) = (height - 4, width - 4);
+                all_calls(&mut group, &pair, 4, row, column, 0);
+            }
+        }
+    }
+    let far = [0, 1, 2, 65536, ABOVE_32, ABOVE_32 + 8, TOP_BIT, TOP_BIT + 8];
+    for size in far.into_iter().chain([usize::MAX - 7, usize::MAX]) {
+        // Frames of no pel, and of as many as are left of the product where it wraps.
+        for length in [0, 64, (size.wrapping_mul(8)) % 4096] {
+            let pair = pair_with_lengths(size, 8, length, length);
+            all_calls(&mut group, &pair, 4, 0, 0, 1);
+            let pair = pair_with_lengths(8, size, length, length);
+            all_calls(&mut group, &pair, 4, 0, 0, 1);
+            let pair = pair_with_lengths(size, size, length, length);
+            all_calls(&mut group, &pair, 4, 0, 0, 1);
+        }
+    }
+    group.end()
+}
+
+/// Refusal 2: frames one short and one long, and of other lengths.
+fn lengths() -> u64 {
+    let mut group = Group::new("edges, frame lengths");
+    for (width, height, n) in [(4, 4, 4), (5, 4, 4), (8, 9, 8), (17, 16, 16), (1024, 4, 4)] {
+        let right = width * height;
+        let lengths = [0, 1, right / 2, right - width, right - 1, right, right + 1];
+        let lengths: Vec<usize> = lengths.into_iter().chain([2 * right]).collect();
+        for &older in &lengths {
+            for &newer in &lengths {
+                let refusal = if older == right && newer == right {
+                    0
+                } else {
+                    2
+                };
+                let pair = pair_with_lengths(width, height, older, newer);
+                all_calls(&mut group, &pair, n, 0, 0, refusal);
+            }
+        }
+    }
+    group.end()
+}
+
+/// Refusal 3: N not 4, 8 or 16, or larger than width or height.
+fn block_sizes() -> u64 {
+    let mut group = Group::new("edges, N");
+    let sizes = [
+        0, 1, 2, 3, 4, 5, 7, 8, 9, 12, 15, 16, 17, 32, 64, 256, 260, 264,
+    ];
+    let far = [ABOVE_32 + 4, TOP_BIT + 8, usize::MAX - 3, usize::MAX];
+    for width in 4..=18 {
+        for height in 4..=18 {
+            let pair = pair_of(width, height);
+            for n in sizes.into_iter().chain(far) {
+                let allowed = (n == 4 || n == 8 || n == 16) && n <= width && n <= height;
+                let refusal = if allowed { 0 } else { 3 };
+                all_calls(&mut group, &pair, n, 0, 0, refusal);
+            }
+        }
+    }
+    group.end()
+}
+
+/// Refusals 4, 5 and 6: every search with every w and T near an edge.
+fn searches() -> u64 {
+    let mut group = Group::new("edges, search, w and T");
+    let pair = pair_of(13, 11);
+    let kinds = [0, 1, 2, 3, 4, 5, 6, 7, 255, 256, 257, 260, 65537, 65540];
+    let windows = (0..=40).chain([48, 63, 64, 128, 255, 256, 258, 263, 1024, 65536, 65538]);
+    let far = [ABOVE_32, ABOVE_32 + 2, ABOVE_32 + 7, TOP_BIT, TOP_BIT + 7];
+    let windows: Vec<usize> = windows.chain(far).chain([usize::MAX]).collect();
+    let thresholds = [0, 1, 2, 255, 256, 4080, 65279, 65280, 65281, 65535, 65536];
+    for search in kinds.into_iter().chain([1 << 31, u32::MAX - 3, u32::MAX]) {
+        for &w in &windows {
+            for t in thresholds.into_iter().chain([1 << 31, u32::MAX]) {
+                let window_allowed = match search {
+                    1 | 2 => w <= 16,
+                    3 => w == 7,
+                    _ => [2, 4, 8, 16].contains(&w),
+                };
+                let refusal = if !(1..=4).contains(&search) {
+                    4
+                } else if !window_allowed {
+                    5
+                } else if (search == 4 && t > 65280) || (search != 4 && t != 0) {
+                    6
+                } else {
+                    0
+                };
+                let request = Request {
+                    n: 4,
+                    search,
+                    w,
+                    t,
+                    row: 3,
+                    column: 5,
+                };
+                searched(&mut group, &pair, request, refusal);
+            }
+        }
+    }
+    group.end()
+}
+
+/// Rows or columns around the last place `last`, at the top of their type, and where `step` times them wraps to little.
+fn places(last: usize, n: usize, step: usize) -> Vec<usize> {
+    let mut all = vec![0, 1, last, last + 1, last + 2, last + n - 1, last + n];
+    all.extend([
+        last + n + 1,
+        1023,
+        1024,
+        1025,
+        65536,
+        ABOVE_32,
+        ABOVE_32 + 1,
+    ]);
+    all.extend([TOP_BIT - n, TOP_BIT - 1, TOP_BIT, TOP_BIT + 1]);
+    all.extend([usize::MAX / step, usize::MAX / step + 1]);
+    for below in [0, 1, n - 2, n - 1, n, n + 1, step - 1, step, last, last + n] {
+        all.push(usize::MAX - below);
+    }
+    all
+}
+
+/// Refusal 7: rows and columns at the last place, one past, and at the top of their type.
+fn block_places() -> u64 {
+    let mut group = Group::new("edges, row and column");
+    for (width, height) in [(16, 16), (20, 17), (17, 32), (64, 16), (33, 35)] {
+        let pair = pair_of(width, height);
+        for n in [4, 8, 16] {
+            let (last_row, last_column) = (height - n, width - n);
+            for row in places(last_row, n, width) {
+                for column in places(last_column, n, width) {
+                    let inside = row <= last_row && column <= last_column;
+                    let refusal = if inside { 0 } else { 7 };
+                    for (search, w) in [(1, 1), (2, 1), (3, 7), (4, 2)] {
+                        let request = Request {
+                            n,
+                            search,
+                            w,
+                            t: 0,
+                            row,
+                            column,
+                        };
+                        searched(&mut group, &pair, request, refusal);
+                    }
+                    let asked = Measuring {
+                        n,
+                        row,
+                        column,
+                        dy: 0,
+                        dx: 0,
+                    };
+                    measured(&mut group, &pair, asked, refusal);
+                    let inside = row < height && column <= last_column;
+                    for side in [0, 1] {
+                        let asked = Viewing {
+                            n,
+                            side,
+                            row,
+                            column,
+                        };
+                        let refusal = if inside { 0 } else { 7 };
+                        viewed(&mut group, &pair, asked, refusal);
+                    }
+                }
+            }
+        }
+    }
+    group.end()
+}
+
+/// Refusal 8: vectors at and past the edges of window 16 and of the older frame. Refusal 12: sides.
+fn vectors_and_sides() -> u64 {
+    let mut group = Group::new("edges, vectors and sides");
+    let parts = (-18..=18).chain([127, 128, 255, 256, -128, -255, -256, 65536, -65536]);
+    let parts: Vec<i32> = parts
+        .chain([i32::MAX, i32::MAX - 1, i32::MIN, i32::MIN + 1])
+        .collect();
+    for (width, height, n, row, column) in [
+        (4, 4, 4, 0, 0),
+        (21, 23, 4, 10, 9),
+        (50, 50, 16, 17, 17),
+        (50, 50, 16, 16, 18),
+        (60, 40, 8, 32, 52),
+        (1024, 4, 4, 0, 1020),
+        (4, 1024, 4, 1020, 0),
+    ] {
+        let pair = pair_of(width, height);
+        for &dy in &parts {
+            for &dx in &parts {
+                let (top, left) = (row as i64 + dy as i64, column as i64 + dx as i64);
+                let allowed = (-16..=16).contains(&dy)
+                    && (-16..=16).contains(&dx)
+                    && (0..=(height - n) as i64).contains(&top)
+                    && (0..=(width - n) as i64).contains(&left);
+                let asked = Measuring {
+                    n,
+                    row,
+                    column,
+                    dy,
+                    dx,
+                };
+                measured(&mut group, &pair, asked, if allowed { 0 } else { 8 });
+            }
+        }
+        for side in [0, 1, 2, 3, 255, 256, 257, 65536, 1 << 31, u32::MAX] {
+            let asked = Viewing {
+                n,
+                side,
+                row,
+                column,
+            };
+            let refusal = if side <= 1 { 0 } else { 12 };
+            viewed(&mut group, &pair, asked, refusal);
+        }
+    }
+    group.end()
+}
+
+/// A pair of 8 × 8 of which width and frame length are set wrong at will. A wrong width is refused before the lengths are looked
+/// at, and the short frame is one short of 8 × 8.
+fn broken_pair(rules: &[i64]) -> Pair {
+    let length = if rules.contains(&2) { 63 } else { 64 };
+    let width = if rules.contains(&1) { 3 } else { 8 };
+    pair_with_lengths(width, 8, 64, length)
+}
+
+/// Every choice of rules out of those that a call tests, in its order.
+fn choices(order: &[i64]) -> Vec<Vec<i64>> {
+    let chosen = |bits: usize| {
+        let rules = order.iter().enumerate();
+        let kept = rules.filter(|(k, _)| bits >> k & 1 == 1);
+        kept.map(|(_, &rule)| rule).collect()
+    };
+    (0..1 << order.len()).map(chosen).collect()
+}
+
+/// "Checked in this order, as far as a call has the input": inputs that break any choice of rules answer with the first of them.
+fn order() -> u64 {
+    let mut group = Group::new("order of refusals");
+    for rules in choices(&[1, 2, 3, 4, 5, 6, 7]) {
+        let first = rules.first().copied().unwrap_or(0);
+        let broken = |rule| rules.contains(&rule);
+        let pair = broken_pair(&rules);
+        for (good, bad) in [(1, 0), (2, 5), (3, 6), (4, u32::MAX)] {
+            let request = Request {
+                n: if broken(3) { 5 } else { 4 },
+                search: if broken(4) { bad } else { good },
+                w: match (broken(5), good) {
+                    (true, _) => 17,
+                    (false, 3) => 7,
+                    (false, _) => 4,
+                },
+                t: if broken(6) { 65281 } else { 0 },
+                row: if broken(7) { 5 } else { 4 },
+                column: 4,
+            };
+            searched(&mut group, &pair, request, first);
+        }
+    }
+    for rules in choices(&[1, 2, 3, 7, 8]) {
+        let first = rules.first().copied().unwrap_or(0);
+        let broken = |rule| rules.contains(&rule);
+        let pair = broken_pair(&rules);
+        for far in [-17, 17, i32::MIN, i32::MAX] {
+            let asked = Measuring {
+                n: if broken(3) { 16 } else { 4 },
+                row: if broken(7) { usize::MAX } else { 4 },
+                column: 4,
+                dy: if broken(8) { far } else { -4 },
+                dx: 0,
+            };
+            measured(&mut group, &pair, asked, first);
+        }
+    }
+    for rules in choices(&[1, 2, 3, 12, 7]) {
+        let first = rules.first().copied().unwrap_or(0);
+        let broken = |rule| rules.contains(&rule);
+        let pair = broken_pair(&rules);
+        for side in [0, 1] {
+            let asked = Viewing {
+                n: if broken(3) { 0 } else { 8 },
+                side: if broken(12) { side + 2 } else { side },
+                row: 7,
+                column: if broken(7) { 1 } else { 0 },
+            };
+            viewed(&mut group, &pair, asked, first);
+        }
+    }
+    group.end()
+}
+
+/// The pairs of the table: small sizes in and out of range, frames that fit, are one short or one long.
+fn table_pairs() -> Vec<Pair> {
+    let mut pairs = Vec::new();
+    for (width, height) in [
+        (0, 4),
+        (3, 4),
+        (4, 3),
+        (4, 4),
+        (5, 4),
+        (4, 7),
+        (8, 8),
+        (16, 16),
+        (17, 18),
+    ] {
+        let right: usize = width * height;
+        let short = right.saturating_sub(1);
+        for (older, newer) in [
+            (right, right),
+            (short, right),
+            (right, short),
+            (right + 1, right),
+            (right, right + 1),
+        ] {
+            pairs.push(pair_with_lengths(width, height, older, newer));
+        }
+    }
+    pairs
+}
+
+/// Every combination of a few good and bad values of every input, against the rival.
+fn table() -> u64 {
+    let mut group = Group::new("table of refusals, single block");
+    let mut others = Group::new("table of refusals, measuring and row view");
+    for pair in table_pairs() {
+        for n in [0, 3, 4, 5, 8, 15, 16, 17, 32] {
+            let last_row = pair.height.saturating_sub(n);
+            let last_column = pair.width.saturating_sub(n);
+            let places = [
+                (0, 0),
+                (last_row, last_column),
+                (last_row + 1, last_column),
+                (last_row, last_column + 1),
+                (usize::MAX, usize::MAX - n),
+            ];
+            for (row, column) in places {
+                for search in [0, 1, 2, 3, 4, 5] {
+                    for w in [0, 1, 2, 3, 4, 7, 8, 16, 17, 32] {
+                        for t in [0, 1, 65280, 65281] {
+                            let request = Request {
+                                n,
+                                search,
+                                w,
+                                t,
+                                row,
+                                column,
+                            };
+                            let answer = archive::search_block(&pair, &request);
+                            let wanted = rival::search_block(&pair, &request);
+                            group.same(format_args!("{pair}, {request}"), answer, wanted);
+                        }
+                    }
+                }
+                for (dy, dx) in [(0, 0), (-1, 0), (0, 1), (17, 0), (0, -17), (i32::MIN, 0)] {
+                    let asked = Measuring {
+                        n,
+                        row,
+                        column,
+                        dy,
+                        dx,
+                    };
+                    let answer = archive::measure(&pair, &asked);
+                    let wanted = rival::measure(&pair, &asked);
+                    others.same(format_args!("{pair}, {asked}"), answer, wanted);
+                }
+                for side in [0, 1, 2] {
+                    let asked = Viewing {
+                        n,
+                        side,
+                        row,
+                        column,
+                    };
+                    let answer = archive::row_view(&pair, &asked);
+                    let wanted = rival::row_view(&pair, &asked);
+                    others.same(format_args!("{pair}, {asked}"), answer, wanted);
+                }
+            }
+        }
+    }
+    group.end() + others.end()
+}
+
+/// All edges; answers with the number of mismatches.
+pub fn run() -> u64 {
+    sizes()
+        + lengths()
+        + block_sizes()
+        + searches()
+        + block_places()
+        + vectors_and_sides()
+        + order()
+        + table()
+}

@@ -1,0 +1,112 @@
+//! What both sides are asked and what they answer: the pair of frames, the request for one block, and an answer with every
+//! field that document 01 gives it. Numbers are plain i64 in the answers, so that no type hides a wrong value.
+
+use std::fmt;
+
+/// A pair as it is lent: two slices and the width and height that are said to go with them. Nothing here need be valid.
+pub struct Pair {
+    pub older: Vec<u8>,
+    pub newer: Vec<u8>,
+    pub width: usize,
+    pub height: usize,
+}
+
+/// What a single-block search is asked, the pair apart.
+#[derive(Clone, Copy)]
+pub struct Request {
+    pub n: usize,
+    pub search: u32,
+    pub w: usize,
+    pub t: u32,
+    pub row: usize,
+    pub column: usize,
+}
+
+/// What measuring one vector is asked, the pair apart.
+#[derive(Clone, Copy)]
+pub struct Measuring {
+    pub n: usize,
+    pub row: usize,
+    pub column: usize,
+    pub dy: i32,
+    pub dx: i32,
+}
+
+/// What a row view is asked, the pair apart.
+#[derive(Clone, Copy)]
+pub struct Viewing {
+    pub n: usize,
+    pub side: u32,
+    pub row: usize,
+    pub column: usize,
+}
+
+/// "The result of a search carries a vector, a distortion and five counts, for m = 16, 8, 4, 2, 1 [...] It also carries the
+/// number dropped." A refused call answers "with the number [...] and zeros elsewhere".
+#[derive(Clone, Copy, PartialEq, Eq, Debug, Default)]
+pub struct Answer {
+    pub refusal: i64,
+    pub dy: i64,
+    pub dx: i64,
+    pub distortion: i64,
+    pub counts: [i64; 5],
+    pub dropped: i64,
+}
+
+/// "The measuring call [...] answers with the distortion."
+#[derive(Clone, Copy, PartialEq, Eq, Debug, Default)]
+pub struct Measured {
+    pub refusal: i64,
+    pub distortion: i64,
+}
+
+/// "The call hands back N pels as the very part of that frame": where the part begins and how long it is.
+#[derive(Clone, Copy, PartialEq, Eq, Debug, Default)]
+pub struct Viewed {
+    pub refusal: i64,
+    pub place: i64,
+    pub length: i64,
+}
+
+impl fmt::Display for Pair {
+    fn fmt(&self, out: &mut fmt::Formatter) -> fmt::Result {
+        write!(
+            out,
+            "width {}, height {}, older of {} bytes, newer of {} bytes",
+            self.width,
+            self.height,
+            self.older.len(),
+            self.newer.len()
+        )
+    }
+}
+
+impl fmt::Display for Request {
+    fn fmt(&self, out: &mut fmt::Formatter) -> fmt::Result {
+        write!(
+            out,
+            "N {}, search {}, w {}, T {}, row {}, column {}",
+            self.n, self.search, self.w, self.t, self.row, self.column
+        )
+    }
+}
+
+impl fmt::Display for Measuring {
+    fn fmt(&self, out: &mut fmt::Formatter) -> fmt::Result {
+        write!(
+            out,
+            "measuring: N {}, row {}, column {}, vector ({},{})",
+            self.n, self.row, self.column, self.dy, self.dx
+        )
+    }
+}
+
+impl fmt::Display for Viewing {
+    fn fmt(&self, out: &mut fmt::Formatter) -> fmt::Result {
+        write!(
+            out,
+            "row view: N {}, side {}, row {}, column {}",
+            self.n, self.side, self.row, self.column
+        )
+    }
+}

@@ -1,0 +1,216 @@
+//! Document 01's worked pairs A to F and J, as far as single blocks and measuring go, with its numbers typed in, against the
+//! archive and against the rival; and what 01 writes down of the preference order, against the rival.
+
+use crate::archive;
+use crate::group::Group;
+use crate::question::{Answer, Measured, Measuring, Pair, Request};
+use crate::rival;
+
+/// Both sides must give the answer that 01 names.
+fn searched(group: &mut Group, what: &str, pair: &Pair, request: Request, wanted: Answer) {
+    let inputs = format!("pair {what}: {pair}, {request}");
+    group.same(&inputs, archive::search_block(pair, &request), wanted);
+    let inputs = format!("the rival's own answer to pair {what}: {pair}, {request}");
+    group.same(&inputs, rival::search_block(pair, &request), wanted);
+}
+
+/// Likewise for the measuring call.
+fn measured(group: &mut Group, what: &str, pair: &Pair, asked: Measuring, distortion: i64) {
+    let wanted = Measured {
+        refusal: 0,
+        distortion,
+    };
+    let inputs = format!("pair {what}: {pair}, {asked}");
+    group.same(&inputs, archive::measure(pair, &asked), wanted);
+    let inputs = format!("the rival's own answer to pair {what}: {pair}, {asked}");
+    group.same(&inputs, rival::measure(pair, &asked), wanted);
+}
+
+/// A request for a block of N 4; search, w, T and place follow.
+fn block_of_4(search: u32, w: usize, t: u32, row: usize, column: usize) -> Request {
+    Request {
+        n: 4,
+        search,
+        w,
+        t,
+        row,
+        column,
+    }
+}
+
+/// An accepted answer.
+fn found(vector: (i64, i64), distortion: i64, counts: [i64; 5], dropped: i64) -> Answer {
+    Answer {
+        refusal: 0,
+        dy: vector.0,
+        dx: vector.1,
+        distortion,
+        counts,
+        dropped,
+    }
+}
+
+fn flat(width: usize, height: usize, older: u8, newer: u8) -> Pair {
+    Pair {
+        older: vec![older; width * height],
+        newer: vec![newer; width * height],
+        width,
+        height,
+    }
+}
+
+fn at_zero(n: usize) -> Measuring {
+    Measuring {
+        n,
+        row: 0,
+        column: 0,
+        dy: 0,
+        dx: 0,
+    }
+}
+
+/// "A* 4×4, N 4, w 16, newer all 10, older all 12: (0,0), 32; pruned 0,0,1,1,1".
+fn pair_a(group: &mut Group) {
+    let pair = flat(4, 4, 12, 10);
+    let full = found((0, 0), 32, [0, 0, 0, 0, 1], 0);
+    let pruned = found((0, 0), 32, [0, 0, 1, 1, 1], 0);
+    searched(group, "A", &pair, block_of_4(1, 16, 0, 0, 0), full);
+    searched(group, "A", &pair, block_of_4(2, 16, 0, 0, 0), pruned);
+    measured(group, "A", &pair, at_zero(4), 32);
+}
+
+/// "B* width 5, height 4, N 4, w 1, older rows 0 10 20 30 40, newer rows 10 20 30 40 99: (0,1), 0; full 2; pruned 0,0,2,2,1,
+/// dropped 1".
+fn pair_b(group: &mut Group) {
+    let pair = Pair {
+        older: [0, 10, 20, 30, 40].repeat(4),
+        newer: [10, 20, 30, 40, 99].repeat(4),
+        width: 5,
+        height: 4,
+    };
+    let full = found((0, 1), 0, [0, 0, 0, 0, 2], 0);
+    let pruned = found((0, 1), 0, [0, 0, 2, 2, 1], 1);
+    searched(group, "B", &pair, block_of_4(1, 1, 0, 0, 0), full);
+    searched(group, "B", &pair, block_of_4(2, 1, 0, 0, 0), pruned);
+    let right = Measuring {
+        dx: 1,
+        ..at_zero(4)
+    };
+    measured(group, "B", &pair, right, 0);
+}
+
+/// "C* 8×8, all 7, N 4, w 1: four still blocks, full 4 each; pruned sums 0,0,16,16,16".
+fn pair_c(group: &mut Group) {
+    let pair = flat(8, 8, 7, 7);
+    let full = found((0, 0), 0, [0, 0, 0, 0, 4], 0);
+    let mut sums = [0; 5];
+    for (row, column) in [(0, 0), (0, 4), (4, 0), (4, 4)] {
+        let request = block_of_4(1, 1, 0, row, column);
+        searched(group, "C", &pair, request, full);
+        let request = block_of_4(2, 1, 0, row, column);
+        let pruned = found((0, 0), 0, [0, 0, 4, 4, 4], 0);
+        searched(group, "C", &pair, request, pruned);
+        let counts = archive::search_block(&pair, &request).counts;
+        for (sum, count) in sums.iter_mut().zip(counts) {
+            *sum += count;
+        }
+    }
+    group.same("pair C: pruned sums", sums, [0, 0, 16, 16, 16]);
+}
+
+/// "D* 4×4, newer alternating 0 and 20 along and down, older all 10: distances 0 at 4 and 2, distortion 160".
+fn pair_d(group: &mut Group) {
+    let row = [0, 20, 0, 20, 20, 0, 20, 0];
+    let pair = Pair {
+        older: vec![10; 16],
+        newer: row.repeat(2),
+        width: 4,
+        height: 4,
+    };
+    let full = found((0, 0), 160, [0, 0, 0, 0, 1], 0);
+    let pruned = found((0, 0), 160, [0, 0, 1, 1, 1], 0);
+    searched(group, "D", &pair, block_of_4(1, 16, 0, 0, 0), full);
+    searched(group, "D", &pair, block_of_4(2, 16, 0, 0, 0), pruned);
+    measured(group, "D", &pair, at_zero(4), 160);
+    let block = rival::Block::new(&pair, 4, 0, 0);
+    let distances = [4, 2, 1].map(|m| block.distance(m, (0, 0)));
+    let inputs = "the rival's own distances of pair D at 4, 2 and 1";
+    group.same(inputs, distances, [0, 0, 160]);
+}
+
+/// "E* C's frames, block (2,2): four-step 17; cross w 2, T 0: 9; T 1: 1" and "F* the same at block (0,0): 7, 4, 1".
+fn pairs_e_and_f(group: &mut Group) {
+    let pair = flat(8, 8, 7, 7);
+    for (what, place, counts) in [("E", 2, [17, 9, 1]), ("F", 0, [7, 4, 1])] {
+        let wanted = counts.map(|count| found((0, 0), 0, [0, 0, 0, 0, count], 0));
+        let four_step = block_of_4(3, 7, 0, place, place);
+        searched(group, what, &pair, four_step, wanted[0]);
+        let cross = block_of_4(4, 2, 0, place, place);
+        searched(group, what, &pair, cross, wanted[1]);
+        let cross = block_of_4(4, 2, 1, place, place);
+        searched(group, what, &pair, cross, wanted[2]);
+    }
+}
+
+/// "J 16×16, 0 against 255: 65,280".
+fn pair_j(group: &mut Group) {
+    for (older, newer) in [(0, 255), (255, 0)] {
+        let pair = flat(16, 16, older, newer);
+        measured(group, "J", &pair, at_zero(16), 65280);
+        for (search, w, t, counts) in [
+            (1, 16, 0, [0, 0, 0, 0, 1]),
+            (2, 16, 0, [1, 1, 1, 1, 1]),
+            (3, 7, 0, [0, 0, 0, 0, 1]),
+            (4, 16, 0, [0, 0, 0, 0, 1]),
+            (4, 16, 65280, [0, 0, 0, 0, 1]),
+        ] {
+            let request = Request {
+                n: 16,
+                search,
+                w,
+                t,
+                row: 0,
+                column: 0,
+            };
+            let wanted = found((0, 0), 65280, counts, 0);
+            searched(group, "J", &pair, request, wanted);
+        }
+    }
+}
+
+/// "It begins (0,0), (-1,0), [...] (2,0) and ends with (16,16)": the rival's order is the one that 01 means.
+fn preference_order(group: &mut Group) {
+    let order = rival::preference_order(16);
+    let begins = [
+        (0, 0),
+        (-1, 0),
+        (0, -1),
+        (0, 1),
+        (1, 0),
+        (-2, 0),
+        (-1, -1),
+        (-1, 1),
+        (0, -2),
+        (0, 2),
+        (1, -1),
+        (1, 1),
+        (2, 0),
+    ];
+    let inputs = "the rival's own preference order: its length, begin and end";
+    group.same(inputs, order.len(), 1089);
+    group.same(inputs, &order[..begins.len()], &begins[..]);
+    group.same(inputs, order.last(), Some(&(16, 16)));
+}
+
+/// All worked pairs; answers with the number of mismatches.
+pub fn run() -> u64 {
+    let mut group = Group::new("worked pairs");
+    pair_a(&mut group);
+    pair_b(&mut group);
+    pair_c(&mut group);
+    pair_d(&mut group);
+    pairs_e_and_f(&mut group);
+    pair_j(&mut group);
+    preference_order(&mut group);
+    group.end()
+}
