@@ -2,14 +2,13 @@
 use Prim.Native.Nat.{ℕ, _+_, _*_, _≤_, _<_}
 use mathlib.Core.Path.{_≡_, refl, ap₂}
 use mathlib.Core.List.{List}
-use native.Mathlib.Nat.{add-zero, zero-mul, one-mul, add-assoc, add-mul, mul-le-mul-right}
+use native.Mathlib.Nat.{add-zero, zero-mul, one-mul, add-mul}
 use native.Mathlib.Omega.{arith}
 use lib.Dec.{T}
 use lib.ListN.{length}
 use Rattle.base.specs.Sum.{sumTo, sumTo-none, sumTo-ext, sumTo-four, sumTo-cut}
-use Rattle.frame.specs.declared.Sizes.{Sizes}
 use Rattle.frame.specs.Refusals.{listed, listed-elim}
-use Rattle.distortion.specs.Blocks.{Measure, rowFrom, rowsFrom, Rows, UpTo, Comparable}
+use Rattle.distortion.specs.Blocks.{Measure, rowFrom, rowsFrom, Rows, BlockRows, UpTo}
 
 module _ (μ : Measure) (older newer : List ℕ) (width a b n : ℕ) where
   pub rows-four :
@@ -39,20 +38,11 @@ module _ (μ : Measure) (older newer : List ℕ) (width a b n : ℕ) where
   pub reached : (k m ceiling d : ℕ) → d ≡ rowsFrom μ older newer width a b n k → ceiling ≤ d → UpTo ceiling (rowsFrom μ older newer width a b n (k + m)) d
   reached k m ceiling d e h = record { below = λ l. absurd (omega arith); beyond = λ l. omega (arith, rows-cut k m) }
 
--- n rows of n pels that begin inside two frames end inside them
-pub inside : (older newer : List ℕ) (s : Sizes) (y x r c n groups : ℕ) → Comparable older newer s y x r c → s .n ≡ n → n ≡ 4 * groups → groups ≤ 256
-    → Rows older newer (s .width) (y * s .width + x) (r * s .width + c) n groups
-inside older newer s y x r c n groups k e four few =
-    record {
-      in-newer = omega (arith, mul-le-mul-right (s .width) (k .placed .down), add-mul y (s .n) (s .width), rows);
-      in-older = omega (arith, mul-le-mul-right (s .width) (k .down), add-mul r (s .n) (s .width), rows);
-      wide = k .placed .paired .fitting .wide;
-      thin = omega arith;
-      few = few;
-    }
-  where
-    rows : s .n * s .width ≡ 4 * groups * s .width
-    rows = rw (e, four)
+-- N rows are N / 4 groups of four
+pub by-four : (older newer : List ℕ) (width n a b m groups : ℕ) → BlockRows older newer width n a b → n ≡ m → m ≡ 4 * groups → groups ≤ 256 → Rows older newer width a b m groups
+by-four older newer width n a b m groups k e four few =
+    let rows : n * width ≡ 4 * groups * width = rw (e, four) in
+    record { in-newer = omega (arith, k .in-newer); in-older = omega (arith, k .in-older); wide = k .wide; thin = omega arith; few = few }
 
 -- an allowed N that is not 16 and not 8
 pub last-size : (n : ℕ) → T (listed n) → (n ≡ 16 → ⊥) → (n ≡ 8 → ⊥) → n ≡ 4

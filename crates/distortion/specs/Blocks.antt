@@ -10,16 +10,18 @@
 use Prim.Native.Nat.{ℕ, _+_, _*_, _≤_, _<_}
 use mathlib.Core.Path.{_≡_, ap₂}
 use mathlib.Core.List.{List}
-use native.Mathlib.Nat.{add-mul}
+use native.Mathlib.Nat.{add-mul, mul-le-mul, mul-le-mul-right}
 use native.Mathlib.Omega.{arith}
+use lib.Dec.{T}
 use lib.ListN.{length, getD}
 use Rattle.base.specs.Sum.{sumTo, sumTo-none, sumTo-more, sumOver, sumOver-ext, sumOver-bound}
+use Rattle.base.specs.Index.{row-fits}
 use Rattle.signed.specs.Values.{absDiff}
 use Rattle.order.specs.declared.Vector.{Vector}
 use Rattle.frame.specs.declared.Sizes.{Sizes}
 use Rattle.frame.specs.Pictures.{Pair, pel}
 use Rattle.frame.specs.Candidates.{olderRow, olderColumn}
-use Rattle.frame.specs.Refusals.{Placed}
+use Rattle.frame.specs.Refusals.{listed, Placed}
 
 abbrev pub Block : Type 0
 Block = ℕ → ℕ → ℕ
@@ -80,6 +82,13 @@ pub record Rows (older newer : List ℕ) (width a b n groups : ℕ) : Type 0 whe
   pub thin : n ≤ 1024
   pub few : groups ≤ 256
 
+-- N rows of N pels, from places a and b on, lie inside two frames of so many columns
+pub record BlockRows (older newer : List ℕ) (width n a b : ℕ) : Type 0 where
+  pub in-newer : a + n * width + n ≤ length newer + width
+  pub in-older : b + n * width + n ≤ length older + width
+  pub wide : width ≤ 1024
+  pub allowed : T (listed n)
+
 -- d is the sum `all` as far as a ceiling goes: below the ceiling it is that sum, and else the sum is not below it either
 pub record UpTo (ceiling all d : ℕ) : Type 0 where
   pub below : d < ceiling → d ≡ all
@@ -95,3 +104,32 @@ pub record Comparable (older newer : List ℕ) (s : Sizes) (y x r c : ℕ) : Typ
 pub distortion-bound : (c n : ℕ) (a b : Block) → ((i j : ℕ) → i < n → j < n → (a i j ≤ c) × (b i j ≤ c)) → distortionBy absolute n a b ≤ n * (n * c)
 unfolding distortionBy
 distortion-bound c n a b h = sumOver-bound c n n _ (λ i j hi hj. let p = h i j hi hj in omega arith)
+
+-- where such blocks begin, and that their rows lie inside
+pub begins : (older newer : List ℕ) (s : Sizes) (y x r c : ℕ) → Comparable older newer s y x r c
+    → (y * s .width + x ≤ length newer) × (r * s .width + c ≤ length older)
+begins older newer s y x r c k =
+    let p = k .placed in
+    let f = p .paired .fitting in (
+      omega (arith, row-fits y (s .height) (s .width) (omega (arith, f .some, p .down)), p .across, p .paired .newer-whole),
+      omega (arith, row-fits r (s .height) (s .width) (omega (arith, f .some, k .down)), k .across, p .paired .older-whole),
+    )
+
+pub block-inside : (older newer : List ℕ) (s : Sizes) (y x r c : ℕ) → Comparable older newer s y x r c
+    → BlockRows older newer (s .width) (s .n) (y * s .width + x) (r * s .width + c)
+block-inside older newer s y x r c k = record {
+  in-newer = omega (arith, mul-le-mul-right (s .width) (k .placed .down), add-mul y (s .n) (s .width), k .placed .across, k .placed .paired .newer-whole);
+  in-older = omega (arith, mul-le-mul-right (s .width) (k .down), add-mul r (s .n) (s .width), k .across, k .placed .paired .older-whole);
+  wide = k .placed .paired .fitting .wide;
+  allowed = k .placed .paired .allowed;
+}
+
+-- no distortion reaches the top of its type
+pub distortion-small : (older newer : List ℕ) (s : Sizes) (y x r c : ℕ) → Comparable older newer s y x r c → s .n * (s .n * 255) < 4294967295
+distortion-small older newer s y x r c k =
+    let f = k .placed .paired .fitting in
+    let n = s .n in
+    let side : n ≤ 1024 = omega (arith, f .across, f .wide) in
+    let line : n * 255 ≤ 261120 = omega arith in
+    let most : n * (n * 255) ≤ 1024 * 261120 = mul-le-mul side line in
+    omega arith

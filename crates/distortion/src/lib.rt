@@ -5,7 +5,7 @@ ghost use Prim.Native.Nat.{_+_, _*_, _≤_};
 ghost use lib.ListN.{length};
 ghost use Rattle.order.specs.Vectors.{vec};
 ghost use Rattle.frame.specs.Pictures.{pairOf};
-ghost use Rattle.distortion.specs.Blocks.{absolute, blockAt, distortionBy, rowFrom, rowsFrom, UpTo, Rows, Comparable};
+ghost use Rattle.distortion.specs.Blocks.{absolute, blockAt, distortionBy, rowFrom, rowsFrom, UpTo, Rows, BlockRows, Comparable};
 ghost use Rattle.distortion.specs.Measured.{measured, refusedBy};
 use frame::Older;
 use frame::Sizes;
@@ -82,25 +82,20 @@ fn rows_by_four(
     sum
 }
 
-// The distortion of the newer block at row y, column x against the older block at row r, column c, as far as the ceiling goes: a sum that
-// reaches the ceiling may stop there.
-pub fn distortion_under(
+// The distortion of the newer block that begins at place a against the older block that begins at place b, as far as the ceiling goes: a sum
+// that reaches the ceiling may stop there.
+pub fn distortion_from(
     older: &[u8],
     newer: &[u8],
-    s: Sizes,
-    y: usize,
-    x: usize,
-    r: usize,
-    c: usize,
+    width: usize,
+    n: usize,
+    a: usize,
+    b: usize,
     ceiling: u32,
 ) -> u32
-    requires { ⌜ Comparable (now older) (now newer) s y x r c ⌝ }
-    ensures { λ d. ⌜ UpTo ceiling (distortionBy absolute (s .n) (blockAt (now (newer .entry)) (s .width) y x) (blockAt (now (older .entry)) (s .width) r c)) d × (d ≤ s .n * (s .n * 255)) ⌝ }
+    requires { ⌜ BlockRows (now older) (now newer) width n a b ⌝ }
+    ensures { λ d. ⌜ UpTo ceiling (rowsFrom absolute (now (older .entry)) (now (newer .entry)) width a b n n) d × (d ≤ n * (n * 255)) ⌝ }
 {
-    let n = s.n;
-    let width = s.width;
-    let a = y * width + x;
-    let b = r * width + c;
     if n == 16 {
         return rows_by_four(older, newer, width, a, b, 16, 4, ceiling);
     }
@@ -123,7 +118,10 @@ pub fn block_distortion(
     requires { ⌜ Comparable (now older) (now newer) s y x r c ⌝ }
     ensures { λ d. ⌜ (d ≡ distortionBy absolute (s .n) (blockAt (now (newer .entry)) (s .width) y x) (blockAt (now (older .entry)) (s .width) r c)) × (d ≤ s .n * (s .n * 255)) ⌝ }
 {
-    distortion_under(older, newer, s, y, x, r, c, 4294967295)
+    let width = s.width;
+    let a = y * width + x;
+    let b = r * width + c;
+    distortion_from(older, newer, width, s.n, a, b, 4294967295)
 }
 
 // Measures one vector: the newer block at row y, column x against the older block at (y + dy, x + dx).

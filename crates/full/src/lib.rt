@@ -37,7 +37,10 @@ pub fn distortion_of(
     let v = order::vector_at(order, k);
     let r = search::past(v.dy, y, 0);
     let c = search::past(v.dx, x, 0);
-    distortion::distortion_under(older, newer, s, y, x, r, c, ceiling)
+    let width = s.width;
+    let here = y * width + x;
+    let there = r * width + c;
+    distortion::distortion_from(older, newer, width, s.n, here, there, ceiling)
 }
 
 // Of the listed candidates, the first of least distortion.

@@ -1,23 +1,35 @@
--- `block_distortion`: no distortion reaches the ceiling.
-use Prim.Native.Nat.{_*_, _≤_}
-use native.Mathlib.Nat.{mul-le-mul}
+-- `block_distortion`: the blocks begin at those places, and no distortion reaches the ceiling.
+use Prim.Native.Nat.{_+_, _*_, _≤_}
 use native.Mathlib.Omega.{arith}
-use borrow.Author.Needs.{needs}
+use lib.ListN.{length}
+use Rattle.distortion.specs.Blocks.{absolute, block-rows, begins, block-inside, distortion-small}
 use Rattle.distortion.proofs.block_distortion.Statement.{statement}
 use Rattle.distortion.proofs.block_distortion.Tie as tie
 
-distortion-under-requires : tie.Need-distortion-under-requires
-distortion-under-requires c κs = search needs
+firsts : (s : tie.Start) → let a = s .args in
+    (a .y * a .s .width + a .x ≤ length (a .newer .now)) × (a .r * a .s .width + a .c ≤ length (a .older .now))
+firsts s = begins _ _ _ _ _ _ _ (s .pre)
+
+mul-a : tie.Need-mul-a
+mul-a c = omega (arith, firsts (c .before .before))
+
+add-a : tie.Need-add-a
+add-a c = omega (arith, firsts (c .before .before))
+
+mul-b : tie.Need-mul-b
+mul-b c = omega (arith, firsts (c .before .before))
+
+add-b : tie.Need-add-b
+add-b c = omega (arith, firsts (c .before .before))
+
+distortion-from-requires : tie.Need-distortion-from-requires
+distortion-from-requires c κs = block-inside _ _ _ _ _ _ _ (c .before .before .pre)
 
 returns : tie.Need-returns
 returns c =
-    let a = c .before .before .before .args in
-    let f = c .before .before .before .pre .placed .paired .fitting in
-    let n = a .s .n in
-    let side : n ≤ 1024 = omega (arith, f .across, f .wide) in
-    let line : n * 255 ≤ 261120 = omega arith in
-    let most : n * (n * 255) ≤ 1024 * 261120 = mul-le-mul side line in
-    (c .distortion-under .ensures .0 .below (omega (arith, c .distortion-under .ensures .1, most)), c .distortion-under .ensures .1)
+    let s = c .before .before .before in
+    let d = c .distortion-from .ensures in
+    rw (block-rows absolute) (d .0 .below (omega (arith, d .1, distortion-small _ _ _ _ _ _ _ (s .pre))), d .1)
 
 pub block-distortion-spec : {M : Type 1} → statement M
-block-distortion-spec = tie.close (tie.spec distortion-under-requires returns)
+block-distortion-spec = tie.close (tie.spec mul-a add-a mul-b add-b distortion-from-requires returns)

@@ -1,14 +1,14 @@
 -- `distortion_of`: the vector at place k is a candidate, so its older block stands inside, dy rows and dx columns on.
-use Prim.Native.Nat.{_*_, _≤_}
+use Prim.Native.Nat.{_+_, _*_, _≤_}
 use mathlib.Core.Path.{_≡_}
-use native.Mathlib.Nat.{mul-le-mul}
 use native.Mathlib.Omega.{arith}
 use borrow.Author.Needs.{needs, sfits-of}
 use denote.Ref.{now}
+use lib.ListN.{length}
 use mir.Facts.{toZ-ofZ}
 use Rattle.order.specs.Preference.{preferred}
 use Rattle.frame.specs.Candidates.{olderRow, olderColumn, OlderInside, candidate-older}
-use Rattle.distortion.specs.Blocks.{distortion}
+use Rattle.distortion.specs.Blocks.{absolute, distortion, Comparable, block-rows, begins, block-inside, distortion-small}
 use Rattle.search.specs.Weighing.{Past, candidate-past}
 use Rattle.full.proofs.distortion_of.Statement.{statement}
 use Rattle.full.proofs.distortion_of.Tie as tie
@@ -43,26 +43,44 @@ past-requires-2 : tie.Need-past-requires-2
 past-requires-2 c κs =
     rw (toZ-ofZ (sfits-of (c .struct-told2 .given .1 .0 .1)), c .before .before .before .vector-at .ensures) (stands (c .before .before .before .before .before .before .before) .1)
 
-distortion-under-requires : tie.Need-distortion-under-requires
-distortion-under-requires c κs =
+-- the blocks can be compared, and begin inside
+pair-in : (c : tie.After-past2) →
+    let s = c .before .before .before .before .before .before .before .before in
+    Comparable (now (s .args .older)) (now (s .args .newer)) (s .args .b .sizes) (s .args .b .y) (s .args .b .x) (c .before .before .past .result) (c .past2 .result)
+pair-in c =
     let s = c .before .before .before .before .before .before .before .before in
     let o = older-in s in
     let at = place c in
     record { placed = s .pre .0 .0 .placed; down = rw (at .0) (o .down); across = rw (at .1) (o .across) }
 
+firsts : (c : tie.After-past2) →
+    let s = c .before .before .before .before .before .before .before .before in
+    let b = s .args .b in
+    (b .y * b .sizes .width + b .x ≤ length (now (s .args .newer))) × (c .before .before .past .result * b .sizes .width + c .past2 .result ≤ length (now (s .args .older)))
+firsts c = begins _ _ _ _ _ _ _ (pair-in c)
+
+mul-here : tie.Need-mul-here
+mul-here c = omega (arith, firsts c)
+
+add-here : tie.Need-add-here
+add-here c = omega (arith, firsts c)
+
+mul-there : tie.Need-mul-there
+mul-there c = omega (arith, firsts c)
+
+add-there : tie.Need-add-there
+add-there c = omega (arith, firsts c)
+
+distortion-from-requires : tie.Need-distortion-from-requires
+distortion-from-requires c κs = block-inside _ _ _ _ _ _ _ (pair-in c)
+
 returns : tie.Need-returns
 unfolding distortion
 returns c =
-    let s = c .before .before .before .before .before .before .before .before .before in
-    let f = s .pre .0 .0 .placed .paired .fitting in
-    let at = place (c .before) in
-    let n = s .args .b .sizes .n in
-    let side : n ≤ 1024 = omega (arith, f .across, f .wide) in
-    let line : n * 255 ≤ 261120 = omega arith in
-    let most : n * (n * 255) ≤ 1024 * 261120 = mul-le-mul side line in
-    (rw (at .0, at .1) at (c .distortion-under .ensures .0), omega (arith, c .distortion-under .ensures .1, most))
+    let k = c .before in
+    let at = place k in
+    let d = c .distortion-from .ensures in
+    (rw (← at .0, ← at .1, block-rows absolute) (d .0), omega (arith, d .1, distortion-small _ _ _ _ _ _ _ (pair-in k)))
 
 pub distortion-of-spec : {M : Type 1} → statement M
-distortion-of-spec =
-    tie.close
-    (tie.spec vector-at-requires past-requires past-requires-2 distortion-under-requires returns)
+distortion-of-spec = tie.close (tie.spec vector-at-requires past-requires past-requires-2 mul-here add-here mul-there add-there distortion-from-requires returns)
