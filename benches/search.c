@@ -11,7 +11,7 @@
 
 enum { WIDTH = 640, HEIGHT = 480, MARGIN = 32, N = 16, W = 16, ROWS = HEIGHT / N, COLUMNS = WIDTH / N, BLOCKS = ROWS * COLUMNS, TURNS = 12 };
 enum { SHEET_WIDTH = WIDTH + 2 * MARGIN, SHEET_HEIGHT = HEIGHT + 2 * MARGIN };
-enum { TRAVEL_Y = 5, TRAVEL_X = -7 };
+enum { TRAVEL_Y = 3, TRAVEL_X = -4 };
 
 static uint8_t older[WIDTH * HEIGHT], newer[WIDTH * HEIGHT];
 

@@ -3,16 +3,12 @@
 --   placeOf      the place of a candidate's older block as an Origin counts; Reached: it stands at or behind that origin
 --   distanceOf   the distance at m of the candidate at place k of the preference table
 --   Tested       what working out the distances at m asks
-use Prim.Native.Nat.{ℕ, _+_, _-_, _*_, _/_, _≤_, _<_}
+use Prim.Native.Nat.{ℕ, _+_, _-_, _*_, _/_, _≤_}
 use mathlib.Core.Path.{_≡_}
 use mathlib.Core.List.{List}
-use lib.Dec.{T}
-use lib.IntN.{ℤ, pos, natAbs, _+ℤ_}
-use lib.ListN.{length, getD}
 use Rattle.order.specs.declared.Vector.{Vector}
-use Rattle.signed.specs.Int.{up, dn}
 use Rattle.order.specs.Preference.{preferred}
-use Rattle.frame.specs.Candidates.{candidate, olderRow, olderColumn}
+use Rattle.frame.specs.Candidates.{olderRow, olderColumn}
 use Rattle.distortion.specs.Blocks.{absolute, blockAt}
 use Rattle.pruning.specs.Distance.{distanceBy}
 use Rattle.search.specs.declared.Spot.{Spot}

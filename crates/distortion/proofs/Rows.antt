@@ -1,12 +1,11 @@
 -- Rows of a block one below the other: four of them are four terms of a sum, and the rows below the first k begin k widths on.
-use Prim.Native.Nat.{ℕ, _+_, _*_, _≤_, _<_}
+use Prim.Native.Nat.{ℕ, _+_, _*_, _≤_}
 use mathlib.Core.Path.{_≡_, refl, ap₂}
 use mathlib.Core.List.{List}
 use native.Mathlib.Nat.{add-zero, zero-mul, one-mul, add-mul}
 use native.Mathlib.Omega.{arith}
 use lib.Dec.{T}
-use lib.ListN.{length}
-use Rattle.base.specs.Sum.{sumTo, sumTo-none, sumTo-ext, sumTo-four, sumTo-cut}
+use Rattle.base.specs.Sum.{sumTo-none, sumTo-ext, sumTo-four, sumTo-cut}
 use Rattle.frame.specs.Refusals.{listed, listed-elim}
 use Rattle.distortion.specs.Blocks.{Measure, rowFrom, rowsFrom, Rows, BlockRows, UpTo}
 

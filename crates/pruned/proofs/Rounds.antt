@@ -5,11 +5,10 @@ use mathlib.Core.Bool.{Bool, true}
 use mathlib.Core.List.{List, [], _∷_, _++_, append-nil, append-assoc, List·Memᴰ·head, List·Memᴰ·tail}
 use native.Mathlib.Nat.{not-suc-le-zero, le-of-suc-le-suc}
 use native.Mathlib.Omega.{arith}
-use lib.ListN.{length, getD, take, set, length-set, length-append, replicate}
-use lib.Seq.{take-suc-set, getD-take, take-all}
-use Rattle.base.specs.Least.{_∈_, leastOf, getD-mem}
-use Rattle.base.specs.Tests.{true-T}
-use Rattle.base.specs.Picks.{pick, picked, pick-few, pick-head}
+use lib.ListN.{length, take, set, length-set, length-append, replicate}
+use lib.Seq.{take-suc-set, take-all}
+use Rattle.base.specs.Least.{_∈_, leastOf}
+use Rattle.base.specs.Picks.{pick, pick-few, pick-head}
 use Rattle.order.specs.Preference.{preferred}
 use Rattle.distortion.specs.Blocks.{absolute}
 use Rattle.search.specs.declared.Spot.{Spot}

@@ -1,13 +1,11 @@
 -- `pruned_alone`: the table is that of the search window, which holds every candidate's older block.
-use Prim.Native.Nat.{_+_, _*_, _≤_}
-use mathlib.Core.Path.{_≡_, sym, _∙_}
+use Prim.Native.Nat.{_*_, _≤_}
 use native.Mathlib.Omega.{arith}
 use borrow.Author.Needs.{needs}
 use denote.Ref.{now}
 use lib.ListN.{length}
 use Rattle.frame.specs.Refusals.{listed-elim}
 use Rattle.sums.specs.Area.{sums-of}
-use Rattle.pruned.specs.Memory.{Lent}
 use Rattle.reach.specs.Reach.{Standing}
 use Rattle.reach.proofs.Windows.{covers-window, window-fillable}
 use Rattle.block.proofs.pruned_alone.Statement.{statement}

@@ -1,5 +1,5 @@
 -- `search_refusal`: the request's chain, and after it the block's place.
-use mathlib.Core.Path.{_≡_, sym, _∙_, ap}
+use mathlib.Core.Path.{_≡_, sym}
 use borrow.Author.Needs.{needs}
 use Rattle.base.specs.Tests.{passed, failed}
 use Rattle.frame.specs.Refusals.{unless, placeOk, sizesOf, first-some, first-none}

@@ -1,6 +1,5 @@
 -- `four_rows`: where the last of four rows lies inside, all four do, and their sums are the four terms.
 use native.Mathlib.Omega.{arith}
-use borrow.Author.Needs.{needs}
 use Rattle.distortion.specs.Blocks.{absolute}
 use Rattle.distortion.proofs.Rows.{rows-four}
 use Rattle.distortion.proofs.four_rows.Statement.{statement}

@@ -1,12 +1,11 @@
 -- `rows_by_four`: after g turns the sum is that of the first 4 × g rows, and the next row begins 4 × g widths on.
 use Prim.Native.Nat.{_+_, _-_, _*_, _≤_}
 use mathlib.Core.Path.{_≡_, refl}
-use native.Mathlib.Nat.{add-zero, zero-mul, add-mul, mul-le-mul, mul-le-mul-right}
+use native.Mathlib.Nat.{zero-mul, add-mul, mul-le-mul, mul-le-mul-right}
 use native.Mathlib.Omega.{arith}
-use borrow.Author.Needs.{needs}
 use Rattle.base.specs.Sum.{sumTo}
 use Rattle.base.specs.Index.{row-next}
-use Rattle.distortion.specs.Blocks.{absolute, rowsFrom, UpTo}
+use Rattle.distortion.specs.Blocks.{absolute, rowsFrom}
 use Rattle.distortion.proofs.Rows.{rows-cut, reached}
 use Rattle.distortion.proofs.rows_by_four.Statement.{statement}
 use Rattle.distortion.proofs.rows_by_four.Tie as tie

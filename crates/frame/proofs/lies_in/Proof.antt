@@ -1,7 +1,6 @@
 -- `lies_in`: the last place from which n pels fit is side - n.
 use Prim.Native.Nat.{_+_, _-_}
 use native.Mathlib.Omega.{arith}
-use borrow.Author.Needs.{needs}
 use borrow.Author.Tests.{lt-leb}
 use lib.Dec.{leb→le, le→leb}
 use Rattle.base.specs.Tests.{iff-test}

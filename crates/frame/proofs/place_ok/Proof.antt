@@ -1,5 +1,4 @@
 -- `place_ok`: down and across.
-use mathlib.Core.Path.{_≡_}
 use borrow.Author.Needs.{needs}
 use Rattle.base.specs.Tests.{passed, failed}
 use Rattle.frame.proofs.place_ok.Statement.{statement}

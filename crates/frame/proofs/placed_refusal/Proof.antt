@@ -1,5 +1,5 @@
 -- `placed_refusal`: the pair's chain, and after it the block's place.
-use mathlib.Core.Path.{_≡_, sym, _∙_}
+use mathlib.Core.Path.{_≡_, sym}
 use borrow.Author.Needs.{needs}
 use Rattle.base.specs.Tests.{passed, failed}
 use Rattle.frame.specs.Refusals.{unless, placeOk, placedRefusal, first-some, first-none}
