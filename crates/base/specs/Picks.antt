@@ -6,13 +6,12 @@ use mathlib.Core.Path.{_≡_, refl, sym, ap, ap₂, _∙_, subst}
 use mathlib.Core.Logic.{_⊎_, inl, inr, ⊎-elim}
 use mathlib.Core.Bool.{Bool, true, false, cond}
 use mathlib.Core.List.{List, [], _∷_, _++_, append-nil, List·Memᴰ·head, List·Memᴰ·cases-cons, List·Memᴰ·not-nil, List·Memᴰ·eq-of-singleton, Memᴰ·append-left, Memᴰ·append-right, List·Memᴰ·append-cases}
-use native.Mathlib.Nat.{le-refl, le-step, le-of-eq, lt-suc-self, not-suc-le-zero, eq-or-lt-of-le, le-of-suc-le-suc, lt-of-not-le, le-antisymm, not-le-of-lt}
-use native.Mathlib.Decide.{decLe}
+use native.Mathlib.Nat.{le-refl, le-step, le-of-eq, lt-suc-self, not-suc-le-zero, eq-or-lt-of-le, le-of-suc-le-suc}
 use native.Mathlib.Numerals.{add-one}
 use native.Mathlib.Omega.{arith}
 use lib.ListN.{length, getD, length-append, List·getD-append}
 use Rattle.base.specs.Sum.{sumTo, sumTo-bound}
-use Rattle.base.specs.Least.{_∈_, better, leastOf, FirstLeast, here, later, first-mem, first-le, leastOf-first, leastOf-more}
+use Rattle.base.specs.Least.{_∈_, leastOf, FirstLeast, here, later, first-mem, first-le, leastOf-first}
 
 unfoldable pub pick : (ℕ → Bool) → ℕ → List ℕ
 pick p zero = []
@@ -86,14 +85,6 @@ pick-head p zero e = rw e (le-refl 1, refl)
 pick-head p (suc n) e = let (h, q) = pick-head p n e in
     (omega (arith, length-append (pick p (suc n)) (cond (p (suc n)) (suc n ∷ []) [])), List·getD-append (pick p (suc n)) _ 0 0 h ∙ q)
 
--- a turn of the loop that looks for the first least: b is what it has so far
-pub leastOf-pick-yes : (f : ℕ → ℕ) (p : ℕ → Bool) (n : ℕ) → p n ≡ true → 0 < length (pick p n)
-    → leastOf f (pick p (n + 1)) ≡ better f (leastOf f (pick p n)) n
-leastOf-pick-yes f p n e h = ap (leastOf f) (pick-yes p n e) ∙ leastOf-more f (pick p n) n h
-
-pub leastOf-pick-no : (f : ℕ → ℕ) (p : ℕ → Bool) (n : ℕ) → p n ≡ false → leastOf f (pick p (n + 1)) ≡ leastOf f (pick p n)
-leastOf-pick-no f p n e = ap (leastOf f) (pick-no p n e)
-
 first-snoc : {f : ℕ → ℕ} {a n : ℕ} (ks : List ℕ) → FirstLeast f a (ks ++ (n ∷ []))
     → FirstLeast f a ks ⊎ ((a ≡ n) × ((k : ℕ) → k ∈ ks → f a < f k))
 first-snoc [] (here e h) = inr (e, λ k m. absurd (List·Memᴰ·not-nil m))
@@ -119,14 +110,3 @@ leastOf-pick f p n h =
     let r = leastOf-first f (pick p n) h in
     let (l, e) = picked p n (first-mem r) in
     record { below = l; passes = e; least = λ k hk ek. first-le r (pick-mem p n hk ek); earlier = earlier-picked f p n _ r }
-
--- and there is only one
-pub bestBelow-unique : {f : ℕ → ℕ} {p : ℕ → Bool} {n a b : ℕ} → BestBelow f p n a → BestBelow f p n b → a ≡ b
-bestBelow-unique {f} {p} {n} {a} {b} r s = le-antisymm (not-after r s) (not-after s r)
-  where
-    not-after : {x y : ℕ} → BestBelow f p n x → BestBelow f p n y → x ≤ y
-    not-after {x} {y} u v = go (decLe x y)
-      where
-        go : Dec (x ≤ y) → x ≤ y
-        go (yes h) = h
-        go (no h) = absurd (not-le-of-lt (u .earlier y (lt-of-not-le h) (v .passes)) (v .least x (u .below) (u .passes)))

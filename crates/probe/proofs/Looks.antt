@@ -24,8 +24,8 @@ use Rattle.search.specs.declared.Spot.{Spot}
 use Rattle.search.specs.declared.Weighed.the-variants.{Cost, Nothing}
 use Rattle.search.specs.Weighing.{Target, target, weighed, weighed-none, weighed-some, still-cost}
 use Rattle.probe.specs.declared.Held.{Held}
-use Rattle.probe.specs.Probe.{plus, same?, Seen, seen, counted, looked, probe, start, around, times, widened, isIn, fresh, Each}
-use Rattle.probe.specs.Probe.Each.{more}
+use Rattle.probe.specs.Probe.{plus, same?, Seen, seen, counted, looked, probe, start, around, times, widened, isIn, fresh}
+use Rattle.base.specs.Lists.{Each, more}
 use Rattle.probe.specs.Held.{point, seenOf, pairs, Pattern, lookedNew, Ongoing, Holds}
 use Rattle.probe.proofs.Probe.{eqb-same, all?, all-within}
 

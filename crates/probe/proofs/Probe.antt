@@ -17,8 +17,8 @@ use Rattle.frame.specs.Candidates.{inWindow, candidate-yes, candidate-wider}
 use Rattle.distortion.specs.Blocks.{distortion}
 use Rattle.search.specs.Weighing.{Target, target}
 use Rattle.search.specs.Exhaustive.{Best}
-use Rattle.probe.specs.Probe.{origin, plus, same?, Seen, seen, counted, looked, probe, start, around, isIn, fresh, Each, Honest, Alike}
-use Rattle.probe.specs.Probe.Each.{none, more}
+use Rattle.probe.specs.Probe.{origin, plus, same?, Seen, seen, counted, looked, probe, start, around, isIn, fresh, Honest, Alike}
+use Rattle.base.specs.Lists.{Each, none, more}
 
 -- ---- the best is a candidate with its own distortion
 

@@ -20,8 +20,9 @@ use Rattle.search.specs.declared.Spot.{Spot}
 use Rattle.search.specs.declared.Found.{Found}
 use Rattle.search.specs.Weighing.{Target, Ready}
 use Rattle.search.specs.Found.{foundAs, onlyAtOne}
+use Rattle.base.specs.Lists.{Each}
 use Rattle.probe.specs.declared.Held.{Held}
-use Rattle.probe.specs.Probe.{Seen, seen, looked, isIn, Each}
+use Rattle.probe.specs.Probe.{Seen, seen, looked, isIn}
 
 abbrev pub point : ℕ → ℕ → Vector
 point y x = vec (unbias 16 y) (unbias 16 x)

@@ -5,7 +5,6 @@
 --   looked   one point is looked at, and counted where it is a candidate; probe: points, in order; start: (0,0) alone
 --   around   a pattern's points from a centre: its offsets, each added to the centre; widened: the offsets times a step size p
 --   fresh    the points that are not among those of a list: isIn
---   Each     a property of each vector of a list
 --   Honest   the best is a candidate, and the distortion is its own
 --   Alike    two targets that a search cannot tell apart which looks at no point outside window n
 use Prim.Native.Nat.{ℕ, suc, _+_, _*_}
@@ -71,10 +70,6 @@ isIn v (u ∷ us) = same? v u || isIn v us
 unfoldable pub fresh : List Vector → List Vector → List Vector
 fresh before [] = []
 fresh before (v ∷ vs) = cond (isIn v before) (fresh before vs) (v ∷ fresh before vs)
-
-pub data Each (P : Vector → Type 0) : List Vector → Type 0 where
-  none : Each P []
-  more : {v : Vector} {vs : List Vector} → P v → Each P vs → Each P (v ∷ vs)
 
 -- what every search owes
 pub record Honest (t : Target) (s : Seen) : Type 0 where

@@ -1,0 +1,1 @@
+// The worked pairs of 01 that belong to the proved set: no code. specs/ has the joint table, proofs/ the one proof over it.
