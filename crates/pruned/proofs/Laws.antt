@@ -12,8 +12,8 @@ use Rattle.frame.specs.Pictures.{Pair}
 use Rattle.frame.specs.Refusals.{listed, listed-elim}
 use Rattle.distortion.specs.Blocks.{absolute, distortion, newerBlock, olderBlock}
 use Rattle.search.specs.Found.{vectorIn, probes}
-use Rattle.search.specs.Exhaustive.{Best, places}
-use Rattle.search.proofs.Exhaustive.{best-below, still-passes}
+use Rattle.search.specs.Exhaustive.{Best, places, best}
+use Rattle.search.proofs.Exhaustive.{best-below, best-is, best-unique, still-passes}
 use Rattle.pruning.specs.Prune.{halves, resolutions}
 use Rattle.pruning.proofs.Blocks.{absolute-lawful}
 use Rattle.pruning.proofs.Counts.{Counted, prune-counted, search-counts, counts-few, dropped-few, last-count}
@@ -72,6 +72,10 @@ module _ (p : Pair) (w y x : ℕ) (allowed : T (listed (p .sizes .n))) where
         best-below p w y x small (chosen p w y x)
         (search-best absolute absolute-lawful (p .sizes .n) (newerBlock p y x) (λ k. olderBlock p y x (preferred k)) (resolutions (p .sizes .n))
         (divides (p .sizes .n) allowed) _ 1088 (still-passes p w y x small down across))
+
+    -- which is one vector: what the full search answers with
+    pub pruned-is-best : vectorIn (prunedFound p w y x) ≡ best p w y x
+    pruned-is-best = best-unique p w y x small _ _ pruned-best (best-is p w y x small down across)
 
     -- every candidate dropped has strictly more
     pub pruned-drops : {k : ℕ} → k ∈ pruning p w y x .dropped → prunedFound p w y x .distortion < distortion p y x (preferred k)

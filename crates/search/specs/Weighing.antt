@@ -1,6 +1,6 @@
 -- 01, "The four searches": what a search may ask of a block at row y, column x, for window w: which vectors are candidates, and their
 -- distortions.
---   Ready     the frames have the sizes that the block names, it stands wholly inside the newer one, and no search takes its w amiss
+--   Ready     the frames have the sizes that the block names, it stands wholly inside the newer one, and its window is at most 16
 --   Past      a row or a column of a candidate's older block, at or behind some other
 --   Target    the block as a search sees it: `target`
 --   weighed   the distortion of a vector, where it is a candidate
