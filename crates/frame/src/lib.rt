@@ -202,14 +202,14 @@ pub fn threshold_ok(search: u32, t: u32) -> bool
     t == 0
 }
 
-// n pels from place `at` on lie in a side of so many.
-fn lies_in(at: usize, n: usize, side: usize) -> bool
-    ensures { λ r. ⌜ r ≡ leb (at + n) side ⌝ }
+// n pels from place `at` on lie in a row or a column of `all` pels.
+fn lies_in(at: usize, n: usize, all: usize) -> bool
+    ensures { λ r. ⌜ r ≡ leb (at + n) all ⌝ }
 {
-    if side < n {
+    if all < n {
         return false;
     }
-    at <= side - n
+    at <= all - n
 }
 
 // 7: the block at row y, column x lies wholly inside the frame.
