@@ -13,16 +13,16 @@ use Rattle.order.specs.declared.Vector.{Vector}
 use Rattle.order.specs.Preference.{preferred}
 use Rattle.frame.specs.Pictures.{pel}
 use Rattle.frame.specs.Candidates.{olderRow, olderColumn, candidate-older}
-use Rattle.frame.specs.Refusals.{listed-elim}
 use Rattle.distortion.specs.Blocks.{Block, absolute, blockAt}
 use Rattle.pruning.specs.Distance.{distanceBy}
 use Rattle.search.specs.declared.Spot.{Spot}
 use Rattle.sums.specs.declared.Window.{Window}
 use Rattle.distance.specs.declared.Origin.{Origin}
 use Rattle.reach.specs.Reach.{Standing, reachOf}
+use Rattle.reach.proofs.Windows.{ready-standing, ready-size}
 use Rattle.squares.specs.Squares.{Cut, gapAt, Compared}
 use Rattle.spread.specs.Spread.{Summed}
-use Rattle.search.specs.Weighing.{Past}
+use Rattle.search.specs.Weighing.{Past, candidate-past}
 use Rattle.distance.specs.Remaining.{placeOf, Reached, distanceOf, Tested}
 use Rattle.squares.proofs.Cuts.{squares-few, compared, distance-is}
 
@@ -51,18 +51,10 @@ module _ (older newer : List ℕ) (b : Spot) (sums : List ℕ) (a : Window) (m :
   vector i = preferred (getD alive i 0)
 
   pub size : n ≤ 16
-  size = listed-elim (λ k. k ≤ 16) (omega arith) (omega arith) (omega arith) n (t .ready .placed .paired .allowed)
+  size = ready-size older newer b (t .ready)
 
   pub standing : Standing b
-  standing =
-      let p = t .ready .placed in
-      record {
-        down = p .down;
-        across = p .across;
-        high = p .paired .fitting .high;
-        wide = p .paired .fitting .wide;
-        window = t .ready .window;
-      }
+  standing = ready-standing older newer b (t .ready)
 
   -- where the older block of a remaining candidate stands
   pub record At (i : ℕ) : Type 0 where
@@ -78,12 +70,12 @@ module _ (older newer : List ℕ) (b : Spot) (sums : List ℕ) (a : Window) (m :
   pub at-candidate : (i : ℕ) → i < count → At i
   at-candidate i h =
       let o = candidate-older (b .sizes) (b .w) (b .y) (b .x) (vector i) (t .listed .each i h .1) in
-      let s = standing in
+      let at = candidate-past older newer b (vector i) (t .ready) (t .listed .each i h .1) in
       let p = parts (vector i .dy) in
       let q = parts (vector i .dx) in
       record {
-        row = record { window = omega (arith, o .window .down, s .window); is = o .row; behind = omega arith; small = omega (arith, o .down, s .high) };
-        column = record { window = omega (arith, o .window .across, s .window); is = o .column; behind = omega arith; small = omega (arith, o .across, s .wide) };
+        row = at .0;
+        column = at .1;
         above = omega (arith, o .row, o .window .down, p .abs);
         below = omega (arith, o .row, o .window .down, p .abs);
         down = o .down;

@@ -4,7 +4,9 @@ use mathlib.Core.List.{List}
 use native.Mathlib.Nat.{le-trans, mul-le-mul, mul-le-mul-right}
 use native.Mathlib.Omega.{arith}
 use lib.ListN.{length}
+use Rattle.frame.specs.Refusals.{listed-elim}
 use Rattle.search.specs.declared.Spot.{Spot}
+use Rattle.search.specs.Weighing.{Ready}
 use Rattle.sums.specs.Filling.{Fillable}
 use Rattle.reach.specs.Reach.{Standing, windowOf, wholeFrame, Covers}
 
@@ -42,3 +44,13 @@ window-fillable older b s n h =
       high = omega (arith, s .window, n);
       table = mul-le-mul {n₂ = 49} {m₂ = 49} (omega (arith, s .window, n)) (omega (arith, s .window, n));
     }
+
+-- a block that is ready to be searched
+module _ (older newer : List ℕ) (b : Spot) (r : Ready older newer b) where
+  pub ready-standing : Standing b
+  ready-standing =
+      let p = r .placed in
+      record { down = p .down; across = p .across; high = p .paired .fitting .high; wide = p .paired .fitting .wide; window = r .window }
+
+  pub ready-size : b .sizes .n ≤ 16
+  ready-size = listed-elim (λ n. n ≤ 16) (omega arith) (omega arith) (omega arith) (b .sizes .n) (r .placed .paired .allowed)

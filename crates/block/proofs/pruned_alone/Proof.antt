@@ -4,20 +4,14 @@ use native.Mathlib.Omega.{arith}
 use borrow.Author.Needs.{needs}
 use denote.Ref.{now}
 use lib.ListN.{length}
-use Rattle.frame.specs.Refusals.{listed-elim}
 use Rattle.sums.specs.Area.{sums-of}
 use Rattle.reach.specs.Reach.{Standing}
-use Rattle.reach.proofs.Windows.{covers-window, window-fillable}
+use Rattle.reach.proofs.Windows.{covers-window, window-fillable, ready-standing, ready-size}
 use Rattle.block.proofs.pruned_alone.Statement.{statement}
 use Rattle.block.proofs.pruned_alone.Tie as tie
 
 standing : (s : tie.Start) → Standing (s .args .b)
-standing s =
-    let p = s .pre .0 .placed in
-    record { down = p .down; across = p .across; high = p .paired .fitting .high; wide = p .paired .fitting .wide; window = s .pre .0 .window }
-
-small : (s : tie.Start) → s .args .b .sizes .n ≤ 16
-small s = listed-elim (λ n. n ≤ 16) (omega arith) (omega arith) (omega arith) _ (s .pre .0 .placed .paired .allowed)
+standing s = ready-standing _ _ _ (s .pre .0)
 
 whole : (s : tie.Start) → s .args .b .sizes .height * s .args .b .sizes .width ≤ length (now (s .args .older))
 whole s = omega (arith, s .pre .0 .placed .paired .older-whole)
@@ -31,7 +25,7 @@ slice-aggregate-fill-sums c = search needs
 fill-sums-requires : tie.Need-fill-sums-requires
 fill-sums-requires c κs =
     let s = c .before .before .before .before .before in
-    rw (c .before .search-window .ensures) (window-fillable _ _ (standing s) (small s) (whole s))
+    rw (c .before .search-window .ensures) (window-fillable _ _ (standing s) (ready-size _ _ _ (s .pre .0)) (whole s))
 
 slice-aggregate-search : tie.Need-slice-aggregate-search
 slice-aggregate-search c = search needs
