@@ -8,14 +8,14 @@ use native.Mathlib.Omega.{arith}
 use lib.Dec.{T, leb, leb→le}
 use lib.ListN.{length}
 use Rattle.order.specs.declared.Vector.{Vector}
-use Rattle.order.specs.Vectors.{Within}
+use Rattle.order.specs.Vectors.{Within, same?}
 use Rattle.frame.specs.Pictures.{Pair}
 use Rattle.frame.specs.Candidates.{still-candidate}
 use Rattle.distortion.specs.Blocks.{distortion}
 use Rattle.search.specs.Weighing.{Target, target}
 use Rattle.search.specs.Exhaustive.{Best}
 use Rattle.base.specs.Lists.{Each}
-use Rattle.probe.specs.Probe.{origin, plus, same?, Seen, start, around, isIn, fresh, Honest, Alike}
+use Rattle.probe.specs.Probe.{origin, plus, Seen, start, around, isIn, fresh, Honest, Alike}
 use Rattle.probe.proofs.Probe.{probe-honest, start-honest, never-lower, probe-count, probe-best, each-fresh, each-around, all?, all-each, all-within, fresh-moved, length-around, around-plus, plus-origin, within-more, each-more, around-within, probe-alike, start-within, start-alike}
 use Rattle.four_step.specs.FourStep.{square, ring, moved, step1, step23, step4, from3, from2, fourStep}
 

@@ -4,7 +4,8 @@ use mathlib.Core.Bool.{true, false}
 use mathlib.Core.List.{[], _∷_}
 use Rattle.order.specs.declared.Vector.{Vector}
 use Rattle.search.specs.Weighing.{Target}
-use Rattle.probe.specs.Probe.{origin, same?, Seen, probe, start, around, isIn, fresh}
+use Rattle.order.specs.Vectors.{same?}
+use Rattle.probe.specs.Probe.{origin, Seen, probe, start, around, isIn, fresh}
 use Rattle.four_step.specs.FourStep.{square, moved, step1, step23, step4, from3, from2}
 
 -- step 1 is the square without its centre, around (0,0)

@@ -13,10 +13,10 @@ use lib.ListN.{length}
 use Rattle.base.specs.Tests.{or-cases}
 use Rattle.signed.specs.Int.{eqZ, eqZ-is, up, dn}
 use Rattle.order.specs.declared.Vector.{Vector}
-use Rattle.order.specs.Vectors.{Within}
+use Rattle.order.specs.Vectors.{Within, same?}
 use Rattle.search.specs.Weighing.{Target}
 use Rattle.base.specs.Lists.{Each}
-use Rattle.probe.specs.Probe.{origin, plus, same?, Seen, probe, start, around, isIn, fresh}
+use Rattle.probe.specs.Probe.{origin, plus, Seen, probe, start, around, isIn, fresh}
 use Rattle.probe.proofs.Probe.{probe-best, probe-all, each-map, each-fresh, each-around, all?, all-each, same-moved, length-around, plus-origin, within-more, start-within}
 use Rattle.four_step.specs.FourStep.{square, ring, moved, step1, step23, step4, from3, from2, fourStep}
 use Rattle.four_step.proofs.FourStep.{new, newBy, new-moved, moved-points, ring-points, step23-within, step1-within}

@@ -12,9 +12,9 @@ use mathlib.Core.Bool.{cond}
 use mathlib.Core.List.{List, [], _∷_}
 use lib.IntN.{pos, negsuc}
 use Rattle.order.specs.declared.Vector.{Vector}
-use Rattle.order.specs.Vectors.{vec}
+use Rattle.order.specs.Vectors.{vec, same?}
 use Rattle.search.specs.Weighing.{Target}
-use Rattle.probe.specs.Probe.{origin, same?, Seen, probe, start, around, fresh}
+use Rattle.probe.specs.Probe.{origin, Seen, probe, start, around, fresh}
 
 -- `negsuc 1` is -2
 unfoldable pub square : List Vector

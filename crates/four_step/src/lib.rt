@@ -4,7 +4,7 @@
 ghost use mathlib.Core.Path.{_≡_};
 ghost use Prim.Native.Nat.{_+_, _≤_};
 ghost use Rattle.search.specs.Weighing.{Ready, targetOf};
-ghost use Rattle.probe.specs.Probe.{same?};
+ghost use Rattle.order.specs.Vectors.{same?};
 ghost use Rattle.probe.specs.Held.{point, seenOf, Ongoing, Holds, foundOf};
 ghost use Rattle.four_step.specs.FourStep.{step1, step23, step4, from3, from2, fourStep};
 use probe::Held;

@@ -16,7 +16,7 @@ use Rattle.signed.specs.declared.Shifted.the-variants.{At, Outside}
 use Rattle.signed.specs.Int.{up, dn, parts, eqZ, eqZ-is}
 use Rattle.signed.specs.Values.{bias, unbias, bias-unbias, unbias-is, shiftedBy, point-is, point-out}
 use Rattle.order.specs.declared.Vector.{Vector}
-use Rattle.order.specs.Vectors.{vec, Within}
+use Rattle.order.specs.Vectors.{vec, Within, same?}
 use Rattle.frame.specs.Pictures.{Pair}
 use Rattle.frame.specs.Candidates.{inWindow, candidate, candidate-older}
 use Rattle.distortion.specs.Blocks.{absolute, blockAt, newerBlock, distortionBy}
@@ -24,7 +24,7 @@ use Rattle.search.specs.declared.Spot.{Spot}
 use Rattle.search.specs.declared.Weighed.the-variants.{Cost, Nothing}
 use Rattle.search.specs.Weighing.{Target, target, weighed, weighed-none, weighed-some, still-cost}
 use Rattle.probe.specs.declared.Held.{Held}
-use Rattle.probe.specs.Probe.{plus, same?, Seen, seen, counted, looked, probe, start, around, times, widened, isIn, fresh}
+use Rattle.probe.specs.Probe.{plus, Seen, seen, counted, looked, probe, start, around, times, widened, isIn, fresh}
 use Rattle.base.specs.Lists.{Each, more}
 use Rattle.probe.specs.Held.{point, seenOf, pairs, Pattern, lookedNew, Ongoing, Holds}
 use Rattle.probe.proofs.Probe.{eqb-same, all?, all-within}

@@ -11,13 +11,13 @@ use lib.ListN.{length}
 use Rattle.base.specs.Tests.{and-left, and-right, le-both, true-T, iff-test}
 use Rattle.signed.specs.Int.{eqZ, eqZ-is, up, dn, sum, added}
 use Rattle.order.specs.declared.Vector.{Vector}
-use Rattle.order.specs.Vectors.{vec, Within}
+use Rattle.order.specs.Vectors.{vec, Within, same?}
 use Rattle.frame.specs.Pictures.{Pair}
 use Rattle.frame.specs.Candidates.{inWindow, candidate-yes, candidate-wider}
 use Rattle.distortion.specs.Blocks.{distortion}
 use Rattle.search.specs.Weighing.{Target, target}
 use Rattle.search.specs.Exhaustive.{Best}
-use Rattle.probe.specs.Probe.{origin, plus, same?, Seen, seen, counted, looked, probe, start, around, isIn, fresh, Honest, Alike}
+use Rattle.probe.specs.Probe.{origin, plus, Seen, seen, counted, looked, probe, start, around, isIn, fresh, Honest, Alike}
 use Rattle.base.specs.Lists.{Each, none, more}
 
 -- ---- the best is a candidate with its own distortion

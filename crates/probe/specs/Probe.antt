@@ -1,6 +1,6 @@
 -- 01, "The four searches": how searches 3 and 4 look at points. "In 3 and 4 a point that is no candidate is neither measured nor counted.
 -- A point met again in a later step is measured and counted again; the centre is not." "Only a strictly smaller distortion replaces."
---   origin, plus, same?   (0,0), the sum of two vectors, and whether two are one
+--   origin, plus   (0,0), and the sum of two vectors
 --   Seen     the best vector by now, its distortion, the number measured
 --   looked   one point is looked at, and counted where it is a candidate; probe: points, in order; start: (0,0) alone
 --   around   a pattern's points from a centre: its offsets, each added to the centre; widened: the offsets times a step size p
@@ -13,9 +13,8 @@ use mathlib.Core.Bool.{Bool, false, cond, _&&_, _||_}
 use mathlib.Core.List.{List, [], _∷_}
 use lib.Dec.{T, ltb}
 use lib.IntN.{ℤ, pos, negsuc, negℤ, _+ℤ_}
-use Rattle.signed.specs.Int.{eqZ}
 use Rattle.order.specs.declared.Vector.{Vector}
-use Rattle.order.specs.Vectors.{vec, Within}
+use Rattle.order.specs.Vectors.{vec, Within, same?}
 use Rattle.search.specs.Weighing.{Target}
 
 abbrev pub origin : Vector
@@ -23,9 +22,6 @@ origin = vec (pos 0) (pos 0)
 
 abbrev pub plus : Vector → Vector → Vector
 plus c o = vec (c .dy +ℤ o .dy) (c .dx +ℤ o .dx)
-
-abbrev pub same? : Vector → Vector → Bool
-same? u v = eqZ (u .dy) (v .dy) && eqZ (u .dx) (v .dx)
 
 pub record Seen : Type 0 where
   pub best : Vector

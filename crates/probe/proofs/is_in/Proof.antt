@@ -7,8 +7,8 @@ use lib.IntN.{pos}
 use lib.ListN.{length, getD}
 use denote.Ref.{now}
 use mir.Facts.{toZ-ofZ}
-use Rattle.order.specs.Vectors.{vec}
-use Rattle.probe.specs.Probe.{plus, same?}
+use Rattle.order.specs.Vectors.{vec, same?}
+use Rattle.probe.specs.Probe.{plus}
 use Rattle.probe.specs.Held.{point}
 use Rattle.probe.proofs.Looks.{Missing, missing-none, missing-hit, missing-more, missing-done}
 use Rattle.probe.proofs.is_in.Statement.{statement}

@@ -1,0 +1,147 @@
+-- 01, "Field, reading, track": "A field fills a lent list of 32-bit signed numbers, three a grid block: dy, dx, distortion; it answers with the
+-- reading and, summed over the blocks, counts and dropped." "Search 2 also fills a lent table of unsigned 32-bit sums: place r × (width + 1) + c
+-- holds the sum of older pels in rows before r and columns before c, r to height, c to width. Searches 1, 3 and 4 leave that table unchanged.
+-- Places past the used part of any lent memory keep what they held."
+--   asked            a request at these sizes
+--   tableOk, listOk  9, 10     what each number asks for
+--   fieldRefusal     1 2 3 4 5 6 9 10
+--   blockOf          what the search asked for answers at grid block k; vectorOf: its vector
+--   entry, entries   the three numbers of a block, and of all grid blocks in order
+--   tableOf          the table of sums
+--   countOver        a count, summed over the blocks
+--   fieldAnswer      what an accepted call answers; refusedField: a refused one
+--   Fielded          what a field call answers, with what list and table then hold: fielded
+use Prim.Native.Nat.{ℕ, _+_, _*_}
+use mathlib.Core.Path.{_≡_}
+use mathlib.Core.Bool.{Bool, cond, not, _||_}
+use mathlib.Core.List.{List, [], _∷_, _++_}
+use borrow.Author.Tests.{ne-eqb}
+use lib.Dec.{leb, eqb}
+use lib.IntN.{ℤ, pos}
+use lib.ListN.{length, getD, drop}
+use Rattle.base.specs.Sum.{sumTo}
+use Rattle.base.specs.Lists.{concatTo}
+use Rattle.order.specs.declared.Vector.{Vector}
+use Rattle.frame.specs.declared.Sizes.{Sizes}
+use Rattle.frame.specs.declared.Request.{Request}
+use Rattle.frame.specs.Pictures.{Pair, pairOf}
+use Rattle.frame.specs.Grid.{blocks, blockRow, blockColumn}
+use Rattle.frame.specs.Refusals.{unless, first, sizesOf, requestRefusal}
+use Rattle.distortion.specs.Blocks.{blockAt}
+use Rattle.search.specs.declared.Found.{Found}
+use Rattle.search.specs.Found.{onlyAtOne, vectorIn}
+use Rattle.sums.specs.Area.{summed}
+use Rattle.block.specs.Block.{searched}
+use Rattle.reading.specs.Reading.{votes, majority}
+use Rattle.field.specs.declared.FieldAnswer.{FieldAnswer}
+
+abbrev pub asked : Sizes → (search w t : ℕ) → Request
+asked s search w t = record { width = s .width; height = s .height; n = s .n; search = search; w = w; t = t }
+
+-- ---- refusals
+
+-- places of the table that are used
+abbrev pub tableSize : Sizes → ℕ
+tableSize s = (s .height + 1) * (s .width + 1)
+
+-- places of the list that are used
+abbrev pub listSize : Sizes → ℕ
+listSize s = 3 * blocks s
+
+-- 9 search 2: table shorter than (width + 1) × (height + 1)
+abbrev pub tableOk : Request → ℕ → Bool
+tableOk q table = not (eqb (q .search) 2) || leb (tableSize (sizesOf q)) table
+
+-- 10 list shorter than three a block
+abbrev pub listOk : Request → ℕ → Bool
+listOk q list = leb (listSize (sizesOf q)) list
+
+-- frames, list and table come in by their lengths
+unfoldable pub fieldRefusal : ℕ → ℕ → Request → ℕ → ℕ → ℕ
+fieldRefusal older newer q list table =
+    first (requestRefusal older newer q)
+    (unless (tableOk q table) 9
+    (unless (listOk q list) 10 0))
+
+-- ---- the blocks
+
+module _ (p : Pair) (q : Request) where
+  unfoldable pub blockOf : ℕ → Found
+  blockOf k = searched p q (blockRow (p .sizes) k) (blockColumn (p .sizes) k)
+
+  abbrev pub vectorOf : ℕ → Vector
+  vectorOf k = vectorIn (blockOf k)
+
+abbrev pub entry : Found → List ℤ
+entry f = f .dy ∷ f .dx ∷ pos (f .distortion) ∷ []
+
+unfoldable pub entries : (ℕ → Found) → ℕ → List ℤ
+entries found n = concatTo (λ k. entry (found k)) n
+
+unfoldable pub tableOf : Pair → List ℕ
+tableOf p = summed (blockAt (p .older) (p .sizes .width) 0 0) (p .sizes .height) (p .sizes .width)
+
+-- ---- the answer
+
+-- the count at place i of five (m = 16, 8, 4, 2, 1), over the first n blocks
+abbrev pub countOver : (ℕ → Found) → ℕ → ℕ → ℕ
+countOver found n i = sumTo (λ k. getD (found k .counts) i 0) n
+
+abbrev pub countsOver : (ℕ → Found) → ℕ → List ℕ
+countsOver found n = let c = countOver found n in c 0 ∷ c 1 ∷ c 2 ∷ c 3 ∷ c 4 ∷ []
+
+abbrev pub droppedOver : (ℕ → Found) → ℕ → ℕ
+droppedOver found n = sumTo (λ k. found k .dropped) n
+
+unfoldable pub fieldAnswer : Pair → Request → FieldAnswer
+fieldAnswer p q =
+    let n = blocks (p .sizes) in
+    let reading = majority (vectorOf p q) n in
+    record {
+      refusal = 0;
+      dy = reading .dy;
+      dx = reading .dx;
+      votes = votes (vectorOf p q) n reading;
+      counts = countsOver (blockOf p q) n;
+      dropped = droppedOver (blockOf p q) n;
+    }
+
+abbrev pub refusedField : ℕ → FieldAnswer
+refusedField refusal = record { refusal = refusal; dy = pos 0; dx = pos 0; votes = 0; counts = onlyAtOne 0; dropped = 0 }
+
+-- ---- the call
+
+pub record Fielded : Type 0 where
+  pub answer : FieldAnswer
+  pub list : List ℤ
+  pub table : List ℕ
+
+abbrev pub asFielded : FieldAnswer → List ℤ → List ℕ → Fielded
+asFielded answer list table = record { answer = answer; list = list; table = table }
+
+-- what list and table hold after an accepted call
+abbrev pub filledList : Pair → Request → List ℤ → List ℤ
+filledList p q list = entries (blockOf p q) (blocks (p .sizes)) ++ drop (listSize (p .sizes)) list
+
+abbrev pub filledTable : Pair → Request → List ℕ → List ℕ
+filledTable p q table = cond (eqb (q .search) 2) (tableOf p ++ drop (tableSize (p .sizes)) table) table
+
+unfoldable pub fielded : List ℕ → List ℕ → Request → List ℤ → List ℕ → Fielded
+fielded older newer q list table =
+    let p = pairOf older newer (sizesOf q) in
+    let refusal = fieldRefusal (length older) (length newer) q (length list) (length table) in
+    cond (eqb refusal 0) (asFielded (fieldAnswer p q) (filledList p q list) (filledTable p q table)) (asFielded (refusedField refusal) list table)
+
+module _ (older newer : List ℕ) (q : Request) (list : List ℤ) (table : List ℕ) where
+  abbrev pub refusalIs : ℕ
+  refusalIs = fieldRefusal (length older) (length newer) q (length list) (length table)
+
+  pub field-refused : (refusalIs ≡ 0 → ⊥) → fielded older newer q list table ≡ asFielded (refusedField refusalIs) list table
+  unfolding fielded
+  field-refused h = rw (ne-eqb _ 0 h)
+
+  pub field-accepted : refusalIs ≡ 0 →
+      let p = pairOf older newer (sizesOf q) in
+      fielded older newer q list table ≡ asFielded (fieldAnswer p q) (filledList p q list) (filledTable p q table)
+  unfolding fielded
+  field-accepted h = rw h

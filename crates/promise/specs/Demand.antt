@@ -1,0 +1,281 @@
+-- Demand 3 of 01, whole: "one claim about the whole list of calls". To be read from top to bottom beside 01, "Field, reading, track", from the paragraph that
+-- begins "Demand 3 is one claim" on; proofs/Promise.antt has the theorem, promise : (calls : List Call) → Promise calls.
+--   Call                     the calls
+--   travel                   a pair's travel, by exhaustive bests
+--   refusalOf, accept        which refusal applies to a call, and what an accepted one does
+--   reckon, reckoned         the plain reckoning
+--   accepted, standingOn, trackAt   where the reckoning ends, in one line
+--   Result, run, last        what the gauge's own calls answer, one after the other
+--   Each, EachStep           of each call, of each accepted step
+--   Promise                  what is promised
+-- From below come: candidate and distortion (frame, distortion), Best and best (search), votes, majority and Most (reading), the steps of search 2 (pruned),
+-- and what the contracts of the code cite: blockFound (block), fielded (field), newTrack, homed and stepped (track).
+use Prim.Native.Nat.{ℕ, _+_, _*_, _≤_, _<_}
+use mathlib.Core.Path.{_≡_}
+use mathlib.Core.Bool.{Bool, true, cond, not, _&&_}
+use mathlib.Core.List.{List, [], _∷_, _++_}
+use lib.Dec.{T, leb, eqb}
+use lib.IntN.{ℤ, pos, negℤ, _+ℤ_}
+use lib.Signed.{_≤ℤ_, _<ℤ_}
+use lib.ListN.{length, getD, drop}
+use Rattle.base.specs.Sum.{sumTo}
+use Rattle.base.specs.Lists.{concatTo}
+use Rattle.order.specs.declared.Vector.{Vector}
+use Rattle.order.specs.Vectors.{vec}
+use Rattle.order.specs.Preference.{preferred}
+use Rattle.frame.specs.Pictures.{Pair}
+use Rattle.frame.specs.Grid.{blocks, blockRow, blockColumn}
+use Rattle.frame.specs.Candidates.{candidate}
+use Rattle.frame.specs.Cross.{crossWindow, log2}
+use Rattle.frame.specs.Refusals.{unless, first}
+use Rattle.distortion.specs.Blocks.{distortion}
+use Rattle.search.specs.declared.Found.{Found}
+use Rattle.search.specs.Found.{vectorIn, probes}
+use Rattle.search.specs.Exhaustive.{Best, passing, best}
+use Rattle.probe.specs.Probe.{isIn}
+use Rattle.pruned.specs.Answer.{pruning}
+use Rattle.block.specs.Block.{blockFound}
+use Rattle.reading.specs.Reading.{majority, Most}
+use Rattle.field.specs.Field.{asked, listSize, fieldRefusal, Fielded, fielded}
+use Rattle.track.specs.declared.Track.{Track}
+use Rattle.track.specs.declared.Homed.{Homed}
+use Rattle.track.specs.Track.{newTrack, inRange, homedAt, homed, Stepping, stepped}
+
+-- ---- 1. The calls
+
+-- "They are Home and Step with search 2, whatever their inputs and whatever lent memory held." Home (y, x); Step by search 2: a pair, w, T, and what list
+-- and table hold
+pub data Call : Type 0 where
+  home : (y x : ℤ) → Call
+  step : (p : Pair) (w t : ℕ) (list : List ℤ) (table : List ℕ) → Call
+
+-- ---- 2. The plain reckoning: "fed the calls' inputs alone (of lent list and table just the lengths), keeps the track's four values from New"
+
+-- grid block k's exhaustive best: "its candidate of least distortion (equals: preference order)"
+abbrev pub bestOf : Pair → ℕ → ℕ → Vector
+bestOf p w k = best p w (blockRow (p .sizes) k) (blockColumn (p .sizes) k)
+
+-- both signs turned
+abbrev pub turned : Vector → Vector
+turned v = vec (negℤ (v .dy)) (negℤ (v .dx))
+
+-- "the travel is the one most grid blocks have (likewise), reversed"
+unfoldable pub travel : Pair → ℕ → Vector
+travel p w = turned (majority (bestOf p w) (blocks (p .sizes)))
+
+-- the refusal that applies to a call, with these values as the track; 0 where none does
+unfoldable pub refusalOf : Track → Call → ℕ
+refusalOf t (home y x) = unless (inRange y && inRange x) 11 0
+refusalOf t (step p w threshold list table) =
+    first (fieldRefusal (length (p .older)) (length (p .newer)) (asked (p .sizes) 2 w threshold) (length list) (length table))
+    (unless (t .homed) 31
+    (unless (not (leb 1000000 (t .steps))) 32
+    (unless (inRange (t .y +ℤ travel p w .dy) && inRange (t .x +ℤ travel p w .dx)) 33 0)))
+
+-- "Any other is accepted, a step's pair with it, and does as Home and Step above."
+unfoldable pub accept : Track → Call → Track
+accept t (home y x) = homedAt y x
+accept t (step p w threshold list table) =
+    record { homed = true; y = t .y +ℤ travel p w .dy; x = t .x +ℤ travel p w .dx; steps = t .steps + 1 }
+
+-- "A call to which a refusal applies, with these as the track, changes nothing."
+unfoldable pub reckon : Track → Call → Track
+reckon t c = cond (eqb (refusalOf t c) 0) (accept t c) t
+
+unfoldable pub reckoned : Track → List Call → Track
+reckoned t [] = t
+reckoned t (c ∷ cs) = reckoned (reckon t c) cs
+
+-- ---- 3. The same in one line: the last accepted homing place plus the travels of all pairs accepted since, their number as steps
+
+-- the accepted calls, in order
+unfoldable pub accepted : Track → List Call → List Call
+accepted t [] = []
+accepted t (c ∷ cs) = cond (eqb (refusalOf t c) 0) (c ∷ accepted (reckon t c) cs) (accepted (reckon t c) cs)
+
+-- nowhere before the first homing; then the last homing's place, and the travels since, in order
+pub data Standing : Type 0 where
+  nowhere : Standing
+  from : (y x : ℤ) (travels : List Vector) → Standing
+
+unfoldable pub standingOn : Standing → List Call → Standing
+standingOn s [] = s
+standingOn s (home y x ∷ cs) = standingOn (from y x []) cs
+standingOn nowhere (step p w threshold list table ∷ cs) = standingOn nowhere cs
+standingOn (from y x vs) (step p w threshold list table ∷ cs) = standingOn (from y x (vs ++ (travel p w ∷ []))) cs
+
+unfoldable pub sumDown : List Vector → ℤ
+sumDown [] = pos 0
+sumDown (v ∷ vs) = v .dy +ℤ sumDown vs
+
+unfoldable pub sumAcross : List Vector → ℤ
+sumAcross [] = pos 0
+sumAcross (v ∷ vs) = v .dx +ℤ sumAcross vs
+
+unfoldable pub trackAt : Standing → Track
+trackAt nowhere = newTrack
+trackAt (from y x vs) = record { homed = true; y = y +ℤ sumDown vs; x = x +ℤ sumAcross vs; steps = length vs }
+
+-- no homing among the calls
+unfoldable pub NoHoming : List Call → Type 0
+NoHoming [] = Unit {0}
+NoHoming (home y x ∷ cs) = ⊥
+NoHoming (step p w threshold list table ∷ cs) = NoHoming cs
+
+-- ---- 4. The run: "The first gets a new track, each later one the track just handed back"
+
+-- what the contracts of Track::home and Track::step say that a call answers; a step's with what list and table then hold
+pub data Result : Type 0 where
+  homing : Homed → Result
+  stepping : Stepping → Result
+
+abbrev pub trackIn : Result → Track
+trackIn (homing h) = h .track
+trackIn (stepping s) = s .stepped .track
+
+abbrev pub refusalIn : Result → ℕ
+refusalIn (homing h) = h .refusal
+refusalIn (stepping s) = s .stepped .answer .refusal
+
+unfoldable pub call : Track → Call → Result
+call t (home y x) = homing (homed t y x)
+call t (step p w threshold list table) = stepping (stepped t (p .older) (p .newer) (asked (p .sizes) 2 w threshold) list table)
+
+unfoldable pub runFrom : Track → List Call → List Result
+runFrom t [] = []
+runFrom t (c ∷ cs) = call t c ∷ runFrom (trackIn (call t c)) cs
+
+abbrev pub run : List Call → List Result
+run calls = runFrom newTrack calls
+
+-- the track handed back last
+unfoldable pub last : Track → List Result → Track
+last t [] = t
+last t (r ∷ rs) = last (trackIn r) rs
+
+-- ---- 5. The promise
+
+-- P holds of each call: of the reckoning's values before it, the call, and what the run answered. Acceptance is the reckoning's, never the run's
+pub data Each (P : Track → Call → Result → Type 0) : Track → List Call → List Result → Type 0 where
+  none : {t : Track} → Each P t [] []
+  next : {t : Track} {c : Call} {r : Result} {cs : List Call} {rs : List Result} → P t c r → Each P (reckon t c) cs rs → Each P t (c ∷ cs) (r ∷ rs)
+
+abbrev pub AtStep : (Pair → ℕ → List ℤ → Stepping → Type 0) → Track → Call → Result → Type 0
+AtStep Q t (home y x) r = Unit {0}
+AtStep Q t (step p w threshold list table) (homing h) = ⊥
+AtStep Q t (step p w threshold list table) (stepping s) = refusalOf t (step p w threshold list table) ≡ 0 → Q p w list s
+
+-- Q holds of each accepted step: of its pair and w, what its list held, and all that it answered
+abbrev pub EachStep : List Call → (Pair → ℕ → List ℤ → Stepping → Type 0) → Type 0
+EachStep calls Q = Each (AtStep Q) newTrack calls (run calls)
+
+-- each grid block
+abbrev pub EachBlock : Pair → (ℕ → Type 0) → Type 0
+EachBlock p Q = (k : ℕ) → k < blocks (p .sizes) → Q k
+
+-- each grid block, by its row and column of pels
+abbrev pub EachGridPlace : Pair → (ℕ → ℕ → ℕ → Type 0) → Type 0
+EachGridPlace p Q = EachBlock p (λ k. Q k (blockRow (p .sizes) k) (blockColumn (p .sizes) k))
+
+-- each place where a block may stand, "on the grid or off it"
+abbrev pub EachPlace : Pair → (ℕ → ℕ → Type 0) → Type 0
+EachPlace p Q = (y x : ℕ) → y + p .sizes .n ≤ p .sizes .height → x + p .sizes .n ≤ p .sizes .width → Q y x
+
+-- the sum over the grid's blocks
+abbrev pub overGrid : Pair → (ℕ → ℕ → ℕ) → ℕ
+overGrid p f = sumTo (λ k. f (blockRow (p .sizes) k) (blockColumn (p .sizes) k)) (blocks (p .sizes))
+
+-- dy, dx and distortion of each grid block's exhaustive best, in order
+unfoldable pub bestEntries : Pair → ℕ → List ℤ
+bestEntries p w =
+    concatTo (λ k.
+    let v = bestOf p w k in
+    v .dy ∷ v .dx ∷ pos (distortion p (blockRow (p .sizes) k) (blockColumn (p .sizes) k) v) ∷ []) (blocks (p .sizes))
+
+-- the distortion that a list reports for grid block k
+abbrev pub reported : List ℤ → ℕ → ℤ
+reported list k = getD list (3 * k + 2) (pos 0)
+
+-- how many vectors of window 16 pass a test
+abbrev pub number : (Vector → Bool) → ℕ
+number test = length (passing test)
+
+unfoldable pub vectorsAt : List ℕ → List Vector
+vectorsAt [] = []
+vectorsAt (k ∷ ks) = preferred k ∷ vectorsAt ks
+
+-- "Dropped are the candidates that search 2's steps drop, finally measured the others."
+module _ (p : Pair) (w y x : ℕ) where
+  abbrev pub isDropped : Vector → Bool
+  isDropped v = candidate (p .sizes) w y x v && isIn v (vectorsAt (pruning p w y x .dropped))
+
+  abbrev pub isMeasured : Vector → Bool
+  isMeasured v = candidate (p .sizes) w y x v && not (isIn v (vectorsAt (pruning p w y x .dropped)))
+
+-- the single-block call and the field call on a pair
+abbrev pub single : Pair → (search w t : ℕ) → (y x : ℕ) → Found
+single p search w t y x = blockFound (p .older) (p .newer) (asked (p .sizes) search w t) y x
+
+abbrev pub grid : Pair → (search w t : ℕ) → List ℤ → List ℕ → Fielded
+grid p search w t list table = fielded (p .older) (p .newer) (asked (p .sizes) search w t) list table
+
+-- a block's result is not lower than the exhaustive best, after at most so many probes
+abbrev pub NotLower : Pair → ℕ → (y x : ℕ) → Found → ℕ → Type 0
+NotLower p w y x f most = (distortion p y x (best p w y x) ≤ f .distortion) × (probes f ≤ most)
+
+-- no block of a field is lower than an accepted step's list has it, after at most so many probes a block
+abbrev pub FieldNotLower : Pair → List ℤ → Fielded → ℕ → Type 0
+FieldNotLower p list f most =
+    EachBlock p (λ k. reported list k ≤ℤ reported (f .list) k) × (getD (f .answer .counts) 4 0 ≤ blocks (p .sizes) * most)
+
+-- every place a block may stand at, and every field whose list has room, is searched unrefused
+abbrev pub Runs : Pair → (search w t : ℕ) → Type 0
+Runs p search w t =
+    EachPlace p (λ y x. single p search w t y x .refusal ≡ 0)
+    × ((list : List ℤ) (table : List ℕ) → listSize (p .sizes) ≤ length list → grid p search w t list table .answer .refusal ≡ 0)
+
+pub record Promise (calls : List Call) : Type 0 where
+  -- the track stands at the last accepted homing place plus the travels of all pairs accepted since, with their number as its steps
+  pub stands : last newTrack (run calls) ≡ trackAt (standingOn nowhere (accepted newTrack calls))
+  -- all zeros and unhomed where no homing was accepted
+  pub unhomed : NoHoming (accepted newTrack calls) → last newTrack (run calls) ≡ newTrack
+  -- "In the end track and reckoning are equal,
+  pub reckoning : last newTrack (run calls) ≡ reckoned newTrack calls
+  -- and each call was refused exactly when the reckoning refuses it": by the same number, and with the reckoning's track handed back
+  pub refusals : Each (λ t c r. refusalIn r ≡ refusalOf t c) newTrack calls (run calls)
+  pub tracks : Each (λ t c r. trackIn r ≡ reckon t c) newTrack calls (run calls)
+  -- the travel is the reverse of the vector that most grid blocks have as exhaustive best, and that vector is the reading
+  pub travels : EachStep calls (λ p w list s. (v : Vector) × Most (bestOf p w) (blocks (p .sizes)) v × (travel p w ≡ turned v)
+      × (s .stepped .answer .dy ≡ v .dy) × (s .stepped .answer .dx ≡ v .dx))
+  -- a candidate of least distortion, by preference order: of each block's exhaustive best, on the grid or off it
+  pub bests : EachStep calls (λ p w list s. EachPlace p (λ y x. Best p w y x (best p w y x)))
+  -- "an accepted step .. lists each block's exhaustive best with that vector's distortion, the reported one"; places past them keep what they held
+  pub listed : EachStep calls (λ p w list s. s .list ≡ bestEntries p w ++ drop (listSize (p .sizes)) list)
+  -- no candidate has less than the reported distortion,
+  pub no-less : EachStep calls (λ p w list s. EachGridPlace p (λ k y x. (v : Vector) → T (candidate (p .sizes) w y x v)
+      → reported (s .list) k ≤ℤ pos (distortion p y x v)))
+  -- and every dropped one has strictly more
+  pub dropped-more : EachStep calls (λ p w list s. EachGridPlace p (λ k y x. (v : Vector) → T (isDropped p w y x v)
+      → reported (s .list) k <ℤ pos (distortion p y x v)))
+  -- "A block's result counts them as dropped and at m = 1": by search 2, on the grid or off it, with the exhaustive best and its distortion
+  pub block-results : EachStep calls (λ p w list s. EachPlace p (λ y x. let f = single p 2 w 0 y x in
+      (f .refusal ≡ 0) × (vectorIn f ≡ best p w y x) × (f .distortion ≡ distortion p y x (best p w y x))
+      × (f .dropped ≡ number (isDropped p w y x)) × (probes f ≡ number (isMeasured p w y x))
+      × (f .dropped + probes f ≡ number (candidate (p .sizes) w y x))))
+  -- "an accepted step answers with the sums over blocks": dropped, finally measured, and both together all candidates
+  pub sums : EachStep calls (λ p w list s. let a = s .stepped .answer in
+      (a .dropped ≡ overGrid p (λ y x. number (isDropped p w y x)))
+      × (getD (a .counts) 4 0 ≡ overGrid p (λ y x. number (isMeasured p w y x)))
+      × (a .dropped + getD (a .counts) 4 0 ≡ overGrid p (λ y x. number (candidate (p .sizes) w y x))))
+  -- "Four-step and cross .. run, unrefused, by field or single block, on an accepted step's frames and N, cross with any T it takes."
+  pub four-step-runs : EachStep calls (λ p w list s. Runs p 3 7 0)
+  pub cross-runs : EachStep calls (λ p w list s. (u t : ℕ) → T (crossWindow u) → t ≤ 65280 → Runs p 4 u t)
+  -- "Each is held against the exhaustive best, for that step's w, of the block at the same place": four-step, where w is 7 or more, never ends lower, within
+  -- 27 probes a block
+  pub four-step : EachStep calls (λ p w list s. 7 ≤ w → (t y x : ℕ) → single p 3 7 t y x .refusal ≡ 0 → NotLower p w y x (single p 3 7 t y x) 27)
+  pub four-step-field : EachStep calls (λ p w list s. 7 ≤ w → (t : ℕ) (l : List ℤ) (table : List ℕ) → grid p 3 7 t l table .answer .refusal ≡ 0
+      → FieldNotLower p (s .list) (grid p 3 7 t l table) 27)
+  -- cross with the same w, whatever its T, never ends lower, within 5 + 4 log2 w probes a block
+  pub cross : EachStep calls (λ p w list s. (t y x : ℕ) → single p 4 w t y x .refusal ≡ 0 → NotLower p w y x (single p 4 w t y x) (5 + 4 * log2 w))
+  pub cross-field : EachStep calls (λ p w list s. (t : ℕ) (l : List ℤ) (table : List ℕ) → grid p 4 w t l table .answer .refusal ≡ 0
+      → FieldNotLower p (s .list) (grid p 4 w t l table) (5 + 4 * log2 w))
