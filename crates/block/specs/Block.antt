@@ -1,17 +1,18 @@
 -- 01, "Field, reading, track": "A single-block search takes neither list nor table; its block stands at any pel row and column."
 --   searchRefusal   1 2 3 4 5 6 7
 --   blockFound      the answer: the number and zeros, or what the search asked for finds
-use Prim.Native.Nat.{ℕ, _+_}
-use mathlib.Core.Path.{_≡_}
+use Prim.Native.Nat.{ℕ, _+_, _≤_}
+use mathlib.Core.Path.{_≡_, ap, sym, _∙_}
 use mathlib.Core.Bool.{cond}
 use mathlib.Core.List.{List}
-use borrow.Author.Tests.{ne-eqb}
+use native.Mathlib.Decide.{ℕ-discrete}
+use borrow.Author.Tests.{ne-eqb, le-leb}
 use lib.Dec.{eqb}
 use lib.ListN.{length}
 use Rattle.base.specs.Tests.{le-both}
 use Rattle.frame.specs.declared.Request.{Request}
 use Rattle.frame.specs.Pictures.{Pair, pairOf}
-use Rattle.frame.specs.Refusals.{unless, first, placeOk, requestRefusal, sizesOf, unless-zero, first-zero, Placed, Asked, asked}
+use Rattle.frame.specs.Refusals.{unless, first, placeOk, requestRefusal, sizesOf, unless-zero, first-zero, first-none, Placed, Asked, asked}
 use Rattle.search.specs.declared.Found.{Found}
 use Rattle.search.specs.Weighing.{target}
 use Rattle.search.specs.Found.{refusedSearch}
@@ -52,10 +53,24 @@ searchable older newer q y x e =
     let r = asked older newer q (a .0) in
     record { asked = r; placed = record { paired = r .paired; down = b .0; across = b .1 } }
 
+-- a request that is not refused, at a block that lies in the newer frame
+pub search-fine : (older newer : ℕ) (q : Request) (y x : ℕ) → requestRefusal older newer q ≡ 0 → y + q .n ≤ q .height → x + q .n ≤ q .width
+    → searchRefusal older newer q y x ≡ 0
+unfolding searchRefusal
+search-fine older newer q y x e down across = first-none (requestRefusal older newer q) _ e ∙ rw (le-leb _ _ down, le-leb _ _ across)
+
 module _ (older newer : List ℕ) (q : Request) (y x : ℕ) where
   pub block-refused : (searchRefusal (length older) (length newer) q y x ≡ 0 → ⊥) → blockFound older newer q y x ≡ refusedSearch (searchRefusal (length older) (length newer) q y x)
   unfolding blockFound
   block-refused h = rw (ne-eqb _ 0 h)
+
+  -- a call that answers 0 was accepted
+  pub block-unrefused : blockFound older newer q y x .refusal ≡ 0 → searchRefusal (length older) (length newer) q y x ≡ 0
+  block-unrefused e = go (ℕ-discrete (searchRefusal (length older) (length newer) q y x) 0)
+    where
+      go : Dec (searchRefusal (length older) (length newer) q y x ≡ 0) → searchRefusal (length older) (length newer) q y x ≡ 0
+      go (yes h) = h
+      go (no h) = sym (ap (λ (f : Found). f .refusal) (block-refused h)) ∙ e
 
   pub block-accepted : searchRefusal (length older) (length newer) q y x ≡ 0 → blockFound older newer q y x ≡ searched (pairOf older newer (sizesOf q)) q y x
   unfolding blockFound

@@ -10,11 +10,12 @@
 --   tableOf          the table of sums
 --   countOver        a count, summed over the blocks
 --   fieldAnswer      what an accepted call answers; refusedField: a refused one
---   Fielded          what a field call answers, with what list and table then hold: fielded
+--   Fielded          what a field call answers, with what list and table then hold: fielded; accepted: of an accepted call
 use Prim.Native.Nat.{ℕ, _+_, _*_}
-use mathlib.Core.Path.{_≡_}
+use mathlib.Core.Path.{_≡_, ap, sym, _∙_}
 use mathlib.Core.Bool.{Bool, cond, not, _||_}
 use mathlib.Core.List.{List, [], _∷_, _++_}
+use native.Mathlib.Decide.{ℕ-discrete}
 use borrow.Author.Tests.{ne-eqb}
 use lib.Dec.{leb, eqb}
 use lib.IntN.{ℤ, pos}
@@ -78,8 +79,8 @@ entry f = f .dy ∷ f .dx ∷ pos (f .distortion) ∷ []
 unfoldable pub entries : (ℕ → Found) → ℕ → List ℤ
 entries found n = concatTo (λ k. entry (found k)) n
 
-unfoldable pub tableOf : Pair → List ℕ
-tableOf p = summed (blockAt (p .older) (p .sizes .width) 0 0) (p .sizes .height) (p .sizes .width)
+unfoldable pub tableOf : List ℕ → Sizes → List ℕ
+tableOf older s = summed (blockAt older (s .width) 0 0) (s .height) (s .width)
 
 -- ---- the answer
 
@@ -119,18 +120,22 @@ pub record Fielded : Type 0 where
 abbrev pub asFielded : FieldAnswer → List ℤ → List ℕ → Fielded
 asFielded answer list table = record { answer = answer; list = list; table = table }
 
--- what list and table hold after an accepted call
+-- an accepted call
 abbrev pub filledList : Pair → Request → List ℤ → List ℤ
 filledList p q list = entries (blockOf p q) (blocks (p .sizes)) ++ drop (listSize (p .sizes)) list
 
-abbrev pub filledTable : Pair → Request → List ℕ → List ℕ
-filledTable p q table = cond (eqb (q .search) 2) (tableOf p ++ drop (tableSize (p .sizes)) table) table
+abbrev pub filledTable : List ℕ → Request → List ℕ → List ℕ
+filledTable older q table = let s = sizesOf q in cond (eqb (q .search) 2) (tableOf older s ++ drop (tableSize s) table) table
+
+abbrev pub accepted : List ℕ → List ℕ → Request → List ℤ → List ℕ → Fielded
+accepted older newer q list table =
+    let p = pairOf older newer (sizesOf q) in
+    asFielded (fieldAnswer p q) (filledList p q list) (filledTable older q table)
 
 unfoldable pub fielded : List ℕ → List ℕ → Request → List ℤ → List ℕ → Fielded
 fielded older newer q list table =
-    let p = pairOf older newer (sizesOf q) in
     let refusal = fieldRefusal (length older) (length newer) q (length list) (length table) in
-    cond (eqb refusal 0) (asFielded (fieldAnswer p q) (filledList p q list) (filledTable p q table)) (asFielded (refusedField refusal) list table)
+    cond (eqb refusal 0) (accepted older newer q list table) (asFielded (refusedField refusal) list table)
 
 module _ (older newer : List ℕ) (q : Request) (list : List ℤ) (table : List ℕ) where
   abbrev pub refusalIs : ℕ
@@ -140,8 +145,14 @@ module _ (older newer : List ℕ) (q : Request) (list : List ℤ) (table : List 
   unfolding fielded
   field-refused h = rw (ne-eqb _ 0 h)
 
-  pub field-accepted : refusalIs ≡ 0 →
-      let p = pairOf older newer (sizesOf q) in
-      fielded older newer q list table ≡ asFielded (fieldAnswer p q) (filledList p q list) (filledTable p q table)
+  -- a call that answers 0 was accepted
+  pub field-unrefused : fielded older newer q list table .answer .refusal ≡ 0 → refusalIs ≡ 0
+  field-unrefused e = go (ℕ-discrete refusalIs 0)
+    where
+      go : Dec (refusalIs ≡ 0) → refusalIs ≡ 0
+      go (yes h) = h
+      go (no h) = sym (ap (λ (f : Fielded). f .answer .refusal) (field-refused h)) ∙ e
+
+  pub field-accepted : refusalIs ≡ 0 → fielded older newer q list table ≡ accepted older newer q list table
   unfolding fielded
   field-accepted h = rw h

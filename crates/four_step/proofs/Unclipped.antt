@@ -6,14 +6,11 @@ use mathlib.Core.Logic.{_⊎_, inl, inr, ⊎-elim}
 use mathlib.Core.Bool.{Bool, true, false, cond, _||_}
 use mathlib.Core.List.{List, [], _∷_}
 use native.Mathlib.Omega.{arith}
-use borrow.Author.Tests.{eq-eqb}
 use lib.Dec.{T, eqb, eqb→eq}
-use lib.IntN.{ℤ}
 use lib.ListN.{length}
 use Rattle.base.specs.Tests.{or-cases}
-use Rattle.signed.specs.Int.{eqZ, eqZ-is, up, dn}
 use Rattle.order.specs.declared.Vector.{Vector}
-use Rattle.order.specs.Vectors.{Within, same?}
+use Rattle.order.specs.Vectors.{Within, same?, same-self}
 use Rattle.search.specs.Weighing.{Target}
 use Rattle.base.specs.Lists.{Each}
 use Rattle.probe.specs.Probe.{origin, plus, Seen, probe, start, around, isIn, fresh}
@@ -50,13 +47,9 @@ moved-by c o h e =
     (λ k. ⊎-elim (λ n. inl (eqb→eq (newBy o) 3 n)) (λ n. inr (eqb→eq (newBy o) 5 n)) (or-cases (eqb (newBy o) 3) (eqb (newBy o) 5) k))
     (or-cases (same? o origin) (eqb (newBy o) 3 || eqb (newBy o) 5) h))
 
-eqZ-self : (z : ℤ) → eqZ z z ≡ true
-eqZ-self z = eqZ-is z z ∙ eq-eqb (up z + dn z) (up z + dn z) refl
-
 moved-here : (c : Vector) → Moved c c
 moved-here c e =
-    let d : same? c c ≡ true = rw (eqZ-self (c .dy), eqZ-self (c .dx)) in
-    let z : _≡_ {A = Bool} true false = sym d ∙ e in
+    let z : _≡_ {A = Bool} true false = sym (same-self c) ∙ e in
     let q : _≡_ {A = ℕ} 0 1 = cc in
     absurd (omega arith)
 

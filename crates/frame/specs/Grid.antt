@@ -40,6 +40,15 @@ module _ (s : Sizes) (f : Fitting s) where
   unfolding columns
   columns-some = part-some (s .width) (s .n) (f .some) (f .across)
 
+  rows-some : 0 < rows s
+  unfolding rows
+  rows-some = part-some (s .height) (s .n) (f .some) (f .down)
+
+  -- the grid has a block
+  pub blocks-some : 0 < blocks s
+  unfolding blocks
+  blocks-some = mul-le-mul rows-some columns-some
+
   pub rows-few : rows s ≤ 1024
   unfolding rows
   rows-few = part-few (s .height) (s .n) (f .some) (f .high)

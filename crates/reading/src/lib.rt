@@ -1,8 +1,61 @@
 // The reading of document 01: the vector that most blocks have, with its votes, by one vote a block and one walk along the preference order.
 
+ghost use mathlib.Core.Path.{_≡_};
+ghost use Prim.Native.Nat.{ℕ, _+_, _<_};
+ghost use lib.ListN.{length, getD, set};
+ghost use Rattle.order.specs.declared.Vector.{Vector};
+ghost use Rattle.order.specs.Preference.{preference, flat};
+ghost use Rattle.order.specs.Vectors.{Within};
+ghost use Rattle.reading.specs.Reading.{readingOf};
+ghost use Rattle.reading.specs.Tally.{code, Tally};
+use order::Vector;
+
 // The vector of most blocks, with its votes.
 pub struct Reading {
     pub dy: i32,
     pub dx: i32,
     pub votes: u32,
+}
+
+// A vector's place among the votes.
+fn code_of(v: Vector) -> usize
+    requires { ⌜ Within 16 v ⌝ }
+    ensures { λ r. ⌜ (r ≡ code v) × (r < 1089) ⌝ }
+{
+    signed::biased(v.dy) * 33 + signed::biased(v.dx)
+}
+
+// One vote more for v.
+pub fn vote(votes: &mut [u32; 1089], v: Vector)
+    requires { ⌜ Within 16 v × (length (now votes) ≡ 1089) × (getD (now votes) (code v) 0 < 4294967295) ⌝ }
+    ensures { λ _. ⌜ now (votes .exit) ≡ set (now (votes .entry)) (code v) (getD (now (votes .entry)) (code v) 0 + 1) ⌝ }
+{
+    let c = code_of(v);
+    votes[c] += 1;
+}
+
+// The vector of most votes, the first in preference order where several are equal.
+pub fn reading_of(order: &[i32; 2178], votes: &[u32; 1089]) -> Reading
+    requires { ⌜ now order ≡ flat preference ⌝ }
+    ensures { λ r. ⌜ ((has : ℕ → Vector) (n : ℕ) → Tally has n (now (votes .entry)) → r ≡ readingOf has n) ⌝ }
+{
+    let mut best = order::vector_at(order, 0);
+    let c = code_of(best);
+    let mut most = votes[c];
+    let mut k: usize = 1;
+    while k < 1089 {
+        let v = order::vector_at(order, k);
+        let e = code_of(v);
+        let x = votes[e];
+        if most < x {
+            best = v;
+            most = x;
+        }
+        k += 1;
+    }
+    Reading {
+        dy: best.dy,
+        dx: best.dx,
+        votes: most,
+    }
 }

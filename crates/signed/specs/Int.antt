@@ -10,7 +10,7 @@ use mathlib.Core.Bool.{Bool, true, false, not, cond}
 use native.Mathlib.Omega.{arith}
 use lib.IntN.{ℤ, pos, negsuc, negℤ, natAbs, _+ℤ_, _-ℤ_, subℕ}
 use lib.Signed.{mag, leZ, ltZ, nonNeg}
-use borrow.Author.Tests.{ltb-true, ltb-false, leb-true, leb-false, lt-ltb, le-ltb, le-leb, lt-leb, eqb-true, ne-eqb}
+use borrow.Author.Tests.{ltb-true, ltb-false, leb-true, leb-false, lt-ltb, le-ltb, le-leb, lt-leb, eqb-true, eq-eqb, ne-eqb}
 use native.Mathlib.Nat.{add-zero, zero-add}
 use lib.Dec.{T, leb, ltb, ltb→lt, nltb→le, leb·suc-suc, eqb, eqb·suc-suc}
 
@@ -144,6 +144,9 @@ eqZ-is (pos m) (pos n) = simp add-zero
 eqZ-is (pos m) (negsuc n) = sym (ne-eqb (m + suc n) 0 (λ e. omega arith))
 eqZ-is (negsuc m) (pos n) = sym (ne-eqb 0 (n + suc m) (λ e. omega arith))
 eqZ-is (negsuc m) (negsuc n) = simp (zero-add, eqb·suc-suc)
+
+pub eqZ-self : (z : ℤ) → eqZ z z ≡ true
+eqZ-self z = eqZ-is z z ∙ eq-eqb (up z + dn z) (up z + dn z) refl
 
 pub eq-yes : (a b : ℤ) → eqZ a b ≡ true → up a + dn b ≡ up b + dn a
 eq-yes a b e = eqb-true _ _ (sym (eqZ-is a b) ∙ e)

@@ -2,8 +2,11 @@
 // track and an answer back.
 
 ghost use mathlib.Core.Path.{_≡_};
-ghost use Rattle.track.specs.Track.{newTrack};
+ghost use Prim.Native.Nat.{_<_};
+ghost use Rattle.track.specs.Track.{newTrack, homed, stepRefusal, refusedStep, arrived, asStepping, stepped};
 use field::FieldAnswer;
+use frame::Request;
+use signed::Moved;
 
 // Homed or not, the place, and the steps since it was homed.
 #[repr(C)]
@@ -28,6 +31,16 @@ pub struct Stepped {
     pub track: Track,
 }
 
+// A refused step: the number, zeros and the old track.
+fn refused_step(refusal: u32, t: Track) -> Stepped
+    ensures { λ r. ⌜ r ≡ refusedStep refusal t ⌝ }
+{
+    Stepped {
+        answer: field::refused_field(refusal),
+        track: t,
+    }
+}
+
 impl Track {
     // New: not homed, 0, 0, 0.
     pub fn new() -> Track
@@ -39,5 +52,97 @@ impl Track {
             x: 0,
             steps: 0,
         }
+    }
+
+    // Home: the place (y, x), or 11 and the old track.
+    pub fn home(self, y: i32, x: i32) -> Homed
+        ensures { λ r. ⌜ r ≡ homed self y x ⌝ }
+    {
+        if !signed::within(y, 1000000) {
+            return Homed {
+                refusal: 11,
+                track: self,
+            };
+        }
+        if !signed::within(x, 1000000) {
+            return Homed {
+                refusal: 11,
+                track: self,
+            };
+        }
+        Homed {
+            refusal: 0,
+            track: Track {
+                homed: true,
+                y,
+                x,
+                steps: 0,
+            },
+        }
+    }
+
+    // The refusals of a step that are tested before anything is filled: the field's, then 31 and 32.
+    pub fn step_refusal(
+        self,
+        older: usize,
+        newer: usize,
+        q: Request,
+        list: usize,
+        table: usize,
+    ) -> u32
+        ensures { λ r. ⌜ r ≡ stepRefusal self older newer q list table ⌝ }
+    {
+        let refusal = field::field_refusal(older, newer, q, list, table);
+        if refusal != 0 {
+            return refusal;
+        }
+        if !self.homed {
+            return 31;
+        }
+        if 1000000 <= self.steps {
+            return 32;
+        }
+        0
+    }
+
+    // The reading's reverse added to the place, or 33 and the old track.
+    fn arrive(self, a: FieldAnswer) -> Stepped
+        requires { ⌜ self .steps < 1000000 ⌝ }
+        ensures { λ r. ⌜ r ≡ arrived self a ⌝ }
+    {
+        let Moved::To(y) = signed::retreat(self.y, a.dy) else {
+            return refused_step(33, self);
+        };
+        let Moved::To(x) = signed::retreat(self.x, a.dx) else {
+            return refused_step(33, self);
+        };
+        Stepped {
+            answer: a,
+            track: Track {
+                homed: true,
+                y,
+                x,
+                steps: self.steps + 1,
+            },
+        }
+    }
+
+    // Step: the travel of a pair added to the place, with list and table filled, or a refusal and the old track.
+    pub fn step(
+        self,
+        older: &[u8],
+        newer: &[u8],
+        q: Request,
+        list: &mut [i32],
+        table: &mut [u32],
+    ) -> Stepped
+        ensures { λ r. ⌜ asStepping r (now (list .exit)) (now (table .exit)) ≡ stepped self (now (older .entry)) (now (newer .entry)) q (now (list .entry)) (now (table .entry)) ⌝ }
+    {
+        let refusal = self.step_refusal(older.len(), newer.len(), q, list.len(), table.len());
+        if refusal != 0 {
+            return refused_step(refusal, self);
+        }
+        let answer = field::field(older, newer, q, list, table);
+        self.arrive(answer)
     }
 }

@@ -1,0 +1,3 @@
+pub mod Room
+pub mod Sound
+pub mod Turns

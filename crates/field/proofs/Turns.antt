@@ -1,0 +1,92 @@
+-- The grid loop: before the first block, one block more, and what the first n blocks leave. A block puts three numbers behind those before it, votes
+-- once, and adds its counts; no sum exceeds 1,089 a block.
+use Prim.Native.Nat.{ℕ, suc, _+_, _*_, _≤_, _<_}
+use mathlib.Core.Path.{_≡_, refl, sym, ap, ap₂, _∙_}
+use mathlib.Core.List.{List, [], _∷_, _++_}
+use mathlib.Core.Logic.{⊎-elim}
+use native.Mathlib.Nat.{le-trans, mul-le-mul-right, eq-or-lt-of-le}
+use native.Mathlib.Numerals.{add-one}
+use native.Mathlib.Omega.{arith}
+use lib.IntN.{ℤ, pos}
+use lib.Seq.{sets-eq, take-at}
+use lib.ListN.{length, getD, set, take, drop, replicate, length-set}
+use Rattle.base.specs.Sum.{sumTo, sumTo-bound}
+use Rattle.base.specs.Lists.{concatTo, concatTo-more, length-concatTo, drop-over}
+use Rattle.frame.specs.declared.Request.{Request}
+use Rattle.frame.specs.Pictures.{Pair}
+use Rattle.frame.specs.Grid.{blocks}
+use Rattle.search.specs.declared.Found.{Found}
+use Rattle.search.specs.Found.{vectorIn}
+use Rattle.reading.specs.declared.Reading.{Reading}
+use Rattle.reading.specs.Reading.{readingOf}
+use Rattle.reading.specs.Tally.{code}
+use Rattle.reading.proofs.Tally.{tally-none, tally-more}
+use Rattle.field.specs.declared.Total.{Total}
+use Rattle.field.specs.Field.{blockOf, vectorOf, entry, entries, fieldAnswer}
+use Rattle.field.specs.Filling.{Sound, asTotal, totalOver, joined, Few, Filled}
+
+pub filled-none : (found : ℕ → Found) (list : List ℤ) (votes : List ℕ) → votes ≡ replicate 1089 0 → Filled found 0 list list votes (asTotal (0 ∷ 0 ∷ 0 ∷ 0 ∷ 0 ∷ []) 0)
+unfolding entries concatTo totalOver sumTo
+filled-none found list votes e = record {
+  sound = λ k h. absurd (omega arith);
+  long = refl;
+  list = refl;
+  tally = rw e (tally-none _);
+  sums = refl;
+}
+
+module _ (found : ℕ → Found) (n : ℕ) (before after : List ℤ) (votes : List ℕ) (total : Total) (f : Filled found n before after votes total) where
+  -- a sum over the blocks
+  most : n ≤ 1048576 → (g : ℕ → ℕ) → ((k : ℕ) → k < n → g k ≤ 1089) → sumTo g n ≤ 1141899264
+  most few g h = le-trans (sumTo-bound 1089 g n h) (mul-le-mul-right 1089 few)
+
+  pub filled-few : n ≤ 1048576 → Few total
+  unfolding totalOver
+  filled-few few =
+      rw (f .sums)
+      (record {
+        count0 = most few _ (λ k h. f .sound k h .count0);
+        count1 = most few _ (λ k h. f .sound k h .count1);
+        count2 = most few _ (λ k h. f .sound k h .count2);
+        count3 = most few _ (λ k h. f .sound k h .count3);
+        count4 = most few _ (λ k h. f .sound k h .count4);
+        dropped = most few _ (λ k h. f .sound k h .dropped);
+      })
+
+  total-more : joined total (found n) ≡ totalOver found (n + 1)
+  unfolding totalOver sumTo
+  total-more = rw (f .sums, add-one n)
+
+  abbrev three : Found → List ℤ
+  three r = set (set (set after (3 * n) (r .dy)) (3 * n + 1) (r .dx)) (3 * n + 2) (pos (r .distortion))
+
+  list-more : 3 * n + 3 ≤ length before → three (found n) ≡ entries found (n + 1) ++ drop (3 * (n + 1)) before
+  unfolding entries
+  list-more h =
+      let e : 3 * n + 1 ≡ suc (3 * n) = omega arith in
+      let e′ : 3 * n + 2 ≡ suc (suc (3 * n)) = omega arith in
+      let next : 3 * (n + 1) ≡ 3 * n + 3 = omega arith in
+      let made : length (entries found n) ≡ 3 * n = omega (arith, length-concatTo (λ k. entry (found k)) 3 (λ i. refl) n) in
+      rw (e, e′, next)
+      (sets-eq (entry (found n)) after (3 * n) (omega (arith, f .long))
+      ∙ ap (λ (l : List ℤ). take (3 * n) l ++ entry (found n) ++ drop (3 * n + 3) l) (f .list)
+      ∙ ap₂ (λ (p q : List ℤ). p ++ entry (found n) ++ q)
+      (take-at (entries found n) (drop (3 * n) before) (3 * n) made)
+      (drop-over (entries found n) before (3 * n) (3 * n + 3) made (omega arith))
+      ∙ ap (λ (l : List ℤ). l ++ drop (3 * n + 3) before) (sym (concatTo-more (λ k. entry (found k)) n)))
+
+  pub filled-more : (r : Found) → r ≡ found n → Sound r → 3 * n + 3 ≤ length before
+      → Filled found (n + 1) before (three r) (set votes (code (vectorIn r)) (getD votes (code (vectorIn r)) 0 + 1)) (joined total r)
+  filled-more r e s h = record {
+    sound = λ k l. ⊎-elim (λ (i : k ≡ n). rw (i, ← e) s) (f .sound k) (eq-or-lt-of-le (omega (arith, l)));
+    long = simp length-set (f .long);
+    list = rw e (list-more h);
+    tally = tally-more _ n votes (vectorIn r) (ap vectorIn e) (s .within) (f .tally);
+    sums = rw e total-more;
+  }
+
+-- the answer, made of the sums and the reading
+pub answer-is : (p : Pair) (q : Request) (total : Total) (r : Reading) → total ≡ totalOver (blockOf p q) (blocks (p .sizes)) → r ≡ readingOf (vectorOf p q) (blocks (p .sizes))
+    → record { refusal = 0; dy = r .dy; dx = r .dx; votes = r .votes; counts = total .counts; dropped = total .dropped } ≡ fieldAnswer p q
+unfolding totalOver readingOf fieldAnswer
+answer-is p q total r e f = rw (e, f)

@@ -1,0 +1,133 @@
+-- `fill_list`: one index over all grid blocks; each turn searches one, stores it, votes for it and adds it.
+use Prim.Native.Nat.{_+_, _-_, _*_, _≤_, _<_}
+use mathlib.Core.Path.{_≡_, ap, _∙_}
+use native.Mathlib.Omega.{arith}
+use borrow.Author.Needs.{needs}
+use lib.ListN.{length}
+use mir.Facts.{toZ-ofZ}
+use mir.Syntax.{w32}
+use mir.Val.{SFits, toZ, ofZ}
+use lib.IntN.{ℤ, pos, negsuc, natAbs}
+use Rattle.frame.specs.Grid.{blocks, blocks-few}
+use Rattle.frame.specs.Pictures.{pairOf, Fitting}
+use Rattle.frame.specs.Refusals.{sizesOf, asked}
+use Rattle.reading.proofs.Tally.{tally-room}
+use Rattle.field.specs.Field.{blockOf}
+use Rattle.field.specs.Filling.{Filled}
+use Rattle.field.proofs.Turns.{filled-none, filled-few, filled-more}
+use Rattle.field.proofs.fill_list.Statement.{statement}
+use Rattle.field.proofs.fill_list.Tie as tie
+
+abbrev Inv-loop : tie.InvT-loop
+Inv-loop older newer order q table list₀ votes₀ n total₀ k₀ list votes total k =
+    (k ≤ n) × (n ≡ blocks (sizesOf q)) × Filled (blockOf (pairOf older newer (sizesOf q)) q) k list₀ list votes total
+
+abbrev μ-loop : tie.MeasureT-loop
+μ-loop older newer order q table list₀ votes₀ n total₀ k₀ list votes total k = n - k
+
+fitting : (s : tie.Start Inv-loop μ-loop) → Fitting (sizesOf (s .args .q))
+fitting s = asked _ _ _ (s .pre .0 .0 .fine) .paired .fitting
+
+sizes-of-requires : tie.Need-sizes-of-requires Inv-loop μ-loop
+sizes-of-requires c κs = search needs
+
+block-count-requires : tie.Need-block-count-requires Inv-loop μ-loop
+block-count-requires c κs = rw (c .sizes-of .ensures) (fitting (c .before .before .before .before))
+
+loop-holds : tie.Need-loop-holds Inv-loop μ-loop
+loop-holds c =
+    let s = c .before .before .before .before .before in
+    (omega arith, c .block-count .ensures ∙ ap blocks (c .before .sizes-of .ensures), filled-none _ _ _ (s .pre .1 .1))
+
+search-at-requires : tie.Need-search-at-requires Inv-loop μ-loop
+search-at-requires c κs =
+    let s = c .before .before .before .before .before .before .before in
+    (s .pre .0 .0, s .pre .0 .1, omega (arith, c .before .loop .inv .1))
+
+-- a turn stores inside the list, and there are not too many
+room : (c : tie.After-search-at Inv-loop μ-loop) →
+    let s = c .before .before .before .before .before .before .before .before in
+    let k = c .before .before .loop .k in
+    (3 * k + 3 ≤ length (s .args .list .now)) × (k < 1048576)
+room c =
+    let s = c .before .before .before .before .before .before .before .before in
+    let i = c .before .before .loop .inv in
+    (omega (arith, i .1, s .pre .1 .0), omega (arith, i .1, blocks-few _ (fitting s)))
+
+put-entry-requires : tie.Need-put-entry-requires Inv-loop μ-loop
+put-entry-requires c κs =
+    let d = c .before .before .before in
+    (omega (arith, room d, d .before .before .loop .inv .2 .long), d .search-at .ensures .1 .distortion)
+
+-- a part of a vector of window 16 is a number of 32 bits
+part-fits : (z : ℤ) → natAbs z ≤ 16 → SFits w32 z
+part-fits (pos n) h = record { sfits = omega arith }
+part-fits (negsuc n) h = record { sfits = omega arith }
+
+through : (z : ℤ) → natAbs z ≤ 16 → toZ w32 (ofZ w32 z) ≡ z
+through z h = toZ-ofZ (part-fits z h)
+
+vote-requires : tie.Need-vote-requires Inv-loop μ-loop
+vote-requires c κs =
+    let d = c .before .before .before .before .before .before .before in
+    let i = d .before .before .loop .inv .2 in
+    let w = d .search-at .ensures .1 .within in
+    rw (through (d .search-at .result .dy) (w .down), through (d .search-at .result .dx) (w .across))
+    (w, i .tally .long, tally-room _ _ _ _ w (i .tally) (omega (arith, room d)))
+
+join-requires : tie.Need-join-requires Inv-loop μ-loop
+join-requires c κs =
+    let d = c .before .before .before .before .before .before .before .before in
+    (filled-few _ _ _ _ _ _ (d .before .before .loop .inv .2) (omega (arith, room d)), d .search-at .ensures .1)
+
+add-k : tie.Need-add-k Inv-loop μ-loop
+add-k c = search needs
+
+loop-less : tie.Need-loop-less Inv-loop μ-loop
+loop-less c = search needs
+
+loop-again : tie.Need-loop-again Inv-loop μ-loop
+loop-again c =
+    let d = c .before .before .before .before .before .before .before .before .before in
+    let l = d .before .before .loop .inv in
+    let w = d .search-at .ensures .1 .within in (
+      omega arith,
+      l .1,
+      rw (
+        c .join .ensures,
+        c .before .before .before .before .before .put-entry .ensures,
+        c .before .vote .ensures,
+        through (d .search-at .result .dy) (w .down),
+        through (d .search-at .result .dx) (w .across),
+      )
+          (filled-more _ _ _ _ _ _ (l .2) _ (d .search-at .ensures .0) (d .search-at .ensures .1) (room d .0)),
+    )
+
+same-length : tie.Need-same-length Inv-loop μ-loop
+same-length c = c .before .loop .inv .2 .long
+
+returns : tie.Need-returns Inv-loop μ-loop
+returns c =
+    let l = c .before .loop in
+    let s = c .before .before .before .before .before .before .before in
+    let e : l .k ≡ blocks (sizesOf (s .args .q)) = omega (arith, l .inv .1) in
+    rw e at (l .inv .2)
+
+pub fill-list-spec : {M : Type 1} → statement M
+fill-list-spec =
+    tie.close
+    (tie.spec
+    Inv-loop
+    μ-loop
+    sizes-of-requires
+    block-count-requires
+    loop-holds
+    search-at-requires
+    put-entry-requires
+    vote-requires
+    join-requires
+    add-k
+    loop-less
+    loop-again
+    same-length
+    returns)

@@ -1,0 +1,174 @@
+-- Search 2 on a pair that an accepted step has, block by block and over the grid: at a block that stands wholly inside it finds the exhaustive best and counts
+-- what it drops and measures, and every grid block stands so.
+use Prim.Native.Nat.{ℕ, _+_, _*_, _≤_, _<_}
+use mathlib.Core.Path.{_≡_, refl, sym, ap, ap₂, _∙_}
+use mathlib.Core.List.{List, [], _∷_, _++_}
+use native.Mathlib.Nat.{le-trans}
+use native.Mathlib.Omega.{arith}
+use lib.Dec.{T, le→leb, lt→ltb}
+use lib.IntN.{ℤ, pos}
+use lib.Signed.{_≤ℤ_, _<ℤ_, leZ-yes, ltZ-yes}
+use lib.ListN.{List·getD-append}
+use Rattle.base.specs.Index.{row-fits}
+use Rattle.base.specs.Sum.{sumTo-ext, sumTo-add}
+use Rattle.base.specs.Lists.{concatTo-ext, concatTo, length-concatTo, getD-concatTo}
+use Rattle.order.specs.declared.Vector.{Vector}
+use Rattle.order.specs.Vectors.{Within}
+use Rattle.frame.specs.Pictures.{Pair, Fitting}
+use Rattle.frame.specs.Grid.{blocks, blockRow, blockColumn, block-down, block-across}
+use Rattle.frame.specs.Candidates.{candidate, candidate-yes}
+use Rattle.frame.specs.Refusals.{listed, windowOk, thresholdOk}
+use Rattle.distortion.specs.Blocks.{distortion}
+use Rattle.search.specs.declared.Found.{Found}
+use Rattle.search.specs.Found.{vectorIn, probes}
+use Rattle.search.specs.Exhaustive.{Best, best}
+use Rattle.search.proofs.Exhaustive.{best-is}
+use Rattle.pruned.specs.Answer.{prunedFound}
+use Rattle.pruned.proofs.Laws.{pruned-distortion, pruned-adds, pruned-is-best}
+use Rattle.block.specs.Block.{search-fine, block-accepted, searched-pruned}
+use Rattle.field.specs.Field.{asked, entries, entry, blockOf, vectorOf, droppedOver, countOver}
+use Rattle.reading.specs.Reading.{majority}
+use Rattle.reading.proofs.Majority.{majority-ext}
+use Rattle.promise.specs.Demand.{bestOf, bestEntries, EachBlock, EachPlace, EachGridPlace, overGrid, reported, number, isDropped, isMeasured, single}
+use Rattle.promise.proofs.Chains.{requestChain, Fine, fine-paired, request-any}
+use Rattle.promise.proofs.Counting.{dropped-number, measured-number, dropped-worse}
+
+-- ---- lists of entries
+
+-- the distortion listed for block k
+pub entries-third : (found : ℕ → Found) (n k : ℕ) (rest : List ℤ) → k < n → reported (entries found n ++ rest) k ≡ pos (found k .distortion)
+unfolding entries
+entries-third found n k rest h =
+    let e : 3 * k + 2 ≡ k * 3 + 2 = omega arith in
+    rw e
+    (List·getD-append (concatTo (λ k. entry (found k)) n) rest (pos 0) (k * 3 + 2)
+    (omega (arith, row-fits k n 3 h, length-concatTo (λ k. entry (found k)) 3 (λ i. refl) n))
+    ∙ getD-concatTo (λ k. entry (found k)) 3 (λ i. refl) n k 2 (pos 0) h (omega arith))
+
+pub at-most : {a b : ℕ} → a ≤ b → pos a ≤ℤ pos b
+at-most {a} {b} h = leZ-yes (le→leb a b h)
+
+pub below : {a b : ℕ} → a < b → pos a <ℤ pos b
+below {a} {b} h = ltZ-yes (lt→ltb a b h)
+
+-- ---- a pair and a window that an accepted step has
+
+-- a list reports each grid block's exhaustive best
+abbrev pub Lists : Pair → ℕ → List ℤ → Type 0
+Lists p w list = EachGridPlace p (λ k y x. reported list k ≡ pos (distortion p y x (best p w y x)))
+
+module _ (p : Pair) (w : ℕ) (f : Fine p w) where
+  fits : Fitting (p .sizes)
+  fits = fine-paired p f .fitting
+
+  allowed : T (listed (p .sizes .n))
+  allowed = fine-paired p f .allowed
+
+  pub each-place : EachPlace p (λ y x. Best p w y x (best p w y x))
+  each-place y x hy hx = best-is p w y x (f .small) hy hx
+
+  pub best-within : EachBlock p (λ k. Within 16 (bestOf p w k))
+  best-within k h =
+      let b = each-place (blockRow (p .sizes) k) (blockColumn (p .sizes) k) (block-down (p .sizes) fits k h) (block-across (p .sizes) fits k h) in
+      record { down = le-trans (b .candidate .window .down) (f .small); across = le-trans (b .candidate .window .across) (f .small) }
+
+  -- search 2 at a place
+  module _ (y x : ℕ) (hy : y + p .sizes .n ≤ p .sizes .height) (hx : x + p .sizes .n ≤ p .sizes .width) where
+    found-best : vectorIn (prunedFound p w y x) ≡ best p w y x
+    found-best = pruned-is-best p w y x allowed (f .small) hy hx
+
+    found-distortion : prunedFound p w y x .distortion ≡ distortion p y x (best p w y x)
+    found-distortion = pruned-distortion p w y x ∙ ap (distortion p y x) found-best
+
+    request-two : requestChain p 2 w 0 ≡ 0
+    unfolding windowOk thresholdOk
+    request-two = request-any p 2 w 0 (f .pair) tt (le→leb w 16 (f .small)) tt
+
+    single-is : single p 2 w 0 y x ≡ prunedFound p w y x
+    single-is =
+        block-accepted (p .older) (p .newer) (asked (p .sizes) 2 w 0) y x (search-fine _ _ (asked (p .sizes) 2 w 0) y x request-two hy hx)
+        ∙ searched-pruned p (asked (p .sizes) 2 w 0) y x refl
+
+    unrefused : prunedFound p w y x .refusal ≡ 0
+    unfolding prunedFound
+    unrefused = refl
+
+    pub block-result : let r = single p 2 w 0 y x in
+        (r .refusal ≡ 0) × (vectorIn r ≡ best p w y x) × (r .distortion ≡ distortion p y x (best p w y x))
+        × (r .dropped ≡ number (isDropped p w y x)) × (probes r ≡ number (isMeasured p w y x))
+        × (r .dropped + probes r ≡ number (candidate (p .sizes) w y x))
+    block-result =
+        rw single-is (
+          unrefused,
+          found-best,
+          found-distortion,
+          dropped-number p w y x allowed (f .small) hy hx,
+          measured-number p w y x allowed (f .small) hy hx,
+          pruned-adds p w y x allowed,
+        )
+
+  -- search 2 at grid block k
+  module _ (t k : ℕ) (h : k < blocks (p .sizes)) where
+    abbrev y : ℕ
+    y = blockRow (p .sizes) k
+
+    abbrev x : ℕ
+    x = blockColumn (p .sizes) k
+
+    abbrev found : Found
+    found = blockOf p (asked (p .sizes) 2 w t) k
+
+    found-is : found ≡ prunedFound p w y x
+    unfolding blockOf
+    found-is = searched-pruned p (asked (p .sizes) 2 w t) y x refl
+
+    hy : y + p .sizes .n ≤ p .sizes .height
+    hy = block-down (p .sizes) fits k h
+
+    hx : x + p .sizes .n ≤ p .sizes .width
+    hx = block-across (p .sizes) fits k h
+
+    grid-best : vectorIn found ≡ bestOf p w k
+    grid-best = ap vectorIn found-is ∙ found-best y x hy hx
+
+    pub grid-distortion : found .distortion ≡ distortion p y x (bestOf p w k)
+    grid-distortion = ap (λ (r : Found). r .distortion) found-is ∙ found-distortion y x hy hx
+
+    grid-dropped : found .dropped ≡ number (isDropped p w y x)
+    grid-dropped = ap (λ (r : Found). r .dropped) found-is ∙ dropped-number p w y x allowed (f .small) hy hx
+
+    grid-measured : probes found ≡ number (isMeasured p w y x)
+    grid-measured = ap probes found-is ∙ measured-number p w y x allowed (f .small) hy hx
+
+    grid-adds : found .dropped + probes found ≡ number (candidate (p .sizes) w y x)
+    grid-adds = ap (λ (r : Found). r .dropped + probes r) found-is ∙ pruned-adds p w y x allowed
+
+    pub grid-no-less : (v : Vector) → T (candidate (p .sizes) w y x v) → found .distortion ≤ distortion p y x v
+    grid-no-less v c = rw grid-distortion (each-place y x hy hx .least v (candidate-yes (p .sizes) w y x v c))
+
+    pub grid-worse : (v : Vector) → T (isDropped p w y x v) → found .distortion < distortion p y x v
+    grid-worse v d = rw found-is (dropped-worse p w y x allowed (f .small) hy hx v d)
+
+  -- search 2 over the grid
+  module _ (t : ℕ) where
+    abbrev founds : ℕ → Found
+    founds = blockOf p (asked (p .sizes) 2 w t)
+
+    pub reading-best : majority (vectorOf p (asked (p .sizes) 2 w t)) (blocks (p .sizes)) ≡ majority (bestOf p w) (blocks (p .sizes))
+    reading-best = majority-ext _ _ (blocks (p .sizes)) (λ k h. grid-best t k h)
+
+    abbrev triple : Vector → ℕ → List ℤ
+    triple v d = v .dy ∷ v .dx ∷ pos d ∷ []
+
+    pub entries-best : entries founds (blocks (p .sizes)) ≡ bestEntries p w
+    unfolding entries bestEntries
+    entries-best = concatTo-ext _ _ (blocks (p .sizes)) (λ k h. ap₂ triple (grid-best t k h) (grid-distortion t k h))
+
+    pub sum-dropped : droppedOver founds (blocks (p .sizes)) ≡ overGrid p (λ y x. number (isDropped p w y x))
+    sum-dropped = sumTo-ext _ _ (blocks (p .sizes)) (λ k h. grid-dropped t k h)
+
+    pub sum-measured : countOver founds (blocks (p .sizes)) 4 ≡ overGrid p (λ y x. number (isMeasured p w y x))
+    sum-measured = sumTo-ext _ _ (blocks (p .sizes)) (λ k h. grid-measured t k h)
+
+    pub sum-both : droppedOver founds (blocks (p .sizes)) + countOver founds (blocks (p .sizes)) 4 ≡ overGrid p (λ y x. number (candidate (p .sizes) w y x))
+    sum-both = sym (sumTo-add _ _ (blocks (p .sizes))) ∙ sumTo-ext _ _ (blocks (p .sizes)) (λ k h. grid-adds t k h)

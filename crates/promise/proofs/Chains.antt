@@ -1,0 +1,80 @@
+-- What chains of refusals that are 0 say: an accepted step's pair is one that every search takes, and a call that answers 0 was accepted.
+use Prim.Native.Nat.{ℕ, zero, suc, _≤_}
+use mathlib.Core.Path.{_≡_, refl}
+use mathlib.Core.Bool.{Bool, true, false}
+use mathlib.Core.List.{List}
+use native.Mathlib.Omega.{arith}
+use borrow.Author.Tests.{le-leb}
+use lib.Dec.{T, eqb}
+use lib.IntN.{ℤ}
+use lib.ListN.{length}
+use Rattle.base.specs.Tests.{T-true}
+use Rattle.frame.specs.Pictures.{Pair}
+use Rattle.frame.specs.Refusals.{unless, first, first-zero, searchOk, windowOk, thresholdOk, pairRefusal, requestRefusal, Paired, paired, window-small}
+use Rattle.frame.specs.Refusals as refusals
+use Rattle.block.specs.Block.{searchRefusal}
+use Rattle.field.specs.Field.{asked, listSize, fieldRefusal}
+
+-- ---- the refusals of a step that come before the field is filled, and the one after
+
+abbrev chain : ℕ → Bool → Bool → ℕ → ℕ
+chain f a b z = first f (unless a 31 (unless b 32 z))
+
+pub chain-late : (f : ℕ) (a b : Bool) (z : ℕ) → chain f a b 0 ≡ 0 → chain f a b z ≡ z
+unfolding first
+chain-late zero true true z e = refl
+chain-late zero true false z e = absurd (omega arith)
+chain-late zero false b z e = absurd (omega arith)
+chain-late (suc f) a b z e = absurd (omega arith)
+
+pub chain-early : (f : ℕ) (a b : Bool) (z : ℕ) → (chain f a b 0 ≡ 0 → ⊥) → chain f a b z ≡ chain f a b 0
+unfolding first
+chain-early zero true true z n = absurd (n refl)
+chain-early zero true false z n = refl
+chain-early zero false b z n = refl
+chain-early (suc f) a b z n = refl
+
+module _ (p : Pair) where
+  abbrev pub pairChain : ℕ
+  pairChain = pairRefusal (length (p .older)) (length (p .newer)) (p .sizes)
+
+  abbrev pub requestChain : (s w t : ℕ) → ℕ
+  requestChain s w t = requestRefusal (length (p .older)) (length (p .newer)) (asked (p .sizes) s w t)
+
+  abbrev pub blockChain : (s w t y x : ℕ) → ℕ
+  blockChain s w t y x = searchRefusal (length (p .older)) (length (p .newer)) (asked (p .sizes) s w t) y x
+
+  abbrev pub fieldChain : (s w t list table : ℕ) → ℕ
+  fieldChain s w t list table = fieldRefusal (length (p .older)) (length (p .newer)) (asked (p .sizes) s w t) list table
+
+  -- what an accepted step's pair and window have
+  pub record Fine (w : ℕ) : Type 0 where
+    pub pair : pairChain ≡ 0
+    pub small : w ≤ 16
+
+  pub fine-paired : {w : ℕ} → Fine w → Paired (length (p .older)) (length (p .newer)) (p .sizes)
+  fine-paired f = paired (length (p .older)) (length (p .newer)) (p .sizes) (f .pair)
+
+  pub request-fine : (s w t : ℕ) → requestChain s w t ≡ 0 → Fine w
+  unfolding requestRefusal
+  request-fine s w t e =
+      record {
+        pair = first-zero pairChain _ e .0;
+        small = window-small s w (refusals.asked (length (p .older)) (length (p .newer)) (asked (p .sizes) s w t) e .window);
+      }
+
+  pub field-request : (s w t list table : ℕ) → fieldChain s w t list table ≡ 0 → requestChain s w t ≡ 0
+  unfolding fieldRefusal
+  field-request s w t list table e = first-zero (requestChain s w t) _ e .0
+
+  -- the same pair, for any search with a window and a threshold that it takes
+  pub request-any : (s w t : ℕ) → pairChain ≡ 0 → T (searchOk s) → T (windowOk s w) → T (thresholdOk s t) → requestChain s w t ≡ 0
+  unfolding requestRefusal first
+  request-any s w t e r o h =
+      rw (e, T-true (searchOk s) r, T-true (windowOk s w) o, T-true (thresholdOk s t) h)
+
+  -- searches 3 and 4 use no table
+  pub field-any : (s w t : ℕ) (list : List ℤ) (table : List ℕ) → requestChain s w t ≡ 0 → eqb s 2 ≡ false → listSize (p .sizes) ≤ length list
+      → fieldChain s w t (length list) (length table) ≡ 0
+  unfolding fieldRefusal first
+  field-any s w t list table e n h = rw (e, n, le-leb (listSize (p .sizes)) (length list) h)

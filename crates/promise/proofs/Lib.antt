@@ -1,0 +1,7 @@
+pub mod Chains
+pub mod Counting
+pub mod Blocks
+pub mod Probing
+pub mod One
+pub mod Closed
+pub mod Promise

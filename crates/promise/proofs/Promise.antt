@@ -1,0 +1,136 @@
+-- Demand 3: the promise holds of every list of calls. Each call agrees with the reckoning, so by induction over the list the run does; and an accepted step
+-- answers with its field, whose blocks have their exhaustive bests.
+use Prim.Native.Nat.{ℕ, _+_}
+use mathlib.Core.Path.{_≡_, refl, sym, ap, subst, _∙_}
+use mathlib.Core.Bool.{true}
+use mathlib.Core.List.{List, [], _∷_, _++_}
+use lib.Dec.{T}
+use lib.IntN.{ℤ, pos, _+ℤ_}
+use lib.Signed.{_≤ℤ_, _<ℤ_}
+use lib.ListN.{length, getD, drop}
+use Rattle.order.specs.declared.Vector.{Vector}
+use Rattle.frame.specs.Pictures.{Pair}
+use Rattle.frame.specs.Grid.{blocks-some, blocks}
+use Rattle.frame.specs.Candidates.{candidate}
+use Rattle.distortion.specs.Blocks.{distortion}
+use Rattle.reading.specs.Reading.{majority, Most}
+use Rattle.field.specs.declared.FieldAnswer.{FieldAnswer}
+use Rattle.field.specs.Field.{asked, listSize, blockOf, fieldAnswer}
+use Rattle.track.specs.declared.Track.{Track}
+use Rattle.track.specs.Track.{newTrack, inRange, homedAt, Stepping}
+use Rattle.promise.specs.Demand.{Call, bestOf, turned, travel, reckon, reckoned, accepted, standingOn, sumDown, sumAcross, trackAt, NoHoming, Result, trackIn, call, runFrom, run, last, Each, AtStep, EachStep, EachBlock, EachGridPlace, bestEntries, reported, number, isDropped, isMeasured, overGrid, Promise}
+use Rattle.promise.specs.Demand.Call.{home}
+use Rattle.promise.specs.Demand.Standing.{nowhere}
+use Rattle.promise.specs.Demand.Each.{none, next}
+use Rattle.reading.proofs.Majority.{majority-most}
+use Rattle.promise.proofs.Chains.{Fine, fine-paired}
+use Rattle.promise.proofs.Blocks.{Lists, entries-third, at-most, below, each-place, best-within, block-result, grid-distortion, grid-no-less, grid-worse, entries-best, sum-dropped, sum-measured, sum-both}
+use Rattle.promise.proofs.Probing.{four-step-runs, cross-runs, four-step-block, cross-block, four-step-over, cross-over}
+use Rattle.promise.proofs.One.{agrees, Taken, at-step, field-fine, answer-is, list-is, read-down, read-across}
+use Rattle.promise.proofs.Closed.{closed, stays-nowhere, travelsOf, reckoned-since}
+
+-- ---- an accepted step
+
+module _ (t : Track) (p : Pair) (w threshold : ℕ) (list : List ℤ) (table : List ℕ) (s : Stepping) (k : Taken t p w threshold list table s) where
+  fine : Fine p w
+  fine = field-fine t p w threshold list table (k .fine)
+
+  abbrev answer : FieldAnswer
+  answer = s .stepped .answer
+
+  answered : answer ≡ fieldAnswer p (asked (p .sizes) 2 w threshold)
+  answered = k .answer-same ∙ answer-is t p w threshold list table (k .fine)
+
+  travels : (v : Vector) × Most (bestOf p w) (blocks (p .sizes)) v × (travel p w ≡ turned v) × (answer .dy ≡ v .dy) × (answer .dx ≡ v .dx)
+  unfolding travel
+  travels = (
+    majority (bestOf p w) (blocks (p .sizes)),
+    majority-most (bestOf p w) (blocks (p .sizes)) (blocks-some (p .sizes) (fine-paired p fine .fitting)) (best-within p w fine),
+    refl,
+    ap (λ (a : FieldAnswer). a .dy) (k .answer-same) ∙ read-down t p w threshold list table (k .fine),
+    ap (λ (a : FieldAnswer). a .dx) (k .answer-same) ∙ read-across t p w threshold list table (k .fine),
+  )
+
+  listed : s .list ≡ bestEntries p w ++ drop (listSize (p .sizes)) list
+  listed =
+      k .list-same ∙ list-is t p w threshold list table (k .fine)
+      ∙ ap (λ (l : List ℤ). l ++ drop (listSize (p .sizes)) list) (entries-best p w fine threshold)
+
+  reported-found : EachBlock p (λ j. reported (s .list) j ≡ pos (blockOf p (asked (p .sizes) 2 w threshold) j .distortion))
+  reported-found j h =
+      ap (λ (l : List ℤ). reported l j) (k .list-same ∙ list-is t p w threshold list table (k .fine))
+      ∙ entries-third (blockOf p (asked (p .sizes) 2 w threshold)) (blocks (p .sizes)) j (drop (listSize (p .sizes)) list) h
+
+  reported-best : Lists p w (s .list)
+  reported-best j h = reported-found j h ∙ ap pos (grid-distortion p w fine threshold j h)
+
+  no-less : EachGridPlace p (λ j y x. (v : Vector) → T (candidate (p .sizes) w y x v) → reported (s .list) j ≤ℤ pos (distortion p y x v))
+  no-less j h v c = rw (reported-found j h) (at-most (grid-no-less p w fine threshold j h v c))
+
+  dropped-more : EachGridPlace p (λ j y x. (v : Vector) → T (isDropped p w y x v) → reported (s .list) j <ℤ pos (distortion p y x v))
+  dropped-more j h v d = rw (reported-found j h) (below (grid-worse p w fine threshold j h v d))
+
+  sums : (answer .dropped ≡ overGrid p (λ y x. number (isDropped p w y x)))
+      × (getD (answer .counts) 4 0 ≡ overGrid p (λ y x. number (isMeasured p w y x)))
+      × (answer .dropped + getD (answer .counts) 4 0 ≡ overGrid p (λ y x. number (candidate (p .sizes) w y x)))
+  unfolding fieldAnswer
+  sums = rw answered (sum-dropped p w fine threshold, sum-measured p w fine threshold, sum-both p w fine threshold)
+
+-- ---- the whole list
+
+-- a fact about every call, by induction over the list
+each : (P : Track → Call → Result → Type 0) → ((t : Track) (c : Call) → P t c (call t c)) → (cs : List Call) (t : Track) → Each P t cs (runFrom t cs)
+unfolding runFrom
+each P h [] t = none
+each P h (c ∷ cs) t =
+    next (h t c) (subst (λ (u : Track). Each P (reckon t c) cs (runFrom u cs)) (sym (agrees t c .track)) (each P h cs (reckon t c)))
+
+steps : (calls : List Call) (Q : Pair → ℕ → List ℤ → Stepping → Type 0)
+    → ((t : Track) (p : Pair) (w threshold : ℕ) (list : List ℤ) (table : List ℕ) (s : Stepping) → Taken t p w threshold list table s → Q p w list s)
+    → EachStep calls Q
+steps calls Q h = each (AtStep Q) (at-step Q h) calls newTrack
+
+-- the track in the end is the reckoning's
+ends : (cs : List Call) (t : Track) → last t (runFrom t cs) ≡ reckoned t cs
+unfolding runFrom last reckoned
+ends [] t = refl
+ends (c ∷ cs) t = ends cs (trackIn (call t c)) ∙ ap (λ (u : Track). reckoned u cs) (agrees t c .track)
+
+stands : (calls : List Call) → last newTrack (run calls) ≡ trackAt (standingOn nowhere (accepted newTrack calls))
+unfolding trackAt
+stands calls = ends calls newTrack ∙ closed calls nowhere
+
+unhomed : (calls : List Call) → NoHoming (accepted newTrack calls) → last newTrack (run calls) ≡ newTrack
+unfolding trackAt
+unhomed calls h = stands calls ∙ ap trackAt (stays-nowhere (accepted newTrack calls) h)
+
+pub promise : (calls : List Call) → Promise calls
+promise calls = record {
+  stands = stands calls;
+  unhomed = unhomed calls;
+  reckoning = ends calls newTrack;
+  refusals = each _ (λ t c. agrees t c .refusal) calls newTrack;
+  tracks = each _ (λ t c. agrees t c .track) calls newTrack;
+  travels = steps calls _ travels;
+  bests = steps calls _ (λ t p w threshold list table s k. each-place p w (fine t p w threshold list table s k));
+  listed = steps calls _ listed;
+  no-less = steps calls _ no-less;
+  dropped-more = steps calls _ dropped-more;
+  block-results = steps calls _ (λ t p w threshold list table s k. block-result p w (fine t p w threshold list table s k));
+  sums = steps calls _ sums;
+  four-step-runs = steps calls _ (λ t p w threshold list table s k. four-step-runs p w (fine t p w threshold list table s k));
+  cross-runs = steps calls _ (λ t p w threshold list table s k. cross-runs p w (fine t p w threshold list table s k));
+  four-step = steps calls _ (λ t p w threshold list table s k. four-step-block p w (fine t p w threshold list table s k));
+  four-step-field = steps calls _ (λ t p w threshold list table s k.
+      four-step-over p w (fine t p w threshold list table s k) (s .list) (reported-best t p w threshold list table s k));
+  cross = steps calls _ (λ t p w threshold list table s k. cross-block p w (fine t p w threshold list table s k));
+  cross-field = steps calls _ (λ t p w threshold list table s k.
+      cross-over p w (fine t p w threshold list table s k) (s .list) (reported-best t p w threshold list table s k));
+}
+
+-- In the customer's words: after the last accepted homing, at (y0, x0), the track stands at that place plus the travels of all pairs accepted since, with their
+-- number as its steps
+pub since : (before after : List Call) (y0 x0 : ℤ) → inRange y0 ≡ true → inRange x0 ≡ true → NoHoming (accepted (homedAt y0 x0) after)
+    → let ts = travelsOf (accepted (homedAt y0 x0) after) in
+    last newTrack (run (before ++ (home y0 x0 ∷ after))) ≡ record { homed = true; y = y0 +ℤ sumDown ts; x = x0 +ℤ sumAcross ts; steps = length ts }
+since before after y0 x0 a b h = ends (before ++ (home y0 x0 ∷ after)) newTrack ∙ reckoned-since newTrack before after y0 x0 a b h

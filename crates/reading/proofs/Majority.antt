@@ -1,0 +1,203 @@
+-- The vector of most blocks is the one that the walk along the preference table keeps: every vector of window 16 stands there, in the order's order,
+-- and a vector outside it has no block.
+--   same-false                         what the test of two vectors says
+--   votes-none, votes-more, votes-few  how votes grow; votes-ext: blocks with the same vectors, the same votes
+--   most-one, most-new, most-old       how the first greatest grows
+--   majority-most                      the majority has most blocks, ties by preference order; most-unique: no other has
+use Prim.Native.Nat.{ℕ, zero, suc, _+_, _≤_, _<_}
+use mathlib.Core.Path.{_≡_, refl, sym, ap, _∙_, subst}
+use mathlib.Core.Logic.{_⊎_, inl, inr, ⊎-elim}
+use mathlib.Core.Bool.{Bool, true, false, cond}
+use native.Mathlib.Nat.{le-of-lt, le-of-eq, not-suc-le-zero, le-of-suc-le-suc, eq-or-lt-of-le}
+use native.Mathlib.Decide.{decLe}
+use native.Mathlib.Numerals.{add-one}
+use native.Mathlib.Omega.{arith, ne-cases}
+use borrow.Author.Tests.{lt-ltb, le-ltb, ltb-true, ltb-false}
+use lib.Dec.{ltb}
+use lib.IntN.{natAbs}
+use Rattle.base.specs.Sum.{sumTo, sumTo-none, sumTo-more, sumTo-ext, sumTo-bound}
+use Rattle.order.specs.declared.Vector.{Vector}
+use Rattle.order.specs.Vectors.{Within, Precedes, same?, same-true, same-self}
+use Rattle.order.specs.Preference.{preferred}
+use Rattle.order.proofs.Order.{stands, in-order, precedes-trans, precedes-irrefl}
+use Rattle.reading.specs.Reading.{votes, mostTo, majority, Most}
+
+-- ---- the test that two vectors are one
+
+pub same-false : (u v : Vector) → same? u v ≡ false → u ≡ v → ⊥
+same-false u v e q =
+    let t : true ≡ false = sym (same-self u) ∙ ap (same? u) q ∙ e in
+    let z : _≡_ {A = ℕ} 0 1 = cc in
+    omega arith
+
+-- ---- votes
+
+abbrev one : Bool → ℕ
+one t = cond t 1 0
+
+one-le : (t : Bool) → one t ≤ 1
+one-le true = omega arith
+one-le false = omega arith
+
+pub votes-none : (has : ℕ → Vector) (v : Vector) → votes has 0 v ≡ 0
+unfolding votes
+votes-none has v = sumTo-none _
+
+pub votes-more : (has : ℕ → Vector) (n : ℕ) (v : Vector) → votes has (n + 1) v ≡ votes has n v + cond (same? (has n) v) 1 0
+unfolding votes
+votes-more has n v = sumTo-more _ n
+
+pub votes-few : (has : ℕ → Vector) (n : ℕ) (v : Vector) → votes has n v ≤ n
+unfolding votes
+votes-few has n v = omega (arith, sumTo-bound 1 (λ k. cond (same? (has k) v) 1 0) n (λ i h. one-le (same? (has i) v)))
+
+pub votes-ext : (f g : ℕ → Vector) (n : ℕ) → ((k : ℕ) → k < n → f k ≡ g k) → (v : Vector) → votes f n v ≡ votes g n v
+unfolding votes
+votes-ext f g n e v = sumTo-ext _ _ n (λ k h. ap (λ (u : Vector). one (same? u v)) (e k h))
+
+-- a block has its own vector
+votes-some : (has : ℕ → Vector) (n : ℕ) → 0 < n → 0 < votes has n (has 0)
+unfolding votes sumTo
+votes-some has zero h = h
+votes-some has (suc zero) h = omega (arith, ap one (same-self (has 0)))
+votes-some has (suc (suc n)) h = omega (arith, votes-some has (suc n) (omega arith))
+
+-- a vector that no block has
+votes-outside : (has : ℕ → Vector) (u : Vector) (n : ℕ) → ((k : ℕ) → k < n → has k ≡ u → ⊥) → votes has n u ≡ 0
+unfolding votes sumTo
+votes-outside has u zero h = refl
+votes-outside has u (suc n) h = omega (arith, votes-outside has u n (λ k l. h k (omega arith)), none (same? (has n) u) refl)
+  where
+    none : (t : Bool) → same? (has n) u ≡ t → one t ≡ 0
+    none true e = absurd (h n (omega arith) (same-true (has n) u e))
+    none false e = refl
+
+-- ---- the first greatest
+
+cond-same : (b : Bool) (a : ℕ) → cond b a a ≡ a
+cond-same true a = refl
+cond-same false a = refl
+
+pub most-one : (score : ℕ → ℕ) → mostTo score 1 ≡ 0
+unfolding mostTo
+most-one score = cond-same (ltb (score 0) (score 0)) 0
+
+most-more : (score : ℕ → ℕ) (n : ℕ) → mostTo score (n + 1) ≡ cond (ltb (score (mostTo score n)) (score n)) n (mostTo score n)
+unfolding mostTo
+most-more score n = rw add-one
+
+-- a greater one replaces, and else the one before stays
+pub most-new : (score : ℕ → ℕ) (n : ℕ) → score (mostTo score n) < score n → n ≡ mostTo score (n + 1)
+most-new score n h = sym (most-more score n ∙ simp (lt-ltb (score (mostTo score n)) (score n) h))
+
+pub most-old : (score : ℕ → ℕ) (n : ℕ) → score n ≤ score (mostTo score n) → mostTo score n ≡ mostTo score (n + 1)
+most-old score n h = sym (most-more score n ∙ simp (le-ltb (score (mostTo score n)) (score n) h))
+
+most-ext : (f g : ℕ → ℕ) → ((k : ℕ) → f k ≡ g k) → (n : ℕ) → mostTo f n ≡ mostTo g n
+unfolding mostTo
+most-ext f g e zero = refl
+most-ext f g e (suc n) = rw (most-ext f g e n, e (mostTo g n), e n)
+
+cond-below : (b : Bool) (n m k : ℕ) → n < k → m < k → cond b n m < k
+cond-below true n m k h j = h
+cond-below false n m k h j = j
+
+-- the greatest of the first n + 1 is one of them
+most-below : (score : ℕ → ℕ) (n : ℕ) → mostTo score (suc n) < suc n
+unfolding mostTo
+most-below score zero = subst (λ m. m < 1) (sym (most-one score)) (omega arith)
+most-below score (suc n) =
+    let h : mostTo score (suc n) < suc n = most-below score n in
+    cond-below (ltb (score (mostTo score (suc n))) (score (suc n))) (suc n) (mostTo score (suc n)) (suc (suc n)) (omega arith) (omega arith)
+
+-- one turn: none passed has a greater score than m, and those before m have less
+turn : (score : ℕ → ℕ) (n m : ℕ) → m ≤ n → ((k : ℕ) → k < n → (score k ≤ score m) × (k < m → score k < score m))
+    → (b : Bool) → ltb (score m) (score n) ≡ b
+    → (k : ℕ) → k < suc n → (score k ≤ score (cond b n m)) × (k < cond b n m → score k < score (cond b n m))
+turn score n m h f true e k j =
+    let p : score m < score n = ltb-true (score m) (score n) e in
+    ⊎-elim (λ (q : k ≡ n). let r : score k ≡ score n = ap score q in omega arith)
+    (λ (q : k < n). let r = f k q .0 in omega arith)
+    (eq-or-lt-of-le (le-of-suc-le-suc j))
+turn score n m h f false e k j =
+    let p : score n ≤ score m = ltb-false (score m) (score n) e in
+    ⊎-elim (λ (q : k ≡ n). let r : score k ≡ score n = ap score q in (omega arith, λ l. omega (arith, h)))
+    (f k)
+    (eq-or-lt-of-le (le-of-suc-le-suc j))
+
+most-le : (score : ℕ → ℕ) (n : ℕ) → mostTo score n ≤ n
+unfolding mostTo
+most-le score zero = omega arith
+most-le score (suc n) = le-of-lt (most-below score n)
+
+greatest : (score : ℕ → ℕ) (n k : ℕ) → k < n → (score k ≤ score (mostTo score n)) × (k < mostTo score n → score k < score (mostTo score n))
+unfolding mostTo
+greatest score zero k h = absurd (not-suc-le-zero h)
+greatest score (suc n) k h = turn score n (mostTo score n) (most-le score n) (greatest score n) (ltb (score (mostTo score n)) (score n)) refl k h
+
+-- ---- the majority
+
+pub majority-ext : (f g : ℕ → Vector) (n : ℕ) → ((k : ℕ) → k < n → f k ≡ g k) → majority f n ≡ majority g n
+unfolding majority
+majority-ext f g n e = ap preferred (most-ext _ _ (λ k. votes-ext f g n e (preferred k)) 1089)
+
+within? : (v : Vector) → Dec (Within 16 v)
+within? v = go (decLe (natAbs (v .dy)) 16) (decLe (natAbs (v .dx)) 16)
+  where
+    go : Dec (natAbs (v .dy) ≤ 16) → Dec (natAbs (v .dx) ≤ 16) → Dec (Within 16 v)
+    go (yes a) (yes b) = yes (record { down = a; across = b })
+    go (no a) b = no (λ w. a (w .down))
+    go (yes a) (no b) = no (λ w. b (w .across))
+
+-- what Most says of another vector
+abbrev Behind : (ℕ → Vector) → ℕ → Vector → Vector → Type 0
+Behind has n v u = (votes has n u < votes has n v) ⊎ ((votes has n u ≡ votes has n v) × Precedes v u)
+
+module _ (has : ℕ → Vector) (n : ℕ) where
+  abbrev score : ℕ → ℕ
+  score k = votes has n (preferred k)
+
+  -- the place of the majority in the table
+  abbrev top : ℕ
+  top = mostTo score 1089
+
+  at-place : (k : ℕ) → k < 1089 → (k ≡ top → ⊥) → Behind has n (preferred top) (preferred k)
+  at-place k h ne =
+      let g = greatest score 1089 k h in
+      ne-cases k top _ ne (λ l. inl (g .1 l))
+      (λ l. ⊎-elim (λ e. inr (e, in-order top k l h)) inl (eq-or-lt-of-le (g .0)))
+
+  behind : (u : Vector) → Within 16 u → (u ≡ preferred top → ⊥) → Behind has n (preferred top) u
+  behind u w ne =
+      let s = stands u w in
+      subst (Behind has n (preferred top)) (s .2) (at-place (s .0) (s .1) (λ e. ne (sym (s .2) ∙ ap preferred e)))
+
+  -- no vector of the window has more votes
+  highest : (u : Vector) → Within 16 u → votes has n u ≤ votes has n (preferred top)
+  highest u w = go (same? u (preferred top)) refl
+    where
+      go : (t : Bool) → same? u (preferred top) ≡ t → votes has n u ≤ votes has n (preferred top)
+      go true e = le-of-eq (ap (votes has n) (same-true u (preferred top) e))
+      go false e = ⊎-elim le-of-lt (λ q. le-of-eq (q .0)) (behind u w (same-false u (preferred top) e))
+
+pub majority-most : (has : ℕ → Vector) (n : ℕ) → 0 < n → ((k : ℕ) → k < n → Within 16 (has k)) → Most has n (majority has n)
+unfolding majority
+majority-most has n some all = record { most = λ u ne. other u ne (within? u) }
+  where
+    other : (u : Vector) → (u ≡ preferred (top has n) → ⊥) → Dec (Within 16 u) → Behind has n (preferred (top has n)) u
+    other u ne (yes w) = behind has n u w ne
+    other u ne (no w) =
+        inl (omega (arith, votes-outside has u n (λ k l q. w (subst (Within 16) q (all k l))), votes-some has n some, highest has n (has 0) (all 0 some)))
+
+pub most-unique : (has : ℕ → Vector) (n : ℕ) (u v : Vector) → Most has n u → Most has n v → u ≡ v
+most-unique has n u v a b = go (same? u v) refl
+  where
+    clash : Behind has n v u → Behind has n u v → ⊥
+    clash (inl l) (inl m) = omega arith
+    clash (inl l) (inr m) = omega arith
+    clash (inr l) (inl m) = omega arith
+    clash (inr l) (inr m) = precedes-irrefl (precedes-trans (l .1) (m .1))
+
+    go : (t : Bool) → same? u v ≡ t → u ≡ v
+    go true e = same-true u v e
+    go false e = let ne = same-false u v e in absurd (clash (b .most u ne) (a .most v (λ q. ne (sym q))))

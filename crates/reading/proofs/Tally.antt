@@ -1,0 +1,125 @@
+-- A vote more counts for its vector alone, since two vectors of window 16 have different places; the walk along the preference table then keeps
+-- the first greatest count.
+--   code-below                         a vector's place is one of the 1,089
+--   tally-none, tally-more, tally-room the votes before the first block, with one block more, and that a vote fits
+--   Walked                             the walk after k vectors; walked-one, walked-new, walked-old, walked-done
+use Prim.Native.Nat.{ℕ, _+_, _≤_, _<_}
+use mathlib.Core.Path.{_≡_, refl, sym, ap, ap₂, _∙_}
+use mathlib.Core.Bool.{Bool, true, false, cond}
+use mathlib.Core.List.{List}
+use native.Mathlib.Omega.{arith}
+use lib.IntN.{ℤ, natAbs}
+use lib.ListN.{length, getD, set, length-set, replicate, getD-replicate}
+use lib.Seq.{getD-set-same, getD-set-other}
+use Rattle.signed.specs.Int.{same, parts}
+use Rattle.signed.specs.Values.{bias, bias-is}
+use Rattle.order.specs.declared.Vector.{Vector}
+use Rattle.order.specs.Vectors.{vec, Within, same?, same-true}
+use Rattle.order.specs.Preference.{preferred}
+use Rattle.order.proofs.Order.{inside}
+use Rattle.reading.specs.declared.Reading.{Reading}
+use Rattle.reading.specs.Reading.{votes, mostTo, majority, readingOf}
+use Rattle.reading.specs.Tally.{code, Tally}
+use Rattle.reading.proofs.Majority.{same-false, votes-none, votes-more, votes-few, most-one, most-new, most-old}
+
+-- ---- places
+
+pub bias-small : (d : ℤ) → natAbs d ≤ 16 → bias 16 d ≤ 32
+bias-small d h = omega (arith, bias-is 16 d h, parts d)
+
+bias-inj : (a b : ℤ) → natAbs a ≤ 16 → natAbs b ≤ 16 → bias 16 a ≡ bias 16 b → a ≡ b
+bias-inj a b h l e = same a b (omega (arith, bias-is 16 a h, bias-is 16 b l))
+
+pub code-below : (v : Vector) → Within 16 v → code v < 1089
+code-below v w = omega (arith, bias-small (v .dy) (w .down), bias-small (v .dx) (w .across))
+
+code-inj : (u v : Vector) → Within 16 u → Within 16 v → code u ≡ code v → u ≡ v
+code-inj u v a b e =
+    let u1 = bias-small (u .dx) (a .across) in
+    let v1 = bias-small (v .dx) (b .across) in
+    let y : bias 16 (u .dy) ≡ bias 16 (v .dy) = omega arith in
+    let x : bias 16 (u .dx) ≡ bias 16 (v .dx) = omega arith in
+    ap₂ vec (bias-inj (u .dy) (v .dy) (a .down) (b .down) y) (bias-inj (u .dx) (v .dx) (a .across) (b .across) x)
+
+-- ---- votes
+
+pub tally-none : (has : ℕ → Vector) → Tally has 0 (replicate 1089 0)
+tally-none has = record { long = refl; each = λ v h. getD-replicate 1089 (code v) 0 0 (code-below v h) ∙ sym (votes-none has v) }
+
+pub tally-more : (has : ℕ → Vector) (n : ℕ) (l : List ℕ) (v : Vector) → v ≡ has n → Within 16 v → Tally has n l
+    → Tally has (n + 1) (set l (code v) (getD l (code v) 0 + 1))
+tally-more has n l v e w t = record {
+  long = length-set l _ _ ∙ t .long;
+  each = λ u h. step u h (same? v u) refl ∙ sym (votes-more has n u ∙ ap (λ (k : Vector). votes has n u + cond (same? k u) 1 0) (sym e));
+}
+  where
+    step : (u : Vector) → Within 16 u → (b : Bool) → same? v u ≡ b
+        → getD (set l (code v) (getD l (code v) 0 + 1)) (code u) 0 ≡ votes has n u + cond b 1 0
+    step u h true q =
+        let s = sym (same-true v u q) in
+        let room : code v < length l = omega (arith, t .long, code-below v w) in
+        rw s (getD-set-same l (code v) _ 0 room ∙ ap (λ (x : ℕ). x + 1) (t .each v w))
+    step u h false q =
+        let apart : code u ≡ code v → ⊥ = λ s. same-false v u q (code-inj v u w h (sym s)) in
+        getD-set-other l (code v) (code u) _ 0 apart ∙ t .each u h ∙ omega arith
+
+pub tally-room : (has : ℕ → Vector) (n : ℕ) (l : List ℕ) (v : Vector) → Within 16 v → Tally has n l → n < 4294967295 → getD l (code v) 0 < 4294967295
+tally-room has n l v w t h = omega (arith, t .each v w, votes-few has n v)
+
+-- ---- the walk along the table: the first greatest of k vectors, whatever blocks the votes are of
+
+pub record Walked (l : List ℕ) (k : ℕ) (best : Vector) (most : ℕ) : Type 0 where
+  pub below : k ≤ 1089
+  pub within : Within 16 best
+  pub lead : (has : ℕ → Vector) (n : ℕ) → Tally has n l
+      → (best ≡ preferred (mostTo (λ j. votes has n (preferred j)) k)) × (most ≡ votes has n best)
+
+pub walked-one : (l : List ℕ) (best : Vector) (most : ℕ) → best ≡ preferred 0 → most ≡ getD l (code best) 0 → Walked l 1 best most
+walked-one l best most e g =
+    let w : Within 16 best = rw e (inside 0 (omega arith)) in
+    record {
+      below = omega arith;
+      within = w;
+      lead = λ has n t. (e ∙ ap preferred (sym (most-one _)), g ∙ t .each best w);
+    }
+
+module _ {l : List ℕ} {k : ℕ} {best : Vector} {most : ℕ} (s : Walked l k best most) (h : k < 1089) (v : Vector) (x : ℕ)
+    (e : v ≡ preferred k) (g : x ≡ getD l (code v) 0)
+  where
+    next-within : Within 16 v
+    next-within = rw e (inside k h)
+
+    next-is : (has : ℕ → Vector) (n : ℕ) → Tally has n l → x ≡ votes has n (preferred k)
+    next-is has n t = g ∙ t .each v next-within ∙ ap (votes has n) e
+
+    most-is : (has : ℕ → Vector) (n : ℕ) → Tally has n l → most ≡ votes has n (preferred (mostTo (λ j. votes has n (preferred j)) k))
+    most-is has n t = s .lead has n t .1 ∙ ap (votes has n) (s .lead has n t .0)
+
+    pub walked-new : most < x → Walked l (k + 1) v x
+    walked-new m = record {
+      below = omega arith;
+      within = next-within;
+      lead = λ has n t. (
+        e ∙ ap preferred (most-new (λ j. votes has n (preferred j)) k (omega (arith, next-is has n t, most-is has n t))),
+        g ∙ t .each v next-within,
+      );
+    }
+
+    pub walked-old : x ≤ most → Walked l (k + 1) best most
+    walked-old m = record {
+      below = omega arith;
+      within = s .within;
+      lead = λ has n t. (
+        s .lead has n t .0 ∙ ap preferred (most-old (λ j. votes has n (preferred j)) k (omega (arith, next-is has n t, most-is has n t))),
+        s .lead has n t .1,
+      );
+    }
+
+pub walked-done : {l : List ℕ} {best : Vector} {most : ℕ} → Walked l 1089 best most → (has : ℕ → Vector) (n : ℕ) → Tally has n l
+    → record { dy = best .dy; dx = best .dx; votes = most } ≡ readingOf has n
+unfolding readingOf majority
+walked-done {l} {best} {most} s has n t =
+    ap₂ read (s .lead has n t .0) (s .lead has n t .1 ∙ ap (votes has n) (s .lead has n t .0))
+  where
+    read : Vector → ℕ → Reading
+    read v x = record { dy = v .dy; dx = v .dx; votes = x }
