@@ -8,10 +8,16 @@ ghost use Rattle.frame.specs.Pictures.{sizes, pairOf};
 ghost use Rattle.view.specs.View.{viewPlace};
 ghost use Rattle.distortion.specs.Measured.{measured};
 ghost use Rattle.block.specs.Block.{blockFound};
+ghost use Rattle.field.specs.Field.{asFielded, fielded};
+ghost use Rattle.track.specs.Track.{newTrack, homed, asStepping, stepped};
 use distortion::Measured;
+use field::FieldAnswer;
 use frame::Request;
 use frame::Sizes;
 use search::Found;
+use track::Homed;
+use track::Stepped;
+use track::Track;
 use view::RowView;
 
 // Measures one vector: the distortion of the newer block at a row and a column for (dy, dx).
@@ -63,4 +69,49 @@ pub extern "C" fn gauge_search_block(
     ensures { λ r. ⌜ r ≡ blockFound (now (older .entry)) (now (newer .entry)) request row column ⌝ }
 {
     block::search_block(older, newer, request, row, column)
+}
+
+// Searches every grid block: fills list and table, and answers with the reading and the sums.
+#[no_mangle]
+pub extern "C" fn gauge_field(
+    older: &[u8],
+    newer: &[u8],
+    request: Request,
+    list: &mut [i32],
+    table: &mut [u32],
+) -> FieldAnswer
+    ensures { λ r. ⌜ asFielded r (now (list .exit)) (now (table .exit)) ≡ fielded (now (older .entry)) (now (newer .entry)) request (now (list .entry)) (now (table .entry)) ⌝ }
+{
+    field::field(older, newer, request, list, table)
+}
+
+// A new track.
+#[no_mangle]
+pub extern "C" fn gauge_track_new() -> Track
+    ensures { λ r. ⌜ r ≡ newTrack ⌝ }
+{
+    Track::new()
+}
+
+// Homes a track at (y, x).
+#[no_mangle]
+pub extern "C" fn gauge_home(track: Track, y: i32, x: i32) -> Homed
+    ensures { λ r. ⌜ r ≡ homed track y x ⌝ }
+{
+    track.home(y, x)
+}
+
+// Steps a track by the travel of a pair.
+#[no_mangle]
+pub extern "C" fn gauge_step(
+    track: Track,
+    older: &[u8],
+    newer: &[u8],
+    request: Request,
+    list: &mut [i32],
+    table: &mut [u32],
+) -> Stepped
+    ensures { λ r. ⌜ asStepping r (now (list .exit)) (now (table .exit)) ≡ stepped track (now (older .entry)) (now (newer .entry)) request (now (list .entry)) (now (table .entry)) ⌝ }
+{
+    track.step(older, newer, request, list, table)
 }
