@@ -4,7 +4,6 @@ use Prim.Native.Nat.{ℕ, zero, suc, _+_, _*_, _/_, _≤_}
 use mathlib.Core.Path.{_≡_, refl, ap}
 use mathlib.Core.Bool.{Bool, true, false, cond}
 use mathlib.Core.List.{List, [], _∷_}
-use native.Mathlib.Nat.{le-refl}
 use native.Mathlib.Omega.{arith}
 use lib.Count.{trailingZeros}
 use lib.Dec.{T, ltb, leb}
@@ -55,9 +54,9 @@ module _ (p : Pair) (limit w y x : ℕ) (down : y + p .sizes .n ≤ p .sizes .he
   pub cross-honest-at : Honest (target p w y x) (cross (target p w y x) limit w)
   cross-honest-at = cross-honest (target p w y x) limit w (still-candidate (p .sizes) w y x down across)
 
-  -- cross is never lower than the exhaustive best of its window
-  pub cross-never-lower : (v : Vector) → Best p w y x v → distortion p y x v ≤ cross (target p w y x) limit w .least
-  cross-never-lower v b = never-lower p w w y x v (cross (target p w y x) limit w) (le-refl w) b cross-honest-at
+  -- cross is never lower than the exhaustive best of a window that is no smaller
+  pub cross-never-lower : (wide : ℕ) (v : Vector) → w ≤ wide → Best p wide y x v → distortion p y x v ≤ cross (target p w y x) limit w .least
+  cross-never-lower wide v l b = never-lower p w wide y x v (cross (target p w y x) limit w) l b cross-honest-at
 
 -- ---- at most 5 + 4 log2 w are measured
 

@@ -84,25 +84,25 @@ module _ (p : Pair) (w : ℕ) (f : Fine p w) where
       rw (searched-four-step p (asked (p .sizes) 3 7 t) y x refl)
       (four-step-never-lower p y x hy hx w (best p w y x) l (each-place p w f y x hy hx), four-step-count (target p 7 y x))
 
-  cross-owes : T (crossWindow w) → (t : ℕ) → EachPlace p (λ y x. NotLower p w y x (searched p (asked (p .sizes) 4 w t) y x) (5 + 4 * log2 w))
+  cross-owes : (u : ℕ) → u ≤ w → T (crossWindow u) → (t : ℕ) → EachPlace p (λ y x. NotLower p w y x (searched p (asked (p .sizes) 4 u t) y x) (5 + 4 * log2 u))
   unfolding foundOf
-  cross-owes c t y x hy hx =
-      rw (searched-cross p (asked (p .sizes) 4 w t) y x refl)
-      (cross-never-lower p t w y x hy hx (best p w y x) (each-place p w f y x hy hx), cross-count (target p w y x) t w (T-true (crossWindow w) c))
+  cross-owes u l c t y x hy hx =
+      rw (searched-cross p (asked (p .sizes) 4 u t) y x refl)
+      (cross-never-lower p t u y x hy hx w (best p w y x) l (each-place p w f y x hy hx), cross-count (target p u y x) t u (T-true (crossWindow u) c))
 
   pub four-step-block : 7 ≤ w → (t y x : ℕ) → single p 3 7 t y x .refusal ≡ 0 → NotLower p w y x (single p 3 7 t y x) 27
   four-step-block l t = block-held 3 7 t 27 (λ o. four-step-owes l t)
 
-  pub cross-block : (t y x : ℕ) → single p 4 w t y x .refusal ≡ 0 → NotLower p w y x (single p 4 w t y x) (5 + 4 * log2 w)
+  pub cross-block : (u t y x : ℕ) → u ≤ w → single p 4 u t y x .refusal ≡ 0 → NotLower p w y x (single p 4 u t y x) (5 + 4 * log2 u)
   unfolding windowOk
-  cross-block t = block-held 4 w t (5 + 4 * log2 w) (λ o. cross-owes o t)
+  cross-block u t y x l = block-held 4 u t (5 + 4 * log2 u) (λ o. cross-owes u l o t) y x
 
   module _ (mine : List ℤ) (r : Lists p w mine) where
     pub four-step-over : 7 ≤ w → (t : ℕ) (list : List ℤ) (table : List ℕ) → grid p 3 7 t list table .answer .refusal ≡ 0
         → FieldNotLower p mine (grid p 3 7 t list table) 27
     four-step-over l t list table e = field-held 3 7 t 27 (λ o. four-step-owes l t) list table e mine r
 
-    pub cross-over : (t : ℕ) (list : List ℤ) (table : List ℕ) → grid p 4 w t list table .answer .refusal ≡ 0
-        → FieldNotLower p mine (grid p 4 w t list table) (5 + 4 * log2 w)
+    pub cross-over : (u t : ℕ) (list : List ℤ) (table : List ℕ) → u ≤ w → grid p 4 u t list table .answer .refusal ≡ 0
+        → FieldNotLower p mine (grid p 4 u t list table) (5 + 4 * log2 u)
     unfolding windowOk
-    cross-over t list table e = field-held 4 w t (5 + 4 * log2 w) (λ o. cross-owes o t) list table e mine r
+    cross-over u t list table l e = field-held 4 u t (5 + 4 * log2 u) (λ o. cross-owes u l o t) list table e mine r

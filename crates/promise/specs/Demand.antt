@@ -275,7 +275,8 @@ pub record Promise (calls : List Call) : Type 0 where
   pub four-step : EachStep calls (λ p w list s. 7 ≤ w → (t y x : ℕ) → single p 3 7 t y x .refusal ≡ 0 → NotLower p w y x (single p 3 7 t y x) 27)
   pub four-step-field : EachStep calls (λ p w list s. 7 ≤ w → (t : ℕ) (l : List ℤ) (table : List ℕ) → grid p 3 7 t l table .answer .refusal ≡ 0
       → FieldNotLower p (s .list) (grid p 3 7 t l table) 27)
-  -- cross with the same w, whatever its T, never ends lower, within 5 + 4 log2 w probes a block
-  pub cross : EachStep calls (λ p w list s. (t y x : ℕ) → single p 4 w t y x .refusal ≡ 0 → NotLower p w y x (single p 4 w t y x) (5 + 4 * log2 w))
-  pub cross-field : EachStep calls (λ p w list s. (t : ℕ) (l : List ℤ) (table : List ℕ) → grid p 4 w t l table .answer .refusal ≡ 0
-      → FieldNotLower p (s .list) (grid p 4 w t l table) (5 + 4 * log2 w))
+  -- cross with a window u of at most w, whatever its T, never ends lower, within 5 + 4 log2 u probes a block
+  pub cross : EachStep calls (λ p w list s. (u t y x : ℕ) → u ≤ w → single p 4 u t y x .refusal ≡ 0
+      → NotLower p w y x (single p 4 u t y x) (5 + 4 * log2 u))
+  pub cross-field : EachStep calls (λ p w list s. (u t : ℕ) (l : List ℤ) (table : List ℕ) → u ≤ w → grid p 4 u t l table .answer .refusal ≡ 0
+      → FieldNotLower p (s .list) (grid p 4 u t l table) (5 + 4 * log2 u))
