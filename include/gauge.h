@@ -4,9 +4,10 @@
  * bytes, row by row, top row first. A block is N x N pels and stands at the row and column of its top left pel. A vector
  * (dy, dx) compares the newer frame's block at (row, column) with the older frame's block at (row + dy, column + dx).
  *
- * Every call takes any input whatever. It only reads the memory that is lent to it, keeps no pointer and holds no state, so it
- * may be called from several threads. A frame is lent as a pointer and its length in bytes; the pointer must not be null, not even
- * where the length is 0.
+ * Every call takes any input whatever. It keeps no pointer and holds no state, so it may be called from several threads. A frame
+ * is lent as a pointer and its length in bytes, and only read; a list and a table are lent as a pointer and their length in
+ * numbers, and filled. A pointer must not be null, not even where the length is 0, and list and table share no byte with each other
+ * or with a frame.
  *
  * An answer is a struct by value whose first member is `refusal`: 0 where the call is accepted, else the number of the first
  * rule that the input breaks, in the order given at the call. All other members of a refused answer are 0.
@@ -19,13 +20,20 @@
  *     6  a threshold t over 65,280, or not 0 with search 1, 2 or 3
  *     7  the block not wholly inside the newer frame; for a row view, the N pels not inside one row
  *     8  the vector no candidate of window 16: a part over 16 in size, or the older block not wholly inside its frame
+ *     9  search 2: a table shorter than (width + 1) x (height + 1)
+ *    10  a list shorter than three numbers a grid block
+ *    11  a homing place outside -1,000,000 to 1,000,000
  *    12  side neither 0 nor 1
+ *    31  a step of a track that is not homed
+ *    32  a step of a track that has 1,000,000 steps or more
+ *    33  the step would lead outside -1,000,000 to 1,000,000
  *
  * Link with libgauge.a (`rt staticlib gauge` writes it to target/staticlib/).
  */
 #ifndef GAUGE_H
 #define GAUGE_H
 
+#include <stdbool.h>
 #include <stddef.h>
 #include <stdint.h>
 
@@ -74,6 +82,52 @@ typedef struct {
 /* Searches the block that stands at (row, column), on the grid or off it. Tests 1 2 3 4 5 6 7. */
 gauge_found gauge_search_block(const uint8_t *older, size_t older_length, const uint8_t *newer, size_t newer_length,
                                gauge_request request, size_t row, size_t column);
+
+/* What the field of a pair answers. */
+typedef struct {
+    uint32_t refusal;
+    int32_t dy, dx;     /* the reading: the vector of most blocks; the paper travelled by (-dy, -dx) */
+    uint32_t votes;     /* how many blocks have it */
+    uint32_t counts[5]; /* the counts of all blocks, summed */
+    uint32_t dropped;   /* and the numbers dropped, summed */
+} gauge_field_answer;
+
+/* Searches every block of the grid: (height / N) x (width / N) blocks, row by row. Fills the list with three numbers a block: dy,
+ * dx, distortion. Search 2 also fills the table with sums of older pels: place r x (width + 1) + c has the sum of the pels in rows
+ * before r and columns before c; the other searches leave it as it is. Numbers past the used part keep what they held, as
+ * all do where the call is refused. Tests 1 2 3 4 5 6 9 10. */
+gauge_field_answer gauge_field(const uint8_t *older, size_t older_length, const uint8_t *newer, size_t newer_length,
+                               gauge_request request, int32_t *list, size_t list_length, uint32_t *table, size_t table_length);
+
+/* Where the paper stands. A track is a plain value: a call takes the old one and hands the new one back. */
+typedef struct {
+    bool homed;
+    int32_t y, x;   /* the place */
+    uint32_t steps; /* steps since it was homed */
+} gauge_track;
+
+/* A new track: not homed, at (0,0), no steps. */
+gauge_track gauge_track_new(void);
+
+/* What homing answers: the track, the old one where refused. */
+typedef struct {
+    uint32_t refusal;
+    gauge_track track;
+} gauge_homed;
+
+/* Homes at (y, x): homed, that place, no steps. Tests 11. */
+gauge_homed gauge_home(gauge_track track, int32_t y, int32_t x);
+
+/* What a step answers: all that the field call answers, and the track, the old one where refused. */
+typedef struct {
+    gauge_field_answer answer;
+    gauge_track track;
+} gauge_stepped;
+
+/* Adds the travel of a pair to the place, and 1 to the steps. Lent memory is as the field call leaves it, also where 33 refuses.
+ * Tests 1 2 3 4 5 6 9 10 31 32 33. */
+gauge_stepped gauge_step(gauge_track track, const uint8_t *older, size_t older_length, const uint8_t *newer, size_t newer_length,
+                         gauge_request request, int32_t *list, size_t list_length, uint32_t *table, size_t table_length);
 
 #ifdef __cplusplus
 }

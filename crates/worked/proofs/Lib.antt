@@ -1,2 +1,5 @@
+pub mod Alike
+pub mod Impostors
+pub mod Once
 pub mod Places
 pub mod Worked

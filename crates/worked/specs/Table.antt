@@ -1,17 +1,20 @@
 -- 01, "Worked pairs": "Marked * belong to the proved set", and "For the reviewer": "Starred pairs: one joint table, one proof over it." Here
--- stand those of one block: A, B, D, E and F. A row has what is asked of a pair and the answer that 01 gives; it is right if the definitions
--- that the contracts cite give that answer.
---   pairA, pairB, pairC, pairD   the frames with their sizes; E and F have C's
+-- stand A to H, all but their logs. A row has what is asked of a pair and the answer that 01 gives; it is right if the definitions that the
+-- contracts cite give that answer.
+--   pairA, pairB, pairC, pairD   the frames with their sizes; E and F have C's, G and H have B's
 --   full, pruned, fourStep, cross   what a search of a pair is asked
---   Call     what is asked: a search of one block, the measuring call, or a distance
+--   heldList, heldTable   what lent memory held
+--   Call     what is asked: a search of one block, the measuring call, a distance, a field, a travel, or calls on a track
 --   answer   the answer by the definitions
 --   Row      what is asked, and the answer that 01 gives; Right: they agree
 --   table    the rows; the proof over them: proofs/Worked.antt
-use Prim.Native.Nat.{ℕ}
+use Prim.Native.Nat.{ℕ, _+_, _*_}
 use mathlib.Core.Path.{_≡_}
+use mathlib.Core.Bool.{true}
 use mathlib.Core.List.{List, [], _∷_, _++_}
-use lib.IntN.{pos}
+use lib.IntN.{ℤ, pos, negℤ}
 use lib.ListN.{replicate}
+use Rattle.base.specs.Lists.{concatTo}
 use Rattle.order.specs.declared.Vector.{Vector}
 use Rattle.order.specs.Vectors.{vec}
 use Rattle.frame.specs.declared.Request.{Request}
@@ -24,6 +27,13 @@ use Rattle.search.specs.Found.{foundAs, onlyAtOne}
 use Rattle.probe.specs.Probe.{origin}
 use Rattle.pruning.specs.Distance.{distanceBy}
 use Rattle.block.specs.Block.{blockFound}
+use Rattle.field.specs.declared.FieldAnswer.{FieldAnswer}
+use Rattle.field.specs.Field.{asked, refusedField, Fielded, asFielded, fielded}
+use Rattle.track.specs.declared.Track.{Track}
+use Rattle.track.specs.Track.{homedAt, asStepping}
+use Rattle.promise.specs.Demand.{Call as TrackCall, Result, travel, run}
+use Rattle.promise.specs.Demand.Call.{home, step}
+use Rattle.promise.specs.Demand.Result.{homing, stepping}
 
 -- ---- the frames
 
@@ -48,26 +58,37 @@ pairD = pairOf (replicate 16 10) (twice (0 ∷ 20 ∷ 0 ∷ 20 ∷ 20 ∷ 0 ∷ 
 
 -- ---- what is asked
 
-abbrev pub asked : (search w t : ℕ) → Pair → Request
-asked search w t p = record { width = p .sizes .width; height = p .sizes .height; n = p .sizes .n; search = search; w = w; t = t }
-
 abbrev pub full : ℕ → Pair → Request
-full w = asked 1 w 0
+full w p = asked (p .sizes) 1 w 0
 
 abbrev pub pruned : ℕ → Pair → Request
-pruned w = asked 2 w 0
+pruned w p = asked (p .sizes) 2 w 0
 
 abbrev pub fourStep : Pair → Request
-fourStep = asked 3 7 0
+fourStep p = asked (p .sizes) 3 7 0
 
 abbrev pub cross : ℕ → ℕ → Pair → Request
-cross w t = asked 4 w t
+cross w t p = asked (p .sizes) 4 w t
 
--- a search of the block at row y, column x; a vector of the block at (0,0) measured; the distance at m of the two blocks at (0,0)
+abbrev pub minus : ℕ → ℤ
+minus n = negℤ (pos n)
+
+-- what n places of a lent list and of a lent table held before the call: "Places past the used part of any lent memory keep what they held."
+abbrev pub heldList : ℕ → List ℤ
+heldList n = replicate n (pos 5)
+
+abbrev pub heldTable : ℕ → List ℕ
+heldTable n = replicate n 6
+
+-- a search of the block at row y, column x; a vector of the block at (0,0) measured; the distance at m of the two blocks at (0,0); a field with
+-- what list and table held; a travel by window w; calls on a track, from New on
 pub data Call : Type 0 where
   search : Pair → (Pair → Request) → (y x : ℕ) → Call
   measure : Pair → Vector → Call
   distance : Pair → (m : ℕ) → Call
+  field : Pair → (Pair → Request) → List ℤ → List ℕ → Call
+  travelling : Pair → (w : ℕ) → Call
+  calls : List TrackCall → Call
 
 -- ---- what is answered
 
@@ -75,12 +96,18 @@ pub data Answer : Type 0 where
   found : Found → Answer
   amount : Measured → Answer
   apart : ℕ → Answer
+  filled : Fielded → Answer
+  travels : Vector → Answer
+  results : List Result → Answer
 
 -- by the definitions
 abbrev pub answer : Call → Answer
 answer (search p q y x) = found (blockFound (p .older) (p .newer) (q p) y x)
 answer (measure p v) = amount (measured p 0 0 v)
 answer (distance p m) = apart (distanceBy absolute (p .sizes .n) m (newerBlock p 0 0) (olderBlock p 0 0 origin))
+answer (field p q list table) = filled (fielded (p .older) (p .newer) (q p) list table)
+answer (travelling p w) = travels (travel p w)
+answer (calls cs) = results (run cs)
 
 -- as 01 gives them: a vector, its distortion, the five counts and the number dropped
 abbrev pub finds : Vector → ℕ → List ℕ → ℕ → Answer
@@ -92,6 +119,72 @@ stillAfter probes = finds origin 0 (onlyAtOne probes) 0
 
 abbrev pub measures : ℕ → Answer
 measures d = amount (record { refusal = 0; distortion = d })
+
+-- the reading with its votes, and the sums over the blocks
+abbrev pub reads : Vector → ℕ → List ℕ → ℕ → FieldAnswer
+reads v votes counts dropped = record { refusal = 0; dy = v .dy; dx = v .dx; votes = votes; counts = counts; dropped = dropped }
+
+-- with what list and table then hold
+abbrev pub fills : FieldAnswer → List ℤ → List ℕ → Answer
+fills a list table = filled (asFielded a list table)
+
+-- a block's three numbers of the list: "dy, dx, distortion"
+abbrev pub triple : Vector → ℕ → List ℤ
+triple v d = v .dy ∷ v .dx ∷ pos d ∷ []
+
+abbrev pub stillBlock : List ℤ
+stillBlock = triple origin 0
+
+abbrev pub times : ℕ → List ℕ → List ℕ
+times r [] = []
+times r (n ∷ ns) = r * n ∷ times r ns
+
+-- the table of sums of a frame whose rows are alike, from one row's sums: those of r rows are r times as much
+abbrev pub sumsOf : List ℕ → (height : ℕ) → List ℕ
+sumsOf row height = concatTo (λ r. times r row) (height + 1)
+
+-- ---- by field: what list and table hold, two places longer than the used part
+
+abbrev pub listA : List ℤ
+listA = triple origin 32 ++ heldList 2
+
+abbrev pub tableA : List ℕ
+tableA = sumsOf (0 ∷ 12 ∷ 24 ∷ 36 ∷ 48 ∷ []) 4 ++ heldTable 2
+
+abbrev pub vectorB : Vector
+vectorB = vec (pos 0) (pos 1)
+
+abbrev pub listB : List ℤ
+listB = triple vectorB 0 ++ heldList 2
+
+abbrev pub tableB : List ℕ
+tableB = sumsOf (0 ∷ 0 ∷ 10 ∷ 30 ∷ 60 ∷ 100 ∷ []) 4 ++ heldTable 2
+
+-- "four still blocks"
+abbrev pub listC : List ℤ
+listC = stillBlock ++ stillBlock ++ stillBlock ++ stillBlock ++ heldList 2
+
+abbrev pub tableC : List ℕ
+tableC = sumsOf (0 ∷ 7 ∷ 14 ∷ 21 ∷ 28 ∷ 35 ∷ 42 ∷ 49 ∷ 56 ∷ []) 8 ++ heldTable 2
+
+-- ---- on a track: "home (y, x), step B"
+
+-- B by search 2
+abbrev pub readsB : FieldAnswer
+readsB = reads vectorB 1 (0 ∷ 0 ∷ 2 ∷ 2 ∷ 1 ∷ []) 1
+
+abbrev pub stepB : TrackCall
+stepB = step pairB 1 0 (heldList 5) (heldTable 32)
+
+abbrev pub homeAndStep : ℤ → ℤ → Call
+homeAndStep y x = calls (home y x ∷ stepB ∷ [])
+
+-- Home is accepted; the step hands the track back, with what the field call answers or a refusal, and list and table are filled
+abbrev pub homedAndStepped : ℤ → ℤ → Track → FieldAnswer → Answer
+homedAndStepped y x t a =
+    let first = homing (record { refusal = 0; track = homedAt y x }) in
+    let second = stepping (asStepping (record { track = t; answer = a }) listB tableB) in
+    results (first ∷ second ∷ [])
 
 -- ---- the table
 
@@ -112,10 +205,22 @@ table =
     (search pairA (full 16) 0 0 gives finds origin 32 (onlyAtOne 1) 0)
     ∷ (search pairA (pruned 16) 0 0 gives finds origin 32 (0 ∷ 0 ∷ 1 ∷ 1 ∷ 1 ∷ []) 0)
     ∷ (measure pairA origin gives measures 32)
-    -- B* ".. w 1, ..: (0,1), 0; full 2; pruned 0,0,2,2,1, dropped 1"
-    ∷ (search pairB (full 1) 0 0 gives finds (vec (pos 0) (pos 1)) 0 (onlyAtOne 2) 0)
-    ∷ (search pairB (pruned 1) 0 0 gives finds (vec (pos 0) (pos 1)) 0 (0 ∷ 0 ∷ 2 ∷ 2 ∷ 1 ∷ []) 1)
-    ∷ (measure pairB (vec (pos 0) (pos 1)) gives measures 0)
+    ∷ (field pairA (full 16) (heldList 5) (heldTable 27) gives fills (reads origin 1 (onlyAtOne 1) 0) listA (heldTable 27))
+    ∷ (field pairA (pruned 16) (heldList 5) (heldTable 27) gives fills (reads origin 1 (0 ∷ 0 ∷ 1 ∷ 1 ∷ 1 ∷ []) 0) listA tableA)
+    -- B* ".. w 1, ..: (0,1), 0; full 2; pruned 0,0,2,2,1, dropped 1; travel (0,-1)"
+    ∷ (search pairB (full 1) 0 0 gives finds vectorB 0 (onlyAtOne 2) 0)
+    ∷ (search pairB (pruned 1) 0 0 gives finds vectorB 0 (0 ∷ 0 ∷ 2 ∷ 2 ∷ 1 ∷ []) 1)
+    ∷ (measure pairB vectorB gives measures 0)
+    ∷ (field pairB (full 1) (heldList 5) (heldTable 32) gives fills (reads vectorB 1 (onlyAtOne 2) 0) listB (heldTable 32))
+    ∷ (field pairB (pruned 1) (heldList 5) (heldTable 32) gives fills readsB listB tableB)
+    ∷ (travelling pairB 1 gives travels (vec (pos 0) (minus 1)))
+    -- C* ".. w 1: four still blocks, full 4 each; pruned sums 0,0,16,16,16"
+    ∷ (search pairC (full 1) 0 0 gives stillAfter 4)
+    ∷ (search pairC (full 1) 0 4 gives stillAfter 4)
+    ∷ (search pairC (full 1) 4 0 gives stillAfter 4)
+    ∷ (search pairC (full 1) 4 4 gives stillAfter 4)
+    ∷ (field pairC (full 1) (heldList 14) (heldTable 83) gives fills (reads origin 4 (onlyAtOne 16) 0) listC (heldTable 83))
+    ∷ (field pairC (pruned 1) (heldList 14) (heldTable 83) gives fills (reads origin 4 (0 ∷ 0 ∷ 16 ∷ 16 ∷ 16 ∷ []) 0) listC tableC)
     -- D* "distances 0 at 4 and 2, distortion 160"
     ∷ (distance pairD 4 gives apart 0)
     ∷ (distance pairD 2 gives apart 0)
@@ -128,4 +233,8 @@ table =
     ∷ (search pairC fourStep 0 0 gives stillAfter 7)
     ∷ (search pairC (cross 2 0) 0 0 gives stillAfter 4)
     ∷ (search pairC (cross 2 1) 0 0 gives stillAfter 1)
+    -- G* "home (10,20), step B: (10,19), steps 1"
+    ∷ (homeAndStep (pos 10) (pos 20) gives homedAndStepped (pos 10) (pos 20) (record { homed = true; y = pos 10; x = pos 19; steps = 1 }) readsB)
+    -- H* "home (0,-1000000), step B: 33": the old track, zeros, list and table filled
+    ∷ (homeAndStep (pos 0) (minus 1000000) gives homedAndStepped (pos 0) (minus 1000000) (homedAt (pos 0) (minus 1000000)) (refusedField 33))
     ∷ []

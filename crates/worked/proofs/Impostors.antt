@@ -1,0 +1,70 @@
+-- Answers that the promise of the tracks excludes, by accepted steps of pair B: by window 1 it travels (0,-1), by window 0 not at all. Whatever keeps
+-- that promise ends where the reckoning ends, and where that is, is computed.
+use Prim.Native.Nat.{ℕ}
+use mathlib.Core.Path.{_≡_, refl, sym, ap, _∙_}
+use mathlib.Core.Bool.{true}
+use mathlib.Core.List.{List, [], _∷_}
+use native.Mathlib.Omega.{arith}
+use lib.IntN.{pos}
+use Rattle.base.specs.Sum.{sumTo}
+use Rattle.base.specs.Least.{leastOf, leastFrom}
+use Rattle.signed.specs.Int.{up}
+use Rattle.order.specs.Vectors.{vec}
+use Rattle.order.specs.Preference.{preference}
+use Rattle.frame.specs.Grid.{rows, columns, blocks, blockRow, blockColumn}
+use Rattle.frame.specs.Candidates.{candidate}
+use Rattle.frame.specs.Refusals.{first, listed, windowOk, thresholdOk, pairRefusal, requestRefusal}
+use Rattle.distortion.specs.Blocks.{distortion, distortionBy}
+use Rattle.probe.specs.Probe.{origin}
+use Rattle.field.specs.Field.{fieldRefusal}
+use Rattle.track.specs.declared.Track.{Track}
+use Rattle.track.specs.Track.{newTrack}
+use Rattle.promise.specs.Demand.{Call, travel, refusalOf, accept, reckon, reckoned, Result, trackIn, last, Each}
+use Rattle.promise.specs.Demand.Call.{home, step}
+use Rattle.promise.specs.Demand.Each.{none, next}
+use Rattle.worked.specs.Table.{pairB, heldList, heldTable, minus, stepB}
+use Rattle.worked.proofs.Places.{walk, after}
+use Rattle.worked.proofs.Alike.{every, alike}
+use Rattle.worked.proofs.Once.{travel-once}
+
+-- what the promise says of each call's track
+abbrev pub Tracks : Track → Call → Result → Type 0
+Tracks t c r = trackIn r ≡ reckon t c
+
+tracks-end : (t : Track) (cs : List Call) (rs : List Result) → Each Tracks t cs rs → last t rs ≡ reckoned t cs
+unfolding last reckoned
+tracks-end t [] [] none = refl
+tracks-end t (c ∷ cs) (r ∷ rs) (next h e) = rw h (tracks-end (reckon t c) cs rs e)
+
+travels-B : (travel pairB 1 ≡ vec (pos 0) (minus 1)) × (travel pairB 0 ≡ origin)
+unfolding
+    pairB preference candidate distortion distortionBy sumTo leastOf leastFrom blocks rows columns blockRow blockColumn walk after every alike
+travels-B = (travel-once pairB 1, travel-once pairB 0)
+
+-- the accepted step of G, and another by window 0
+abbrev pub once : List Call
+once = home (pos 10) (pos 20) ∷ stepB ∷ []
+
+abbrev pub again : List Call
+again = home (pos 10) (pos 20) ∷ stepB ∷ step pairB 0 0 (heldList 5) (heldTable 32) ∷ []
+
+at : (steps : ℕ) → Track
+at steps = record { homed = true; y = pos 10; x = pos 19; steps = steps }
+
+ends-B : (reckoned newTrack once ≡ at 1) × (reckoned newTrack again ≡ at 2)
+unfolding pairB reckoned reckon refusalOf accept fieldRefusal requestRefusal pairRefusal listed windowOk thresholdOk first blocks rows columns at
+ends-B = (rw (travels-B .0), rw (travels-B .0, travels-B .1))
+
+-- a track that stands at another x
+elsewhere : (x : ℕ) (cs : List Call) (rs : List Result) (n : ℕ) → Each Tracks newTrack cs rs → reckoned newTrack cs ≡ at n
+    → (x ≡ 19 → ⊥) → last newTrack rs .x ≡ pos x → ⊥
+unfolding at
+elsewhere x cs rs n k e ne h = ne (ap up (sym h ∙ ap (λ (t : Track). t .x) (tracks-end newTrack cs rs k ∙ e)))
+
+-- "still paper for every pair"
+pub still-excluded : (rs : List Result) → Each Tracks newTrack once rs → last newTrack rs .x ≡ pos 20 → ⊥
+still-excluded rs k = elsewhere 20 once rs 1 k (ends-B .0) (λ q. omega arith)
+
+-- "a first step worked out and its travel repeated"
+pub repeated-excluded : (rs : List Result) → Each Tracks newTrack again rs → last newTrack rs .x ≡ pos 18 → ⊥
+repeated-excluded rs k = elsewhere 18 again rs 2 k (ends-B .1) (λ q. omega arith)

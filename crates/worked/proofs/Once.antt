@@ -1,0 +1,186 @@
+-- What the definitions answer, in a form that is quick to compute: a block's candidates are listed once instead of wherever they are named, and
+-- where all blocks have one vector, that is the reading. Each form is one of the definitions with a part of it exchanged for an equal one.
+--   blockOnce    a single-block search
+--   fieldOnce    a field
+--   travelOnce   a travel
+--   runOnce      calls on a track
+use Prim.Native.Nat.{ℕ}
+use mathlib.Core.Path.{_≡_, refl, ap, ap₂, fun-ext, _∙_}
+use mathlib.Core.Bool.{cond}
+use mathlib.Core.List.{List, [], _∷_, _++_}
+use lib.Dec.{eqb}
+use lib.IntN.{ℤ}
+use lib.ListN.{length, drop}
+use Rattle.base.specs.Least.{leastOf}
+use Rattle.order.specs.declared.Vector.{Vector}
+use Rattle.order.specs.Preference.{preference, preferred}
+use Rattle.frame.specs.declared.Request.{Request}
+use Rattle.frame.specs.Pictures.{Pair, pairOf}
+use Rattle.frame.specs.Grid.{blocks, blockRow, blockColumn}
+use Rattle.frame.specs.Candidates.{candidate}
+use Rattle.frame.specs.Refusals.{sizesOf}
+use Rattle.distortion.specs.Blocks.{absolute}
+use Rattle.search.specs.declared.Found.{Found}
+use Rattle.search.specs.Weighing.{target}
+use Rattle.search.specs.Found.{foundAs, onlyAtOne, vectorIn, refusedSearch}
+use Rattle.search.specs.Exhaustive.{best}
+use Rattle.probe.specs.Held.{foundOf}
+use Rattle.four_step.specs.FourStep.{fourStep}
+use Rattle.cross.specs.Cross.{cross}
+use Rattle.pruning.specs.Prune.{Pruning, prune, prunedBest, counts, resolutions}
+use Rattle.full.specs.Full.{fullFound}
+use Rattle.pruned.specs.Answer.{distortionAt, distanceAt, pruning, chosen, prunedFound}
+use Rattle.block.specs.Block.{searchRefusal, searched, blockFound}
+use Rattle.reading.specs.Reading.{votes, majority}
+use Rattle.field.specs.Field.{asked, fieldRefusal, blockOf, entries, countsOver, droppedOver, listSize, filledTable, fieldAnswer, refusedField, Fielded, asFielded, fielded}
+use Rattle.track.specs.declared.Track.{Track}
+use Rattle.track.specs.Track.{homed, stepRefusalIs, refusedStep, asStepping, landed, Stepping, stepped}
+use Rattle.promise.specs.Demand.{Call, turned, travel, Result, trackIn, call, runFrom}
+use Rattle.promise.specs.Demand.Call.{home, step}
+use Rattle.promise.specs.Demand.Result.{homing, stepping}
+use Rattle.worked.specs.Table.{reads}
+use Rattle.worked.proofs.Places.{walk, after, by-walk}
+use Rattle.worked.proofs.Alike.{majorityOnce, majority-once}
+
+-- ---- a block
+
+module _ (p : Pair) (w y x : ℕ) where
+  abbrev D : ℕ → ℕ
+  D = distortionAt p y x
+
+  abbrev pruningOf : List ℕ → Pruning
+  pruningOf = prune D (distanceAt p y x) (absolute .limit) (p .sizes .n) (resolutions (p .sizes .n))
+
+  abbrev chosenOf : List ℕ → ℕ
+  chosenOf = prunedBest D (distanceAt p y x) (absolute .limit) (p .sizes .n) (resolutions (p .sizes .n))
+
+  abbrev once : {A : Type 0} → (List ℕ → A) → A
+  once = after (walk (candidate (p .sizes) w y x) 0 preference)
+
+  abbrev bestOnce : Vector
+  bestOnce = once (λ ks. preferred (leastOf D ks))
+
+  abbrev fullOnce : Found
+  fullOnce = once (λ ks. foundAs (preferred (leastOf D ks)) (D (leastOf D ks)) (onlyAtOne (length ks)) 0)
+
+  abbrev prunedOnce : Found
+  prunedOnce = once (λ ks. foundAs (preferred (chosenOf ks)) (D (chosenOf ks)) (counts (pruningOf ks)) (length (pruningOf ks .dropped)))
+
+  best-once : best p w y x ≡ bestOnce
+  unfolding best
+  best-once = by-walk (p .sizes) w y x _
+
+  full-once : fullFound p w y x ≡ fullOnce
+  unfolding fullFound best
+  full-once = by-walk (p .sizes) w y x _
+
+  pruned-once : prunedFound p w y x ≡ prunedOnce
+  unfolding prunedFound pruning chosen
+  pruned-once = by-walk (p .sizes) w y x _
+
+module _ (p : Pair) (q : Request) (y x : ℕ) where
+  -- the search asked for, by the answers f and g of searches 1 and 2
+  abbrev searchedBy : Found → Found → Found
+  searchedBy f g =
+      cond (eqb (q .search) 1) f
+      (cond (eqb (q .search) 2) g
+      (cond (eqb (q .search) 3) (foundOf (fourStep (target p (q .w) y x)))
+      (foundOf (cross (target p (q .w) y x) (q .t) (q .w)))))
+
+  abbrev searchedOnce : Found
+  searchedOnce = searchedBy (fullOnce p (q .w) y x) (prunedOnce p (q .w) y x)
+
+  searched-once : searched p q y x ≡ searchedOnce
+  unfolding searched
+  searched-once = ap₂ searchedBy (full-once p (q .w) y x) (pruned-once p (q .w) y x)
+
+module _ (older newer : List ℕ) (q : Request) (y x : ℕ) where
+  abbrev blockBy : Found → Found
+  blockBy f = let refusal = searchRefusal (length older) (length newer) q y x in cond (eqb refusal 0) f (refusedSearch refusal)
+
+  abbrev pub blockOnce : Found
+  blockOnce = blockBy (searchedOnce (pairOf older newer (sizesOf q)) q y x)
+
+  pub block-once : blockFound older newer q y x ≡ blockOnce
+  unfolding blockFound
+  block-once = ap blockBy (searched-once (pairOf older newer (sizesOf q)) q y x)
+
+-- ---- a field
+
+module _ (older newer : List ℕ) (q : Request) (list : List ℤ) (table : List ℕ) where
+  abbrev pair : Pair
+  pair = pairOf older newer (sizesOf q)
+
+  abbrev n : ℕ
+  n = blocks (pair .sizes)
+
+  -- the call, by its blocks' answers and the reading's vector
+  abbrev fieldBy : (ℕ → Found) → Vector → Fielded
+  fieldBy found v =
+      let refusal = fieldRefusal (length older) (length newer) q (length list) (length table) in
+      cond (eqb refusal 0)
+      (asFielded (reads v (votes (λ k. vectorIn (found k)) n v) (countsOver found n) (droppedOver found n))
+      (entries found n ++ drop (listSize (pair .sizes)) list) (filledTable older q table))
+      (asFielded (refusedField refusal) list table)
+
+  abbrev foundOnce : ℕ → Found
+  foundOnce k = searchedOnce pair q (blockRow (pair .sizes) k) (blockColumn (pair .sizes) k)
+
+  abbrev pub fieldOnce : Fielded
+  fieldOnce = fieldBy foundOnce (majorityOnce (λ k. vectorIn (foundOnce k)) n)
+
+  pub field-once : fielded older newer q list table ≡ fieldOnce
+  unfolding fielded fieldAnswer blockOf
+  field-once =
+      ap (λ (found : ℕ → Found). fieldBy found (majority (λ k. vectorIn (found k)) n)) (fun-ext (λ k. searched-once pair q _ _))
+      ∙ ap (fieldBy foundOnce) (majority-once (λ k. vectorIn (foundOnce k)) n)
+
+-- ---- a travel
+
+module _ (p : Pair) (w : ℕ) where
+  abbrev bestsOnce : ℕ → Vector
+  bestsOnce k = bestOnce p w (blockRow (p .sizes) k) (blockColumn (p .sizes) k)
+
+  abbrev pub travelOnce : Vector
+  travelOnce = turned (majorityOnce bestsOnce (blocks (p .sizes)))
+
+  pub travel-once : travel p w ≡ travelOnce
+  unfolding travel
+  travel-once =
+      ap (λ (has : ℕ → Vector). turned (majority has (blocks (p .sizes)))) (fun-ext (λ k. best-once p w _ _))
+      ∙ ap turned (majority-once bestsOnce (blocks (p .sizes)))
+
+-- ---- calls on a track
+
+module _ (t : Track) (older newer : List ℕ) (q : Request) (list : List ℤ) (table : List ℕ) where
+  abbrev stepBy : Fielded → Stepping
+  stepBy f =
+      let refusal = stepRefusalIs t older newer q list table in
+      cond (eqb refusal 0) (landed t f) (asStepping (refusedStep refusal t) list table)
+
+  abbrev stepOnce : Stepping
+  stepOnce = stepBy (fieldOnce older newer q list table)
+
+  step-once : stepped t older newer q list table ≡ stepOnce
+  unfolding stepped
+  step-once = ap stepBy (field-once older newer q list table)
+
+abbrev callOnce : Track → Call → Result
+callOnce t (home y x) = homing (homed t y x)
+callOnce t (step p w threshold list table) = stepping (stepOnce t (p .older) (p .newer) (asked (p .sizes) 2 w threshold) list table)
+
+call-once : (t : Track) (c : Call) → call t c ≡ callOnce t c
+unfolding call
+call-once t (home y x) = refl
+call-once t (step p w threshold list table) = ap stepping (step-once t (p .older) (p .newer) (asked (p .sizes) 2 w threshold) list table)
+
+abbrev pub runOnce : Track → List Call → List Result
+runOnce t [] = []
+runOnce t (c ∷ cs) = callOnce t c ∷ runOnce (trackIn (callOnce t c)) cs
+
+pub run-once : (t : Track) (cs : List Call) → runFrom t cs ≡ runOnce t cs
+unfolding runFrom
+run-once t [] = refl
+run-once t (c ∷ cs) =
+    ap (λ (r : Result). r ∷ runFrom (trackIn r) cs) (call-once t c)
+    ∙ ap (λ (rs : List Result). callOnce t c ∷ rs) (run-once (trackIn (callOnce t c)) cs)
