@@ -27,6 +27,10 @@ pub or-cases : (a b : Bool) → T (a || b) → T a ⊎ T b
 or-cases true b t = inl tt
 or-cases false b t = inr t
 
+pub or-true : (a : Bool) → (a || true) ≡ true
+or-true true = refl
+or-true false = refl
+
 -- what holds of a number holds of one that the test finds equal
 pub eqb-subst : (P : ℕ → Type 0) (n k : ℕ) → P k → T (eqb n k) → P n
 eqb-subst P n k p t = subst P (sym (eqb→eq n k t)) p

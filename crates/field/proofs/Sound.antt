@@ -23,6 +23,7 @@ use Rattle.search.specs.Weighing.{target}
 use Rattle.search.specs.Exhaustive.{places}
 use Rattle.search.proofs.Exhaustive.{best-is}
 use Rattle.probe.specs.Probe.{Seen, Honest}
+use Rattle.probe.proofs.Probe.{within-more}
 use Rattle.probe.specs.Held.{foundOf}
 use Rattle.four_step.proofs.FourStep.{four-step-honest-at, four-step-count}
 use Rattle.cross.proofs.Cross.{cross-honest-at, cross-count}
@@ -37,9 +38,6 @@ use Rattle.field.specs.Filling.{Sound}
 -- pels are bytes
 abbrev pub Bytes : List ℕ → Type 0
 Bytes l = (i : ℕ) → getD l i 0 ≤ 255
-
-within-wider : {w u : ℕ} {v : Vector} → w ≤ u → Within w v → Within u v
-within-wider h i = record { down = le-trans (i .down) h; across = le-trans (i .across) h }
 
 -- one count alone
 at-one : (n i : ℕ) → n ≤ 1089 → getD (onlyAtOne n) i 0 ≤ 1089
@@ -76,7 +74,7 @@ module _ (p : Pair) (bytes : Bytes (p .older) × Bytes (p .newer)) (allowed : T 
 
   module _ (w y x : ℕ) (small : w ≤ 16) (down : y + p .sizes .n ≤ p .sizes .height) (across : x + p .sizes .n ≤ p .sizes .width) where
     near : (v : Vector) → Candidate (p .sizes) w y x v → Within 16 v
-    near v c = within-wider small (c .window)
+    near v c = within-more small (c .window)
 
     full-sound : Sound (fullFound p w y x)
     unfolding fullFound

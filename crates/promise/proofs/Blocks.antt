@@ -3,7 +3,6 @@
 use Prim.Native.Nat.{ℕ, _+_, _*_, _≤_, _<_}
 use mathlib.Core.Path.{_≡_, refl, sym, ap, ap₂, _∙_}
 use mathlib.Core.List.{List, [], _∷_, _++_}
-use native.Mathlib.Nat.{le-trans}
 use native.Mathlib.Omega.{arith}
 use lib.Dec.{T, le→leb, lt→ltb}
 use lib.IntN.{ℤ, pos}
@@ -23,6 +22,7 @@ use Rattle.search.specs.declared.Found.{Found}
 use Rattle.search.specs.Found.{vectorIn, probes}
 use Rattle.search.specs.Exhaustive.{Best, best}
 use Rattle.search.proofs.Exhaustive.{best-is}
+use Rattle.probe.proofs.Probe.{within-more}
 use Rattle.pruned.specs.Answer.{prunedFound}
 use Rattle.pruned.proofs.Laws.{pruned-distortion, pruned-adds, pruned-is-best}
 use Rattle.block.specs.Block.{search-fine, block-accepted, searched-pruned}
@@ -70,7 +70,7 @@ module _ (p : Pair) (w : ℕ) (f : Fine p w) where
   pub best-within : EachBlock p (λ k. Within 16 (bestOf p w k))
   best-within k h =
       let b = each-place (blockRow (p .sizes) k) (blockColumn (p .sizes) k) (block-down (p .sizes) fits k h) (block-across (p .sizes) fits k h) in
-      record { down = le-trans (b .candidate .window .down) (f .small); across = le-trans (b .candidate .window .across) (f .small) }
+      within-more (f .small) (b .candidate .window)
 
   -- search 2 at a place
   module _ (y x : ℕ) (hy : y + p .sizes .n ≤ p .sizes .height) (hx : x + p .sizes .n ≤ p .sizes .width) where

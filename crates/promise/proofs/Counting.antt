@@ -9,7 +9,7 @@ use native.Mathlib.Nat.{add-zero}
 use native.Mathlib.Omega.{arith}
 use lib.Dec.{T}
 use lib.ListN.{length}
-use Rattle.base.specs.Tests.{T-true, true-T, and-right, or-cases}
+use Rattle.base.specs.Tests.{or-true, T-true, true-T, and-right, or-cases}
 use Rattle.base.specs.Sum.{sumTo, sumTo-ext}
 use Rattle.base.specs.Least.{_∈_}
 use Rattle.base.specs.Picks.{pick, picked, pick-length}
@@ -30,10 +30,6 @@ use Rattle.pruned.proofs.Laws.{pruned-counted, pruned-probes, pruned-holds, pru
 use Rattle.promise.specs.Demand.{number, vectorsAt, isDropped, isMeasured}
 
 -- ---- vectors, and the vectors at places of the table
-
-or-true : (b : Bool) → (b || true) ≡ true
-or-true true = refl
-or-true false = refl
 
 mem-in : {k : ℕ} (ks : List ℕ) → k ∈ ks → isIn (preferred k) (vectorsAt ks) ≡ true
 unfolding isIn vectorsAt

@@ -2,12 +2,13 @@
 use Prim.Native.Nat.{ℕ, _+_, _*_, _≤_}
 use borrow.Author.Tests.{ne-eqb, eq-eqb, lt-leb, le-leb}
 use lib.Dec.{eqb}
-use mathlib.Core.Bool.{Bool, true, false, not, _||_}
+use mathlib.Core.Bool.{true, not}
 use mathlib.Core.Logic.{⊎-elim}
-use mathlib.Core.Path.{_≡_, refl, sym, ap, _∙_}
+use mathlib.Core.Path.{_≡_, sym, ap, _∙_}
 use native.Mathlib.Nat.{mul-le-mul}
 use native.Mathlib.Omega.{arith}
 use Rattle.field.specs.Field.{fieldRefusal, tableOk}
+use Rattle.base.specs.Tests.{or-true}
 use Rattle.frame.specs.Grid.{blocks, blocks-few}
 use Rattle.frame.specs.Pictures.{Fitting}
 use Rattle.frame.specs.Refusals.{first-none, first-some, sizesOf, requestRefusal, asked}
@@ -61,10 +62,6 @@ count-is c = c .block-count .ensures ∙ ap blocks (c .before .sizes-of .ensures
 
 mul-if4 : tie.Need-mul-if4
 mul-if4 c = omega (arith, count-is c, blocks-few _ (fine (c .before .before .before .before)))
-
-or-true : (b : Bool) → (b || true) ≡ true
-or-true true = refl
-or-true false = refl
 
 -- past the table's length
 long : (c : tie.Joined2) → let a = c .before .before .before .before .args in tableOk (a .q) (a .table) ≡ true
