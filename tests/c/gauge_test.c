@@ -1,5 +1,5 @@
-/* The C boundary, through include/gauge.h: document 01's worked pairs A to F and J as far as measuring and single blocks go, and every
- * refusal of each call at the edge of its range, with the order in which they are tested. */
+/* The C boundary, through include/gauge.h: document 01's worked pairs A to H and J, every refusal of each call at the edge of its range, with
+ * the order in which they are tested, and what lent memory holds afterwards. */
 #include <stdio.h>
 #include <stdlib.h>
 #include <string.h>
@@ -324,6 +324,354 @@ static void searching_refusals(void)
     refused("3 before 4", search(p, 0, 3, 0, 0, 0), 3);
 }
 
+/* ---- fields */
+
+/* Lent memory: what it holds before a call, its marks, is told apart from all that a field writes. */
+enum { LIST = 3 * 4096 + 8, TABLE = 1025 * 1025 + 8 };
+static const int32_t LIST_MARK = -77777777;
+static const uint32_t TABLE_MARK = 3141592653u;
+static int32_t list[LIST];
+static uint32_t table[TABLE];
+
+static void mark_lent(void)
+{
+    for (size_t i = 0; i < LIST; i++)
+        list[i] = LIST_MARK;
+    for (size_t i = 0; i < TABLE; i++)
+        table[i] = TABLE_MARK;
+}
+
+/* Places from `from` on keep what they held. */
+static void list_kept(const char *what, size_t from)
+{
+    size_t changed = 0;
+    for (size_t i = from; i < LIST; i++)
+        changed += list[i] != LIST_MARK;
+    same(what, changed, 0);
+}
+
+static void table_kept(const char *what, size_t from)
+{
+    size_t changed = 0;
+    for (size_t i = from; i < TABLE; i++)
+        changed += table[i] != TABLE_MARK;
+    same(what, changed, 0);
+}
+
+static void lent_kept(const char *what)
+{
+    list_kept(what, 0);
+    table_kept(what, 0);
+}
+
+/* The table has the sums of the older frame, and keeps what it held behind them. */
+static void table_filled(const char *what, struct pair p)
+{
+    size_t wrong = 0;
+    for (size_t r = 0; r <= p.height; r++)
+        for (size_t c = 0; c <= p.width; c++) {
+            uint32_t sum = 0;
+            if (r > 0 && c > 0)
+                sum = table[(r - 1) * (p.width + 1) + c] + table[r * (p.width + 1) + c - 1] - table[(r - 1) * (p.width + 1) + c - 1] +
+                      p.older[(r - 1) * p.width + c - 1];
+            wrong += table[r * (p.width + 1) + c] != sum;
+        }
+    same(what, wrong, 0);
+    table_kept(what, (p.width + 1) * (p.height + 1));
+}
+
+static size_t list_length(struct pair p)
+{
+    return 3 * (p.height / p.n) * (p.width / p.n);
+}
+
+static size_t table_length(struct pair p)
+{
+    return (p.width + 1) * (p.height + 1);
+}
+
+static gauge_field_answer field(struct pair p, uint32_t search, size_t w, uint32_t t, size_t list_length, size_t table_length)
+{
+    gauge_request request = {p.width, p.height, p.n, search, w, t};
+    return gauge_field(p.older, p.older_length, p.newer, p.newer_length, request, list, list_length, table, table_length);
+}
+
+static void fielded(const char *what, gauge_field_answer a, int32_t dy, int32_t dx, uint32_t votes, const uint32_t counts[5], uint32_t dropped)
+{
+    same(what, a.refusal, 0);
+    same(what, (uint32_t)a.dy, (uint32_t)dy);
+    same(what, (uint32_t)a.dx, (uint32_t)dx);
+    same(what, a.votes, votes);
+    for (int i = 0; i < 5; i++)
+        same(what, a.counts[i], counts[i]);
+    same(what, a.dropped, dropped);
+}
+
+/* A refused answer: the number, and zeros elsewhere. */
+static void field_refused(const char *what, gauge_field_answer a, uint32_t refusal)
+{
+    gauge_field_answer wanted;
+    memset(&wanted, 0, sizeof wanted);
+    wanted.refusal = refusal;
+    same(what, (uint64_t)memcmp(&a, &wanted, sizeof a), 0);
+}
+
+/* So many list entries, three numbers each. */
+static void listed(const char *what, const int32_t *wanted, size_t entries)
+{
+    same(what, (uint64_t)memcmp(list, wanted, 3 * entries * sizeof *list), 0);
+    list_kept(what, 3 * entries);
+}
+
+static uint8_t b_older[20], b_newer[20], c_frame[64];
+
+static struct pair pair_b(void)
+{
+    for (int i = 0; i < 20; i++) {
+        b_older[i] = (uint8_t)(10 * (i % 5));
+        b_newer[i] = i % 5 == 4 ? 99 : (uint8_t)(10 * (i % 5 + 1));
+    }
+    return pair_of(b_older, b_newer, 5, 4, 4);
+}
+
+static struct pair pair_c(void)
+{
+    memset(c_frame, 7, sizeof c_frame);
+    return pair_of(c_frame, c_frame, 8, 8, 4);
+}
+
+static void worked_fields(void)
+{
+    static const int32_t b_list[3] = {0, 1, 0}, c_list[12];
+    struct pair b = pair_b(), c = pair_c();
+
+    mark_lent();
+    fielded("B, full", field(b, 1, 1, 0, LIST, TABLE), 0, 1, 1, (uint32_t[]){0, 0, 0, 0, 2}, 0);
+    listed("B, full, list", b_list, 1);
+    table_kept("B, full, table", 0);
+    mark_lent();
+    fielded("B, pruned", field(b, 2, 1, 0, LIST, TABLE), 0, 1, 1, (uint32_t[]){0, 0, 2, 2, 1}, 1);
+    listed("B, pruned, list", b_list, 1);
+    table_filled("B, pruned, table", b);
+
+    mark_lent();
+    fielded("C, full", field(c, 1, 1, 0, 12, 0), 0, 0, 4, (uint32_t[]){0, 0, 0, 0, 16}, 0);
+    listed("C, full, list", c_list, 4);
+    table_kept("C, full, table", 0);
+    mark_lent();
+    fielded("C, pruned", field(c, 2, 1, 0, 12, 81), 0, 0, 4, (uint32_t[]){0, 0, 16, 16, 16}, 0);
+    listed("C, pruned, list", c_list, 4);
+    table_filled("C, pruned, table", c);
+    mark_lent();
+    fielded("C, four-step", field(c, 3, 7, 0, 12, 0), 0, 0, 4, (uint32_t[]){0, 0, 0, 0, 28}, 0);
+    listed("C, four-step, list", c_list, 4);
+    table_kept("C, four-step, table", 0);
+    mark_lent();
+    fielded("C, cross, T 0", field(c, 4, 2, 0, 12, 0), 0, 0, 4, (uint32_t[]){0, 0, 0, 0, 16}, 0);
+    fielded("C, cross, T 1", field(c, 4, 2, 1, 12, 0), 0, 0, 4, (uint32_t[]){0, 0, 0, 0, 4}, 0);
+    listed("C, cross, list", c_list, 4);
+    table_kept("C, cross, table", 0);
+
+    /* Leftover pels at the right and bottom are in no grid block. */
+    static uint8_t odd[11 * 7];
+    for (size_t i = 0; i < sizeof odd; i++)
+        odd[i] = (uint8_t)(i * i % 255);
+    struct pair o = pair_of(odd, odd, 11, 7, 4);
+    mark_lent();
+    same("11 x 7: votes", field(o, 2, 0, 0, LIST, TABLE).votes, 2);
+    list_kept("11 x 7: list", 6);
+    table_filled("11 x 7: table", o);
+
+    /* All of the largest frame, with the greatest sums there are. */
+    uint8_t *white = malloc(1024 * 1024), *black = calloc(1024, 1024);
+    if (!white || !black)
+        exit(1);
+    memset(white, 255, 1024 * 1024);
+    struct pair large = pair_of(white, black, 1024, 1024, 16);
+    mark_lent();
+    fielded("1,024 x 1,024", field(large, 2, 0, 0, LIST, TABLE), 0, 0, 4096, (uint32_t[]){4096, 4096, 4096, 4096, 4096}, 0);
+    list_kept("1,024 x 1,024: list", 3 * 4096);
+    same("1,024 x 1,024: distortion of the last block", (uint64_t)list[3 * 4096 - 1], 65280);
+    table_filled("1,024 x 1,024: table", large);
+    free(white);
+    free(black);
+}
+
+/* Refusals 4 to 10, each in turn of `call`'s inputs, with all lent memory kept. */
+static void request_refusals(const char *call_name, gauge_field_answer (*call)(struct pair, uint32_t, size_t, uint32_t, size_t, size_t))
+{
+    static uint8_t frame[64 * 48];
+    struct pair p = pair_of(frame, frame, 64, 48, 16);
+    const size_t l = list_length(p), t = table_length(p);
+    printf("  %s: 4, 5, 6, 9 and 10\n", call_name);
+
+    mark_lent();
+    field_refused("search 0", call(p, 0, 1, 0, l, t), 4);
+    field_refused("search 5", call(p, 5, 1, 0, l, t), 4);
+    field_refused("search at the top of its type", call(p, UINT32_MAX, 1, 0, l, t), 4);
+    field_refused("w 17", call(p, 1, 17, 0, l, t), 5);
+    field_refused("w 17", call(p, 2, 17, 0, l, t), 5);
+    field_refused("w at the top of its type", call(p, 2, SIZE_MAX, 0, l, t), 5);
+    field_refused("four-step, w 6", call(p, 3, 6, 0, l, t), 5);
+    field_refused("cross, w 3", call(p, 4, 3, 0, l, t), 5);
+    field_refused("cross, w 32", call(p, 4, 32, 0, l, t), 5);
+    field_refused("T 65,281", call(p, 4, 4, 65281, l, t), 6);
+    for (uint32_t s = 1; s <= 3; s++)
+        field_refused("T 1", call(p, s, 7, 1, l, t), 6);
+    field_refused("table one short", call(p, 2, 3, 0, l, t - 1), 9);
+    field_refused("no table", call(p, 2, 3, 0, l, 0), 9);
+    for (uint32_t s = 1; s <= 4; s++) {
+        field_refused("list one short", call(p, s, s == 4 ? 8 : 7, 0, l - 1, t), 10);
+        field_refused("no list", call(p, s, s == 4 ? 8 : 7, 0, 0, t), 10);
+    }
+    field_refused("3 before 4", call(pair_of(frame, frame, 64, 48, 5), 0, 3, 0, l, t), 3);
+    field_refused("4 before 5", call(p, 0, 99, 0, l, t), 4);
+    field_refused("5 before 6", call(p, 3, 6, 9, l, t), 5);
+    field_refused("6 before 9", call(p, 2, 3, 9, l, 0), 6);
+    field_refused("9 before 10", call(p, 2, 3, 0, 0, 0), 9);
+    lent_kept("refused: lent memory");
+
+    same("T 65,280", call(p, 4, 4, 65280, l, 0).refusal, 0);
+    same("list and table just long enough", call(p, 2, 16, 0, l, t).refusal, 0);
+    list_kept("the list behind what is used", l);
+    table_kept("the table behind what is used", t);
+}
+
+static uint32_t field_first(struct pair p)
+{
+    return field(p, 1, 0, 0, SIZE_MAX, 0).refusal;
+}
+
+/* ---- the track */
+
+static gauge_track at(bool homed, int32_t y, int32_t x, uint32_t steps)
+{
+    return (gauge_track){homed, y, x, steps};
+}
+
+static void stands(const char *what, gauge_track got, gauge_track wanted)
+{
+    same(what, got.homed, wanted.homed);
+    same(what, (uint32_t)got.y, (uint32_t)wanted.y);
+    same(what, (uint32_t)got.x, (uint32_t)wanted.x);
+    same(what, got.steps, wanted.steps);
+}
+
+static void homed_at(const char *what, gauge_track track, int32_t y, int32_t x, uint32_t refusal)
+{
+    gauge_homed h = gauge_home(track, y, x);
+    same(what, h.refusal, refusal);
+    stands(what, h.track, refusal == 0 ? at(true, y, x, 0) : track);
+}
+
+static void homing(void)
+{
+    const int32_t end = 1000000;
+    stands("new", gauge_track_new(), at(false, 0, 0, 0));
+    const gauge_track tracks[] = {gauge_track_new(), at(true, 3, -4, 999999), at(false, INT32_MIN, INT32_MAX, UINT32_MAX)};
+    for (size_t i = 0; i < sizeof tracks / sizeof *tracks; i++) {
+        homed_at("home (0,0)", tracks[i], 0, 0, 0);
+        homed_at("home, least", tracks[i], -end, -end, 0);
+        homed_at("home, greatest", tracks[i], end, end, 0);
+        homed_at("home, y over", tracks[i], end + 1, 0, 11);
+        homed_at("home, y under", tracks[i], -end - 1, 0, 11);
+        homed_at("home, x over", tracks[i], 0, end + 1, 11);
+        homed_at("home, x under", tracks[i], 0, -end - 1, 11);
+        homed_at("home, least of its type", tracks[i], INT32_MIN, 0, 11);
+        homed_at("home, greatest of its type", tracks[i], 0, INT32_MAX, 11);
+    }
+}
+
+static gauge_stepped step(gauge_track track, struct pair p, uint32_t search, size_t w, uint32_t t, size_t list_length, size_t table_length)
+{
+    gauge_request request = {p.width, p.height, p.n, search, w, t};
+    return gauge_step(track, p.older, p.older_length, p.newer, p.newer_length, request, list, list_length, table, table_length);
+}
+
+static gauge_field_answer step_homed(struct pair p, uint32_t search, size_t w, uint32_t t, size_t list_length, size_t table_length)
+{
+    const gauge_track track = at(true, 5, -6, 7);
+    gauge_stepped s = step(track, p, search, w, t, list_length, table_length);
+    if (s.answer.refusal != 0)
+        stands("refused: the old track", s.track, track);
+    return s.answer;
+}
+
+/* 31 and 32 come after all input refusals, so a new track is refused by those too. */
+static gauge_field_answer step_new(struct pair p, uint32_t search, size_t w, uint32_t t, size_t list_length, size_t table_length)
+{
+    gauge_stepped s = step(gauge_track_new(), p, search, w, t, list_length, table_length);
+    stands("not homed: the old track", s.track, gauge_track_new());
+    if (s.answer.refusal == 31)
+        s.answer.refusal = 0;
+    return s.answer;
+}
+
+static uint32_t step_first(struct pair p)
+{
+    return step_homed(p, 1, 0, 0, SIZE_MAX, 0).refusal;
+}
+
+/* A step of pair B that is refused by a state. */
+static void step_refused(const char *what, gauge_track track, uint32_t refusal)
+{
+    mark_lent();
+    gauge_stepped s = step(track, pair_b(), 2, 1, 0, LIST, TABLE);
+    field_refused(what, s.answer, refusal);
+    stands(what, s.track, track);
+    if (refusal == 33) {
+        listed(what, (const int32_t[]){0, 1, 0}, 1);
+        table_filled(what, pair_b());
+    } else
+        lent_kept(what);
+}
+
+/* One that is accepted: its travel is (0,-1). */
+static void step_taken(const char *what, gauge_track track)
+{
+    mark_lent();
+    gauge_stepped s = step(track, pair_b(), 2, 1, 0, 3, 30);
+    fielded(what, s.answer, 0, 1, 1, (uint32_t[]){0, 0, 2, 2, 1}, 1);
+    stands(what, s.track, at(true, track.y, track.x - 1, track.steps + 1));
+    listed(what, (const int32_t[]){0, 1, 0}, 1);
+    table_filled(what, pair_b());
+}
+
+static void stepping(void)
+{
+    const int32_t end = 1000000;
+    gauge_track g = gauge_home(gauge_track_new(), 10, 20).track;
+    step_taken("G", g);
+    stands("G, by search 1", step(g, pair_b(), 1, 1, 0, 3, 0).track, at(true, 10, 19, 1));
+    gauge_stepped still = step(g, pair_c(), 3, 7, 0, 12, 0);
+    stands("C, by four-step", still.track, at(true, 10, 20, 1));
+    fielded("C, by four-step", still.answer, 0, 0, 4, (uint32_t[]){0, 0, 0, 0, 28}, 0);
+    stands("C, by cross", step(g, pair_c(), 4, 2, 9, 12, 0).track, at(true, 10, 20, 1));
+    static uint8_t down_older[20], down_newer[20];
+    for (int i = 0; i < 20; i++) {
+        down_older[i] = (uint8_t)(10 * (i / 4));
+        down_newer[i] = i / 4 == 4 ? 99 : (uint8_t)(10 * (i / 4 + 1));
+    }
+    stands("B turned by a right angle", step(g, pair_of(down_older, down_newer, 4, 5, 4), 2, 1, 0, 3, 30).track, at(true, 9, 20, 1));
+    step_refused("H", gauge_home(gauge_track_new(), 0, -end).track, 33);
+    step_taken("one short of H", at(true, 0, 1 - end, 0));
+
+    step_refused("not homed", gauge_track_new(), 31);
+    step_refused("not homed, steps 1,000,000", at(false, 0, 0, 1000000), 31);
+    step_refused("not homed, outside", at(false, 0, -end, 0), 31);
+    step_taken("steps 999,999", at(true, 0, 0, 999999));
+    step_refused("steps 1,000,000", at(true, 0, 0, 1000000), 32);
+    step_refused("steps at the top of their type", at(true, 0, 0, UINT32_MAX), 32);
+    step_refused("32 before 33", at(true, 0, -end, 1000000), 32);
+
+    /* Tracks built by hand: 33 looks at the new place alone. */
+    step_taken("back into the range", at(true, 0, end + 1, 0));
+    step_refused("not back into the range", at(true, 0, end + 2, 0), 33);
+    step_refused("y outside", at(true, end + 1, 0, 0), 33);
+    step_refused("least x of its type", at(true, 0, INT32_MIN, 0), 33);
+    step_refused("greatest y of its type", at(true, INT32_MAX, 0, 0), 33);
+}
+
 int main(void)
 {
     worked_pairs();
@@ -334,6 +682,14 @@ int main(void)
     worked_blocks();
     first_three("gauge_search_block", search_at_corner);
     searching_refusals();
+    worked_fields();
+    first_three("gauge_field", field_first);
+    request_refusals("gauge_field", field);
+    homing();
+    first_three("gauge_step", step_first);
+    request_refusals("gauge_step", step_homed);
+    request_refusals("gauge_step, not homed", step_new);
+    stepping();
     printf("gauge.h: %d checks, %d failed\n", checks, failures);
     return failures != 0;
 }

@@ -1,6 +1,9 @@
 //! The archive under test, as include/gauge.h declares it, with its answers turned into the forms that the rival uses.
 
-use crate::question::{Answer, Measured, Measuring, Pair, Request, Viewed, Viewing};
+use crate::question::{
+    Answer, FieldAnswer, FieldRequest, Lent, Measured, Measuring, Pair, Request, Track, Viewed,
+    Viewing,
+};
 
 #[repr(C)]
 struct GaugeMeasured {
@@ -33,6 +36,36 @@ struct GaugeFound {
     distortion: u32,
     counts: [u32; 5],
     dropped: u32,
+}
+
+#[repr(C)]
+struct GaugeFieldAnswer {
+    refusal: u32,
+    dy: i32,
+    dx: i32,
+    votes: u32,
+    counts: [u32; 5],
+    dropped: u32,
+}
+
+#[repr(C)]
+struct GaugeTrack {
+    homed: bool,
+    y: i32,
+    x: i32,
+    steps: u32,
+}
+
+#[repr(C)]
+struct GaugeHomed {
+    refusal: u32,
+    track: GaugeTrack,
+}
+
+#[repr(C)]
+struct GaugeStepped {
+    answer: GaugeFieldAnswer,
+    track: GaugeTrack,
 }
 
 extern "C" {
@@ -72,6 +105,35 @@ extern "C" {
         row: usize,
         column: usize,
     ) -> GaugeFound;
+
+    fn gauge_field(
+        older: *const u8,
+        older_length: usize,
+        newer: *const u8,
+        newer_length: usize,
+        request: GaugeRequest,
+        list: *mut i32,
+        list_length: usize,
+        table: *mut u32,
+        table_length: usize,
+    ) -> GaugeFieldAnswer;
+
+    fn gauge_track_new() -> GaugeTrack;
+
+    fn gauge_home(track: GaugeTrack, y: i32, x: i32) -> GaugeHomed;
+
+    fn gauge_step(
+        track: GaugeTrack,
+        older: *const u8,
+        older_length: usize,
+        newer: *const u8,
+        newer_length: usize,
+        request: GaugeRequest,
+        list: *mut i32,
+        list_length: usize,
+        table: *mut u32,
+        table_length: usize,
+    ) -> GaugeStepped;
 }
 
 /// The single-block search.
@@ -152,4 +214,104 @@ pub fn row_view(pair: &Pair, asked: &Viewing) -> Viewed {
         place: i64::try_from(row.place).unwrap_or(-1),
         length: i64::try_from(row.length).unwrap_or(-1),
     }
+}
+
+/// A field's request as the header has it.
+fn field_request(pair: &Pair, request: &FieldRequest) -> GaugeRequest {
+    GaugeRequest {
+        width: pair.width,
+        height: pair.height,
+        n: request.n,
+        search: request.search,
+        w: request.w,
+        t: request.t,
+    }
+}
+
+fn field_answer(answer: GaugeFieldAnswer) -> FieldAnswer {
+    FieldAnswer {
+        refusal: answer.refusal as i64,
+        dy: answer.dy as i64,
+        dx: answer.dx as i64,
+        votes: answer.votes as i64,
+        counts: answer.counts.map(|count| count as i64),
+        dropped: answer.dropped as i64,
+    }
+}
+
+fn gauge_track(track: Track) -> GaugeTrack {
+    GaugeTrack {
+        homed: track.homed,
+        y: track.y,
+        x: track.x,
+        steps: track.steps,
+    }
+}
+
+fn track_of(track: GaugeTrack) -> Track {
+    Track {
+        homed: track.homed,
+        y: track.y,
+        x: track.x,
+        steps: track.steps,
+    }
+}
+
+/// The field call. It is lent the first places of list and table alone.
+pub fn field(pair: &Pair, request: &FieldRequest, lent: &mut Lent) -> FieldAnswer {
+    // As above; list and table are exclusive, and at least as long as what is lent of them.
+    assert!(lent.list_length <= lent.list.len() && lent.table_length <= lent.table.len());
+    let answer = unsafe {
+        gauge_field(
+            pair.older.as_ptr(),
+            pair.older.len(),
+            pair.newer.as_ptr(),
+            pair.newer.len(),
+            field_request(pair, request),
+            lent.list.as_mut_ptr(),
+            lent.list_length,
+            lent.table.as_mut_ptr(),
+            lent.table_length,
+        )
+    };
+    field_answer(answer)
+}
+
+/// A new track.
+pub fn new_track() -> Track {
+    // It takes nothing.
+    track_of(unsafe { gauge_track_new() })
+}
+
+/// Home: the refusal and the track.
+pub fn home(track: Track, y: i32, x: i32) -> (i64, Track) {
+    // It takes plain values.
+    let homed = unsafe { gauge_home(gauge_track(track), y, x) };
+    (homed.refusal as i64, track_of(homed.track))
+}
+
+/// Step: the answer and the track.
+pub fn step(
+    track: Track,
+    pair: &Pair,
+    request: &FieldRequest,
+    lent: &mut Lent,
+) -> (FieldAnswer, Track) {
+    // As the field call.
+    assert!(lent.list_length <= lent.list.len() && lent.table_length <= lent.table.len());
+    let stepped = unsafe {
+        gauge_step(
+            gauge_track(track),
+            pair.older.as_ptr(),
+            pair.older.len(),
+            pair.newer.as_ptr(),
+            pair.newer.len(),
+            field_request(pair, request),
+            lent.list.as_mut_ptr(),
+            lent.list_length,
+            lent.table.as_mut_ptr(),
+            lent.table_length,
+        )
+    };
+    (field_answer(stepped.answer), track_of(stepped.track))
 }

@@ -1,5 +1,6 @@
-//! What both sides are asked and what they answer: the pair of frames, the request for one block, and an answer with every
-//! field that document 01 gives it. Numbers are plain i64 in the answers, so that no type hides a wrong value.
+//! What both sides are asked and what they answer: the pair of frames, the request for one block or for a field, lent memory, the
+//! track, and answers with every field that document 01 gives them. Numbers are plain i64 in the answers, so that no type hides a
+//! wrong value.
 
 use std::fmt;
 
@@ -20,6 +21,24 @@ pub struct Request {
     pub t: u32,
     pub row: usize,
     pub column: usize,
+}
+
+/// What a field is asked, pair and lent memory apart.
+#[derive(Clone, Copy)]
+pub struct FieldRequest {
+    pub n: usize,
+    pub search: u32,
+    pub w: usize,
+    pub t: u32,
+}
+
+/// Lent memory: so many places of a list and of a table. Behind what is lent stand a few places more, to be left alone.
+#[derive(Clone, PartialEq, Eq, Debug)]
+pub struct Lent {
+    pub list: Vec<i32>,
+    pub list_length: usize,
+    pub table: Vec<u32>,
+    pub table_length: usize,
 }
 
 /// What measuring one vector is asked, the pair apart.
@@ -51,6 +70,26 @@ pub struct Answer {
     pub distortion: i64,
     pub counts: [i64; 5],
     pub dropped: i64,
+}
+
+/// "It answers with the reading and, summed over the blocks, counts and dropped"; the reading is a vector "with its votes".
+#[derive(Clone, Copy, PartialEq, Eq, Debug, Default)]
+pub struct FieldAnswer {
+    pub refusal: i64,
+    pub dy: i64,
+    pub dx: i64,
+    pub votes: i64,
+    pub counts: [i64; 5],
+    pub dropped: i64,
+}
+
+/// "The track holds homed or not, y, x and steps."
+#[derive(Clone, Copy, PartialEq, Eq, Debug)]
+pub struct Track {
+    pub homed: bool,
+    pub y: i32,
+    pub x: i32,
+    pub steps: u32,
 }
 
 /// "The measuring call [...] answers with the distortion."
@@ -87,6 +126,26 @@ impl fmt::Display for Request {
             out,
             "N {}, search {}, w {}, T {}, row {}, column {}",
             self.n, self.search, self.w, self.t, self.row, self.column
+        )
+    }
+}
+
+impl fmt::Display for FieldRequest {
+    fn fmt(&self, out: &mut fmt::Formatter) -> fmt::Result {
+        write!(
+            out,
+            "N {}, search {}, w {}, T {}",
+            self.n, self.search, self.w, self.t
+        )
+    }
+}
+
+impl fmt::Display for Lent {
+    fn fmt(&self, out: &mut fmt::Formatter) -> fmt::Result {
+        write!(
+            out,
+            "list of {}, table of {}",
+            self.list_length, self.table_length
         )
     }
 }

@@ -352,13 +352,13 @@ fn refused_place(pair: &Pair, n: usize, row: usize, column: usize) -> i64 {
     0
 }
 
-/// The number of the first refusal that applies to a single-block search, or 0: 1 2 3 4 5 6 7 in this order.
-fn refused_search(pair: &Pair, request: &Request) -> i64 {
-    let first = refused_pair(pair, request.n);
+/// The number of the first of 1 2 3 4 5 6 that applies to a pair and a request, or 0.
+pub fn refused_request(pair: &Pair, n: usize, search: u32, w: usize, t: u32) -> i64 {
+    let first = refused_pair(pair, n);
     if first != 0 {
         return first;
     }
-    let (search, w, t) = (request.search as i64, plain(request.w), request.t as i64);
+    let (search, w, t) = (search as i64, plain(w), t as i64);
     // "4 search not 1 to 4".
     if search < 1 || search > 4 {
         return 4;
@@ -375,6 +375,15 @@ fn refused_search(pair: &Pair, request: &Request) -> i64 {
     // "6 T over 65,280, or not 0 with search 1, 2 or 3".
     if t > 65280 || (t != 0 && search != 4) {
         return 6;
+    }
+    0
+}
+
+/// The number of the first refusal that applies to a single-block search, or 0: 1 2 3 4 5 6 7 in this order.
+fn refused_search(pair: &Pair, request: &Request) -> i64 {
+    let first = refused_request(pair, request.n, request.search, request.w, request.t);
+    if first != 0 {
+        return first;
     }
     refused_place(pair, request.n, request.row, request.column)
 }

@@ -1,9 +1,12 @@
-//! Document 01's worked pairs A to F and J, as far as single blocks and measuring go, with its numbers typed in, against the
-//! archive and against the rival; and what 01 writes down of the preference order, against the rival.
+//! Document 01's worked pairs A to H and J, with its numbers typed in, against the archive and against the rival; and what 01
+//! writes down of the preference order, against the rival.
 
 use crate::archive;
 use crate::group::Group;
-use crate::question::{Answer, Measured, Measuring, Pair, Request};
+use crate::question::{
+    Answer, FieldAnswer, FieldRequest, Lent, Measured, Measuring, Pair, Request, Track,
+};
+use crate::reckoning;
 use crate::rival;
 
 /// Both sides must give the answer that 01 names.
@@ -79,15 +82,19 @@ fn pair_a(group: &mut Group) {
     measured(group, "A", &pair, at_zero(4), 32);
 }
 
-/// "B* width 5, height 4, N 4, w 1, older rows 0 10 20 30 40, newer rows 10 20 30 40 99: (0,1), 0; full 2; pruned 0,0,2,2,1,
-/// dropped 1".
-fn pair_b(group: &mut Group) {
-    let pair = Pair {
+fn frames_of_b() -> Pair {
+    Pair {
         older: [0, 10, 20, 30, 40].repeat(4),
         newer: [10, 20, 30, 40, 99].repeat(4),
         width: 5,
         height: 4,
-    };
+    }
+}
+
+/// "B* width 5, height 4, N 4, w 1, older rows 0 10 20 30 40, newer rows 10 20 30 40 99: (0,1), 0; full 2; pruned 0,0,2,2,1,
+/// dropped 1".
+fn pair_b(group: &mut Group) {
+    let pair = frames_of_b();
     let full = found((0, 1), 0, [0, 0, 0, 0, 2], 0);
     let pruned = found((0, 1), 0, [0, 0, 2, 2, 1], 1);
     searched(group, "B", &pair, block_of_4(1, 1, 0, 0, 0), full);
@@ -152,6 +159,95 @@ fn pairs_e_and_f(group: &mut Group) {
     }
 }
 
+/// A field or a step of N 4 and w 1.
+fn field_of_4(search: u32) -> FieldRequest {
+    FieldRequest {
+        n: 4,
+        search,
+        w: 1,
+        t: 0,
+    }
+}
+
+/// Lent memory of these lengths that holds 5 everywhere.
+fn lent(list_length: usize, table_length: usize) -> Lent {
+    Lent {
+        list: vec![5; list_length],
+        list_length,
+        table: vec![5; table_length],
+        table_length,
+    }
+}
+
+/// The fields of B and C: "(0,1), 0; full 2; pruned 0,0,2,2,1, dropped 1" and "four still blocks, full 4 each; pruned sums
+/// 0,0,16,16,16". The list and the table are lent longer than they need be.
+fn fields_of_b_and_c(group: &mut Group) {
+    let answer = |vector: (i64, i64), votes, counts, dropped| FieldAnswer {
+        refusal: 0,
+        dy: vector.0,
+        dx: vector.1,
+        votes,
+        counts,
+        dropped,
+    };
+    let (b, c) = (frames_of_b(), flat(8, 8, 7, 7));
+    let still = [0, 0, 0].repeat(4);
+    let of_b = |search, counts, dropped| {
+        let wanted = answer((0, 1), 1, counts, dropped);
+        (&b, search, vec![0, 1, 0], wanted)
+    };
+    let of_c = |search, counts| {
+        let wanted = answer((0, 0), 4, counts, 0);
+        (&c, search, still.clone(), wanted)
+    };
+    for (pair, search, list, wanted) in [
+        of_b(1, [0, 0, 0, 0, 2], 0),
+        of_b(2, [0, 0, 2, 2, 1], 1),
+        of_c(1, [0, 0, 0, 0, 16]),
+        of_c(2, [0, 0, 16, 16, 16]),
+    ] {
+        let request = field_of_4(search);
+        let inputs = format!("field of {pair}, {request}");
+        let (mut here, mut there) = (lent(14, 100), lent(14, 100));
+        group.same(&inputs, archive::field(pair, &request, &mut here), wanted);
+        group.same(
+            &inputs,
+            reckoning::field(pair, &request, &mut there),
+            wanted,
+        );
+        let list = [&list[..], &vec![5; 14 - list.len()]].concat();
+        group.same(&inputs, (&here.list, &there.list), (&list, &list));
+        group.same(&inputs, here.table, there.table);
+    }
+}
+
+/// "G* home (10,20), step B: (10,19), steps 1" and "H* home (0,-1000000), step B: 33".
+fn pairs_g_and_h(group: &mut Group) {
+    let pair = frames_of_b();
+    let request = field_of_4(2);
+    let track = |y, x, steps| Track {
+        homed: true,
+        y,
+        x,
+        steps,
+    };
+    for (what, place, refusal, there) in [
+        ("G", (10, 20), 0, track(10, 19, 1)),
+        ("H", (0, -1_000_000), 33, track(0, -1_000_000, 0)),
+    ] {
+        let new = archive::new_track();
+        let (homed, here) = archive::home(new, place.0, place.1);
+        let home = reckoning::home(reckoning::NEW, place.0, place.1);
+        group.same(what, (homed, here), home);
+        let (answer, stood) = archive::step(here, &pair, &request, &mut lent(3, 30));
+        group.same(what, (answer.refusal, stood), (refusal, there));
+        let (answer, stood) = reckoning::step(home.1, &pair, &request, &mut lent(3, 30));
+        group.same(what, (answer.refusal, stood), (refusal, there));
+        let reckoned = reckoning::reckoned_step(home.1, &pair, &request, 3, 30);
+        group.same(what, (reckoned.refusal, reckoned.track), (refusal, there));
+    }
+}
+
 /// "J 16×16, 0 against 255: 65,280".
 fn pair_j(group: &mut Group) {
     for (older, newer) in [(0, 255), (255, 0)] {
@@ -210,6 +306,8 @@ pub fn run() -> u64 {
     pair_c(&mut group);
     pair_d(&mut group);
     pairs_e_and_f(&mut group);
+    fields_of_b_and_c(&mut group);
+    pairs_g_and_h(&mut group);
     pair_j(&mut group);
     preference_order(&mut group);
     group.end()

@@ -1,0 +1,254 @@
+/* Fields of vectors, N 16, by all four searches: full, pruned and cross with w 16, four-step with w 7, T 0; and the pruned search of the same blocks
+ * one by one. Beside the gauge run two full searches in C over the same grid: plain scalar code that leaves a candidate as soon as it
+ * cannot win, and SSE2 (psadbw). All take turns, plain C, by far the slowest, every fourth time; the best of the turns counts, in processor time.
+ * Prints speeds as multiples of plain C: the larger, the faster. The two C searches, search 1 and search 2 must agree on every block.
+ *
+ * Paper is made here: smoothed noise with fibres. The newer picture is the older one moved by a known vector, and each has sensor noise of its own.
+ *
+ * The last column is document 003's measure (Table 2). A basic operation is one term of a distance's sum, so a test at m takes (N / m)^2 of them and
+ * a final measurement N^2; the making of the sums and measurements only for E are not counted. The exhaustive search takes N^2 for each candidate.
+ * So that paper's 0.0275, of a video sequence with p = 2, is (11,441,196 + 4 x 3,912,397 + 16 x 920,769 + 64 x 239,933 + 256 x 91,246) /
+ * (256 x 11,441,196). */
+#include "gauge.h"
+#include <emmintrin.h>
+#include <stdio.h>
+#include <stdlib.h>
+#include <string.h>
+#include <time.h>
+
+enum { N = 16, W = 16, SIDE = 1024, MARGIN = 32, SHEET = SIDE + 2 * MARGIN, BLOCKS = (SIDE / N) * (SIDE / N) };
+
+/* ---- paper */
+
+static uint64_t state = 88172645463325252u;
+
+static int random_below(uint32_t n)
+{
+    state ^= state << 13;
+    state ^= state >> 7;
+    state ^= state << 17;
+    return (int)((state >> 32) % n);
+}
+
+static int clip(int a)
+{
+    return a < 0 ? 0 : a > 255 ? 255 : a;
+}
+
+/* A kind of paper: the grey of the ground, its contrast in 1/16, the number of fibres and how much they darken or lighten it. */
+struct paper {
+    int ground, contrast, fibres, shade;
+};
+
+static const struct paper FIBRES = {128, 16, 7700, 60}, TRACING = {210, 2, 400, 8};
+
+/* A sheet larger than any picture: noise smoothed three times, then fibres, each a line of one to two pels that bends a little. */
+static void make_sheet(struct paper p, int *sheet)
+{
+    static int noise[SHEET * SHEET];
+    for (int i = 0; i < SHEET * SHEET; i++)
+        sheet[i] = random_below(256);
+    for (int pass = 0; pass < 3; pass++) {
+        memcpy(noise, sheet, sizeof noise);
+        for (int y = 1; y + 1 < SHEET; y++)
+            for (int x = 1; x + 1 < SHEET; x++) {
+                int sum = 0;
+                for (int i = -1; i <= 1; i++)
+                    for (int j = -1; j <= 1; j++)
+                        sum += noise[(y + i) * SHEET + x + j];
+                sheet[y * SHEET + x] = sum / 9;
+            }
+    }
+    for (int i = 0; i < SHEET * SHEET; i++)
+        sheet[i] = p.ground + (sheet[i] - 128) * p.contrast / 16;
+    for (int fibre = 0; fibre < p.fibres; fibre++) {
+        int y = random_below(SHEET) * 16, x = random_below(SHEET) * 16;
+        int dy = random_below(33) - 16, dx = random_below(33) - 16, shade = random_below(2) ? p.shade : -p.shade;
+        for (int step = 0; step < 40; step++, y += dy, x += dx) {
+            dy += random_below(3) - 1;
+            dx += random_below(3) - 1;
+            int r = y / 16, c = x / 16;
+            if (r > 0 && r + 1 < SHEET && c > 0 && c + 1 < SHEET) {
+                sheet[r * SHEET + c] += shade;
+                sheet[r * SHEET + c + 1] += shade / 2;
+            }
+        }
+    }
+}
+
+/* The sheet seen from (top, left), with sensor noise of -3 .. 3; columns from `blank` on are white. */
+static void photograph(const int *sheet, int top, int left, int width, int height, int blank, uint8_t *frame)
+{
+    for (int y = 0; y < height; y++)
+        for (int x = 0; x < width; x++) {
+            int noise = random_below(7) - 3;
+            frame[y * width + x] = (uint8_t)(x < blank ? clip(sheet[(top + y) * SHEET + left + x] + noise) : 255);
+        }
+}
+
+/* ---- full searches in C */
+
+struct best {
+    int32_t dy, dx, distortion;
+};
+
+static int before(int dy, int dx, const struct best *b)
+{
+    int s = abs(dy) + abs(dx), t = abs(b->dy) + abs(b->dx);
+    return s != t ? s < t : dy != b->dy ? dy < b->dy : dx < b->dx;
+}
+
+static int plain_distortion(const uint8_t *a, const uint8_t *b, int width, int limit)
+{
+    int sum = 0;
+    for (int i = 0; i < N; i++, a += width, b += width) {
+        for (int j = 0; j < N; j++)
+            sum += abs(a[j] - b[j]);
+        if (sum > limit)
+            break;
+    }
+    return sum;
+}
+
+static int sse2_distortion(const uint8_t *a, const uint8_t *b, int width, int limit)
+{
+    (void)limit;
+    __m128i sum = _mm_setzero_si128();
+    for (int i = 0; i < N; i++, a += width, b += width)
+        sum = _mm_add_epi64(sum, _mm_sad_epu8(_mm_loadu_si128((const void *)a), _mm_loadu_si128((const void *)b)));
+    return _mm_cvtsi128_si32(sum) + _mm_cvtsi128_si32(_mm_srli_si128(sum, 8));
+}
+
+#define FULL_SEARCH(name, distortion_of)                                                                                                 \
+    __attribute__((noipa)) static struct best name(const uint8_t *o, const uint8_t *a, int width, int height, int w, int y, int x)       \
+    {                                                                                                                                    \
+        o += y * width + x;                                                                                                              \
+        a += y * width + x;                                                                                                              \
+        struct best b = {0, 0, distortion_of(a, o, width, INT32_MAX)};                                                                   \
+        int top = y < w ? -y : -w, bottom = height - N - y < w ? height - N - y : w;                                                     \
+        int left = x < w ? -x : -w, right = width - N - x < w ? width - N - x : w;                                                       \
+        for (int dy = top; dy <= bottom; dy++)                                                                                           \
+            for (int dx = left; dx <= right; dx++) {                                                                                     \
+                int d = distortion_of(a, o + dy * width + dx, width, b.distortion);                                                      \
+                if (d < b.distortion || (d == b.distortion && before(dy, dx, &b)))                                                       \
+                    b = (struct best){dy, dx, d};                                                                                        \
+            }                                                                                                                            \
+        return b;                                                                                                                        \
+    }
+
+FULL_SEARCH(plain_search, plain_distortion)
+FULL_SEARCH(sse2_search, sse2_distortion)
+
+/* ---- the turns */
+
+enum { PLAIN, SSE2, SINGLE, FULL, PRUNED, FOUR_STEP, CROSS, RUNS };
+
+static int width, height;
+static uint8_t older[SIDE * SIDE], newer[SIDE * SIDE];
+static struct best list[RUNS][BLOCKS];
+static uint32_t table[(SIDE + 1) * (SIDE + 1)];
+static gauge_field_answer answer[RUNS];
+
+static struct best plain(int y, int x)
+{
+    return plain_search(older, newer, width, height, W, y, x);
+}
+
+static struct best sse2(int y, int x)
+{
+    return sse2_search(older, newer, width, height, W, y, x);
+}
+
+static struct best single(int y, int x)
+{
+    gauge_request request = {(size_t)width, (size_t)height, N, 2, W, 0};
+    size_t length = (size_t)(width * height);
+    gauge_found f = gauge_search_block(older, length, newer, length, request, (size_t)y, (size_t)x);
+    return (struct best){f.dy, f.dx, (int32_t)f.distortion};
+}
+
+/* The searches of single blocks go over the grid here, those of fields by themselves. */
+static void run(int r)
+{
+    if (r < FULL) {
+        struct best (*const search)(int, int) = r == PLAIN ? plain : r == SSE2 ? sse2 : single;
+        int k = 0;
+        for (int y = 0; y + N <= height; y += N)
+            for (int x = 0; x + N <= width; x += N)
+                list[r][k++] = search(y, x);
+        return;
+    }
+    gauge_request request = {(size_t)width, (size_t)height, N, (uint32_t)(r - FULL + 1), r == FOUR_STEP ? 7 : W, 0};
+    size_t length = (size_t)(width * height);
+    answer[r] = gauge_field(older, length, newer, length, request, &list[r][0].dy, 3 * BLOCKS, table, sizeof table / sizeof table[0]);
+}
+
+static double now(void)
+{
+    struct timespec t;
+    clock_gettime(CLOCK_PROCESS_CPUTIME_ID, &t);
+    return (double)t.tv_sec + 1e-9 * (double)t.tv_nsec;
+}
+
+/* Search 2's basic operations, as a part of the exhaustive search's. */
+static double basic_operations(void)
+{
+    double sum = 0;
+    for (int i = 0, squares = 1; i < 5; i++, squares *= 4)
+        sum += (double)squares * answer[PRUNED].counts[i];
+    return sum / (N * N * (double)answer[FULL].counts[4]);
+}
+
+/* A pair in which the paper has moved by (dy, dx): one line of the table. */
+static int pair(const char *name, const int *sheet, int dy, int dx, int blank, int turns)
+{
+    double seconds[RUNS];
+    photograph(sheet, MARGIN, MARGIN, width, height, blank, older);
+    photograph(sheet, MARGIN - dy, MARGIN - dx, width, height, blank, newer);
+    for (int turn = 0; turn < turns; turn++)
+        for (int r = turn % 4 == 0 ? PLAIN : SSE2; r < RUNS; r++) {
+            double begun = now();
+            run(r);
+            double taken = now() - begun;
+            if (turn == 0 || taken < seconds[r])
+                seconds[r] = taken;
+        }
+    int blocks = (width / N) * (height / N);
+    for (int r = FULL; r < RUNS; r++)
+        if (answer[r].refusal != 0) {
+            printf("%s: search %d is refused\n", name, r - FULL + 1);
+            return 1;
+        }
+    for (int r = SSE2; r <= PRUNED; r++)
+        if (memcmp(list[PLAIN], list[r], (size_t)blocks * sizeof list[r][0]) != 0) {
+            printf("%s: the searches differ\n", name);
+            return 1;
+        }
+    printf("%-21s %6.1f %6.1f %6.1f %6.1f %6.0f %6.0f %8.2f %8.2f %9.4f\n", name, seconds[PLAIN] / seconds[SSE2], seconds[PLAIN] / seconds[FULL],
+           seconds[PLAIN] / seconds[PRUNED], seconds[PLAIN] / seconds[SINGLE], seconds[PLAIN] / seconds[FOUR_STEP], seconds[PLAIN] / seconds[CROSS],
+           seconds[SSE2] / seconds[FULL], seconds[FULL] / seconds[PRUNED], basic_operations());
+    return 0;
+}
+
+int main(void)
+{
+    static int fibres[SHEET * SHEET], tracing[SHEET * SHEET];
+    static const struct {
+        int width, height, turns;
+    } sizes[2] = {{640, 480, 21}, {1024, 1024, 9}};
+    make_sheet(FIBRES, fibres);
+    make_sheet(TRACING, tracing);
+    printf("Speed of fields, N 16, plain C full search = 1; basic operations of search 2, exhaustive search = 1 (document 003: 0.0275)\n");
+    for (int i = 0; i < 2; i++) {
+        width = sizes[i].width;
+        height = sizes[i].height;
+        int turns = sizes[i].turns;
+        printf("\n%4d x %-4d           psadbw      1      2  2 one      3      4     1 to     2 to     basic\n", width, height);
+        printf("                           C   full pruned by one 4-step  cross   psadbw        1       ops\n");
+        if (pair("moved fibres (3,-4)", fibres, 3, -4, width, turns) || pair("moved fibres (9,-11)", fibres, 9, -11, width, turns) ||
+            pair("still fibres", fibres, 0, 0, width, turns) || pair("tracing paper (3,-4)", tracing, 3, -4, width, turns) ||
+            pair("half blank (3,-4)", fibres, 3, -4, width / 2, turns))
+            return 1;
+    }
+    return 0;
+}

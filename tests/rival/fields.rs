@@ -1,0 +1,199 @@
+//! Fields over made-up pairs: every answer, every place of the lent list and of the lent table, and a few places behind them, must
+//! be what the rival's field leaves there.
+
+use crate::archive;
+use crate::group::Group;
+use crate::pictures::{made_up, Chance, Kind, KINDS};
+use crate::question::{FieldRequest, Lent, Pair};
+use crate::reckoning;
+
+/// So many places stand behind what is lent.
+const BEHIND: usize = 5;
+
+/// Lent memory of these lengths, filled by chance.
+pub fn lend(chance: &mut Chance, list_length: usize, table_length: usize) -> Lent {
+    let list = (0..list_length + BEHIND).map(|_| chance.next() as i32);
+    let list = list.collect();
+    let table = (0..table_length + BEHIND).map(|_| chance.next() as u32);
+    Lent {
+        list,
+        list_length,
+        table: table.collect(),
+        table_length,
+    }
+}
+
+/// A length around the one that is needed: mostly that or more, sometimes one short, sometimes nothing.
+fn length(chance: &mut Chance, needed: usize) -> usize {
+    match chance.between(0, 19) {
+        0 => 0,
+        1 => needed.saturating_sub(1),
+        2..=9 => needed,
+        _ => needed + chance.between(1, 9) as usize,
+    }
+}
+
+/// Lent memory for a field of this pair, mostly enough. Searches 1, 3 and 4 may be lent any table.
+pub fn lend_for(chance: &mut Chance, pair: &Pair, request: &FieldRequest) -> Lent {
+    let blocks = (pair.width / request.n.max(1)) * (pair.height / request.n.max(1));
+    let list_length = length(chance, 3 * blocks.min(4096));
+    let needed = (pair.width.min(1024) + 1) * (pair.height.min(1024) + 1);
+    let table_length = if request.search == 2 {
+        length(chance, needed)
+    } else {
+        chance.one_of(&[0, 1, needed])
+    };
+    lend(chance, list_length, table_length)
+}
+
+/// A request that is accepted, for blocks of size N.
+pub fn good_request(chance: &mut Chance, n: usize, search: u32) -> FieldRequest {
+    let w = match search {
+        1 | 2 => chance.one_of(&[0, 1, 2, 3, 5, 7, 8, 16]),
+        3 => 7,
+        _ => chance.one_of(&[2, 4, 8, 16]),
+    };
+    let t = match search {
+        4 => chance.one_of(&[0, 0, 1, 100, 65280]),
+        _ => 0,
+    };
+    FieldRequest { n, search, w, t }
+}
+
+/// Now and then one thing about a pair or a request is set wrong.
+pub fn spoil(chance: &mut Chance, pair: &mut Pair, request: &mut FieldRequest) {
+    match chance.between(0, 7) {
+        0 => pair.width = chance.one_of(&[0, 3, 1025, usize::MAX]),
+        1 => pair.height = chance.one_of(&[0, 3, 1025, usize::MAX]),
+        2 => drop(pair.older.pop()),
+        3 => pair.newer.push(0),
+        4 => request.n = chance.one_of(&[0, 2, 5, 12, 32]),
+        5 => request.search = chance.one_of(&[0, 5, u32::MAX]),
+        6 => request.w = chance.one_of(&[17, 6, 32, usize::MAX]),
+        _ => request.t = chance.one_of(&[1, 65281, u32::MAX]),
+    }
+}
+
+/// A made-up pair of a few blocks of size N.
+pub fn few_blocks(chance: &mut Chance, kind: Kind, n: usize, w: usize) -> Pair {
+    let most = [5, 3, 2][n.trailing_zeros() as usize - 2] * n as i64;
+    let width = chance.between(n as i64, most + 3) as usize;
+    let height = chance.between(n as i64, most + 3) as usize;
+    made_up(chance, kind, width, height, w)
+}
+
+/// Asks both sides and holds answer, list and table against each other.
+fn asked(group: &mut Group, seed: u64, pair: &Pair, request: &FieldRequest, lent: &Lent) {
+    let (mut here, mut there) = (lent.clone(), lent.clone());
+    let answer = archive::field(pair, request, &mut here);
+    let wanted = reckoning::field(pair, request, &mut there);
+    let inputs = format!("{pair}, {request}, {lent}, seed {seed}");
+    group.same(&inputs, answer, wanted);
+    group.same(&inputs, here.list, there.list);
+    group.same(&inputs, here.table, there.table);
+}
+
+/// One search over all kinds of pairs, every N, and lent memory of all lengths.
+fn by_search(search: u32, name: &str, rounds: u64) -> u64 {
+    let mut group = Group::new(format!("fields, {name}"));
+    for seed in 0..rounds {
+        let seed = 80_000 + 2_000 * search as u64 + seed;
+        let chance = &mut Chance::new(seed);
+        let (kind, _) = KINDS[seed as usize % KINDS.len()];
+        let n = chance.one_of(&[4, 4, 4, 8, 8, 16]);
+        let request = good_request(chance, n, search);
+        let pair = few_blocks(chance, kind, n, request.w);
+        let lent = lend_for(chance, &pair, &request);
+        asked(&mut group, seed, &pair, &request, &lent);
+    }
+    group.end()
+}
+
+/// Pairs and requests of which one thing is wrong.
+fn spoilt() -> u64 {
+    let mut group = Group::new("fields, refused");
+    for seed in 90_000..92_000 {
+        let chance = &mut Chance::new(seed);
+        let n = chance.one_of(&[4, 8]);
+        let search = chance.between(1, 4) as u32;
+        let mut request = good_request(chance, n, search);
+        request.w = request.w.min(8);
+        let mut pair = few_blocks(chance, Kind::Noisy, n, 2);
+        spoil(chance, &mut pair, &mut request);
+        let lent = lend_for(chance, &pair, &request);
+        asked(&mut group, seed, &pair, &request, &lent);
+    }
+    group.end()
+}
+
+/// List and table just long enough and one short, for every search and many sizes.
+fn edges() -> u64 {
+    let mut group = Group::new("fields, list and table one short");
+    let sizes = [(4, 4), (5, 4), (7, 9), (8, 8), (16, 16), (17, 35), (31, 8)];
+    for (width, height) in sizes {
+        for n in [4, 8, 16] {
+            if n > width || n > height {
+                continue;
+            }
+            let seed = (92_000 + width * 100 + n) as u64;
+            let chance = &mut Chance::new(seed);
+            let pair = made_up(chance, Kind::Moved, width, height, 2);
+            let list = 3 * (width / n) * (height / n);
+            let table = (width + 1) * (height + 1);
+            for search in 1..=4 {
+                let mut request = good_request(chance, n, search);
+                request.w = [2, 2, 7, 2][search as usize - 1];
+                for (list_length, table_length) in [
+                    (list, table),
+                    (list - 1, table),
+                    (list, table - 1),
+                    (list - 1, table - 1),
+                    (list, 0),
+                    (0, table),
+                ] {
+                    let lent = lend(chance, list_length, table_length);
+                    asked(&mut group, seed, &pair, &request, &lent);
+                }
+            }
+        }
+    }
+    group.end()
+}
+
+/// Pairs at the ends of the sizes, with small windows.
+fn large_frames() -> u64 {
+    let mut group = Group::new("fields, large frames");
+    for (index, (width, height)) in [(1024, 5), (6, 1024), (1024, 19), (640, 480), (1024, 1024)]
+        .into_iter()
+        .enumerate()
+    {
+        for n in [4, 8, 16] {
+            if n > width || n > height || (width * height > 40_000 && n != 16) {
+                continue;
+            }
+            let seed = 95_000 + (index * 20 + n) as u64;
+            let chance = &mut Chance::new(seed);
+            let kind = chance.one_of(&[Kind::Noisy, Kind::Extreme, Kind::Moved]);
+            let pair = made_up(chance, kind, width, height, 1);
+            let request = FieldRequest {
+                n,
+                search: 2,
+                w: 1,
+                t: 0,
+            };
+            let blocks = (width / n) * (height / n);
+            let lent = lend(chance, 3 * blocks, (width + 1) * (height + 1));
+            asked(&mut group, seed, &pair, &request, &lent);
+        }
+    }
+    group.end()
+}
+
+/// All fields; answers with the number of mismatches.
+pub fn run() -> u64 {
+    let mut mismatches = 0;
+    for (search, name) in [(1, "full"), (2, "pruned"), (3, "four-step"), (4, "cross")] {
+        mismatches += by_search(search, name, 1500);
+    }
+    mismatches + spoilt() + edges() + large_frames()
+}
