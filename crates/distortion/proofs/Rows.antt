@@ -7,34 +7,34 @@ use native.Mathlib.Omega.{arith}
 use lib.Dec.{T}
 use Rattle.base.specs.Sum.{sumTo-none, sumTo-ext, sumTo-four, sumTo-cut}
 use Rattle.frame.specs.Refusals.{listed, listed-elim}
-use Rattle.distortion.specs.Blocks.{Measure, rowFrom, rowsFrom, Rows, BlockRows, UpTo}
+use Rattle.distortion.specs.Blocks.{Measure, rowFrom, rowsApart, Rows, BlockRows, UpTo}
 
-module _ (μ : Measure) (older newer : List ℕ) (width a b n : ℕ) where
+module _ (μ : Measure) (older newer : List ℕ) (across width a b n : ℕ) where
   pub rows-four :
       rowFrom μ older newer a b n
-      + rowFrom μ older newer (a + width) (b + width) n
-      + rowFrom μ older newer (a + 2 * width) (b + 2 * width) n
-      + rowFrom μ older newer (a + 3 * width) (b + 3 * width) n
-      ≡ rowsFrom μ older newer width a b n 4
+      + rowFrom μ older newer (a + across) (b + width) n
+      + rowFrom μ older newer (a + 2 * across) (b + 2 * width) n
+      + rowFrom μ older newer (a + 3 * across) (b + 3 * width) n
+      ≡ rowsApart μ older newer across width a b n 4
   rows-four =
-      let f : ℕ → ℕ = λ i. rowFrom μ older newer (a + i * width) (b + i * width) n in
-      let first : rowFrom μ older newer a b n ≡ f 0 = rw (zero-mul width, add-zero a, add-zero b) in
-      let second : rowFrom μ older newer (a + width) (b + width) n ≡ f 1 = rw one-mul in
+      let f : ℕ → ℕ = λ i. rowFrom μ older newer (a + i * across) (b + i * width) n in
+      let first : rowFrom μ older newer a b n ≡ f 0 = rw (zero-mul across, zero-mul width, add-zero a, add-zero b) in
+      let second : rowFrom μ older newer (a + across) (b + width) n ≡ f 1 = rw (one-mul across, one-mul width) in
       omega (arith, sumTo-four f 0, sumTo-none f, first, second)
 
   -- m rows below the first k
   pub rows-cut : (k m : ℕ)
-      → rowsFrom μ older newer width a b n (k + m)
-      ≡ rowsFrom μ older newer width a b n k + rowsFrom μ older newer width (a + k * width) (b + k * width) n m
+      → rowsApart μ older newer across width a b n (k + m)
+      ≡ rowsApart μ older newer across width a b n k + rowsApart μ older newer across width (a + k * across) (b + k * width) n m
   rows-cut k m =
-      rw (sumTo-cut (λ i. rowFrom μ older newer (a + i * width) (b + i * width) n) k m)
-      (ap₂ _+_ refl (sumTo-ext _ _ m (λ i h. ap₂ (λ (p q : ℕ). rowFrom μ older newer p q n) (place a i) (place b i))))
+      rw (sumTo-cut (λ i. rowFrom μ older newer (a + i * across) (b + i * width) n) k m)
+      (ap₂ _+_ refl (sumTo-ext _ _ m (λ i h. ap₂ (λ (p q : ℕ). rowFrom μ older newer p q n) (place a across i) (place b width i))))
     where
-      place : (a i : ℕ) → a + (k + i) * width ≡ a + k * width + i * width
-      place a i = omega (arith, add-mul k i width)
+      place : (a apart i : ℕ) → a + (k + i) * apart ≡ a + k * apart + i * apart
+      place a apart i = omega (arith, add-mul k i apart)
 
   -- a sum of the first k rows that reaches the ceiling
-  pub reached : (k m ceiling d : ℕ) → d ≡ rowsFrom μ older newer width a b n k → ceiling ≤ d → UpTo ceiling (rowsFrom μ older newer width a b n (k + m)) d
+  pub reached : (k m ceiling d : ℕ) → d ≡ rowsApart μ older newer across width a b n k → ceiling ≤ d → UpTo ceiling (rowsApart μ older newer across width a b n (k + m)) d
   reached k m ceiling d e h = record { below = λ l. absurd (omega arith); beyond = λ l. omega (arith, rows-cut k m) }
 
 -- N rows are N / 4 groups of four

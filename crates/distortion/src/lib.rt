@@ -2,10 +2,11 @@
 
 ghost use mathlib.Core.Path.{_≡_};
 ghost use Prim.Native.Nat.{_+_, _*_, _≤_};
-ghost use lib.ListN.{length};
+ghost use lib.ListN.{length, getD};
+ghost use Rattle.base.specs.Lists.{fillTo};
 ghost use Rattle.order.specs.Vectors.{vec};
 ghost use Rattle.frame.specs.Pictures.{pairOf};
-ghost use Rattle.distortion.specs.Blocks.{absolute, blockAt, distortionBy, rowFrom, rowsFrom, UpTo, Rows, BlockRows, Comparable};
+ghost use Rattle.distortion.specs.Blocks.{absolute, blockAt, distortionBy, rowFrom, rowsApart, rowsFrom, blockCopy, UpTo, Rows, BlockRows, Comparable};
 ghost use Rattle.distortion.specs.Measured.{measured, refusedBy};
 use frame::Older;
 use frame::Sizes;
@@ -41,15 +42,23 @@ fn row(older: &[u8], newer: &[u8], a: usize, b: usize, n: usize) -> u32
     sum
 }
 
-// Four rows in a straight line.
-fn four_rows(older: &[u8], newer: &[u8], width: usize, a: usize, b: usize, n: usize) -> u32
-    requires { ⌜ (a + 3 * width + n ≤ length (now newer)) × (b + 3 * width + n ≤ length (now older)) × (n ≤ 1024) × (width ≤ 1024) ⌝ }
-    ensures { λ d. ⌜ (d ≡ rowsFrom absolute (now (older .entry)) (now (newer .entry)) width a b n 4) × (d ≤ 1020 * n) ⌝ }
+// Four rows in a straight line: the newer ones begin `across` pels apart, the older ones `width` pels.
+fn four_rows(
+    older: &[u8],
+    newer: &[u8],
+    across: usize,
+    width: usize,
+    a: usize,
+    b: usize,
+    n: usize,
+) -> u32
+    requires { ⌜ (a + 3 * across + n ≤ length (now newer)) × (b + 3 * width + n ≤ length (now older)) × (n ≤ 1024) × (across ≤ 1024) × (width ≤ 1024) ⌝ }
+    ensures { λ d. ⌜ (d ≡ rowsApart absolute (now (older .entry)) (now (newer .entry)) across width a b n 4) × (d ≤ 1020 * n) ⌝ }
 {
     row(older, newer, a, b, n)
-        + row(older, newer, a + width, b + width, n)
-        + row(older, newer, a + 2 * width, b + 2 * width, n)
-        + row(older, newer, a + 3 * width, b + 3 * width, n)
+        + row(older, newer, a + across, b + width, n)
+        + row(older, newer, a + 2 * across, b + 2 * width, n)
+        + row(older, newer, a + 3 * across, b + 3 * width, n)
 }
 
 // 4 × groups rows, four at a time, as far as the ceiling goes.
@@ -74,7 +83,7 @@ fn rows_by_four(
         if ceiling <= sum {
             return sum;
         }
-        sum += four_rows(older, newer, width, p, q, n);
+        sum += four_rows(older, newer, width, width, p, q, n);
         p += 4 * width;
         q += 4 * width;
         g += 1;
@@ -103,6 +112,47 @@ pub fn distortion_from(
         return rows_by_four(older, newer, width, a, b, 8, 2, ceiling);
     }
     rows_by_four(older, newer, width, a, b, 4, 1, ceiling)
+}
+
+// 16 pels from place `from` on, copied to place `to` on.
+fn copy_row(newer: &[u8], from: usize, block: &mut [u8; 256], to: usize)
+    requires { ⌜ (from + 16 ≤ length (now newer)) × (to + 16 ≤ 256) × (length (now block) ≡ 256) ⌝ }
+    ensures { λ _. ⌜ now (block .exit) ≡ fillTo (now (block .entry)) to (λ j. getD (now (newer .entry)) (from + j) 0) 16 ⌝ }
+{
+    let mut j: usize = 0;
+    while j < 16 {
+        block[to + j] = newer[from + j];
+        j += 1;
+    }
+}
+
+// The 16 × 16 block that begins at place a, row after row.
+pub fn copy_block(newer: &[u8], width: usize, a: usize, block: &mut [u8; 256])
+    requires { ⌜ (a + 16 * width + 16 ≤ length (now newer) + width) × (width ≤ 1024) × (length (now block) ≡ 256) ⌝ }
+    ensures { λ _. ⌜ now (block .exit) ≡ blockCopy (now (newer .entry)) width a 16 ⌝ }
+{
+    let mut i: usize = 0;
+    while i < 16 {
+        copy_row(newer, a + i * width, block, i * 16);
+        i += 1;
+    }
+}
+
+// The distortion of a copied 16 × 16 block against the older block that begins at place b. The place has 32 bits so that the compiler takes it as
+// one number: it would else work out each row's place from the vector.
+pub fn copy_distortion(older: &[u8], block: &[u8; 256], width: usize, b: u32) -> u32
+    requires { ⌜ (length (now block) ≡ 256) × (b + 16 * width + 16 ≤ length (now older) + width) × (width ≤ 1024) ⌝ }
+    ensures { λ d. ⌜ d ≡ rowsApart absolute (now (older .entry)) (now (block .entry)) 16 width 0 b 16 16 ⌝ }
+{
+    let mut sum: u32 = 0;
+    let mut q = b as usize;
+    let mut g: usize = 0;
+    while g < 4 {
+        sum += four_rows(older, block, 16, width, 64 * g, q, 16);
+        q += 4 * width;
+        g += 1;
+    }
+    sum
 }
 
 // The distortion of the newer block at row y, column x against the older block at row r, column c.

@@ -1,2 +1,3 @@
+pub mod Older
 pub mod Turns
 pub mod Laws

@@ -12,6 +12,10 @@ pub choosing-one : (D : ℕ → ℕ) (alive : List ℕ) (best least : ℕ) → 0
     → Choice D alive 1 best least
 choosing-one D alive best least h e l f = record { cost = f; first = e ∙ least-of-one D alive h; small = l }
 
+-- a distortion measured whole
+pub whole : (ceiling all d : ℕ) → d ≡ all → UpTo ceiling all d
+whole ceiling all d e = record { below = λ l. e; beyond = λ l. omega arith }
+
 module _ {D : ℕ → ℕ} {alive : List ℕ} {i best least : ℕ} (s : Choice D alive i best least) (some : 0 < i) (h : i < length alive)
     (k v : ℕ) (e : k ≡ getD alive i 0) (f : UpTo least (D k) v)
   where

@@ -1,20 +1,36 @@
 -- 01, "The four searches", search 1: "the least distortion; equals go to the earlier in preference order. The m = 1 count is the number of
 -- candidates."
---   distortionOf   the distortion of the vector at place k of the preference table
+--   beginsAt       where the older block of the vector at place k of the preference table begins, Stands: at a row and a column of a frame
+--   CopyOf         a copy of the block, of N 16, row after row
+--   distortionOf   the distortion of that vector
 --   Choice         best is the first of least distortion among the first i of a list, with its distortion
 --   fullFound      the answer of search 1 for the block at row y, column x
-use Prim.Native.Nat.{ℕ, _<_}
+use Prim.Native.Nat.{ℕ, _+_, _*_, _≤_, _<_}
 use mathlib.Core.Path.{_≡_}
 use mathlib.Core.List.{List}
 use lib.ListN.{length, take}
 use Rattle.base.specs.Least.{leastOf}
 use Rattle.order.specs.Preference.{preferred}
 use Rattle.frame.specs.Pictures.{Pair, pairOf}
-use Rattle.distortion.specs.Blocks.{distortion}
+use Rattle.frame.specs.Candidates.{olderRow, olderColumn}
+use Rattle.distortion.specs.Blocks.{blockCopy, distortion}
 use Rattle.search.specs.declared.Spot.{Spot}
 use Rattle.search.specs.declared.Found.{Found}
+use Rattle.search.specs.Weighing.{Past}
 use Rattle.search.specs.Found.{foundAs, onlyAtOne}
 use Rattle.search.specs.Exhaustive.{places, best}
+
+abbrev pub beginsAt : Spot → ℕ → ℕ
+beginsAt b k = olderRow (b .y) (preferred k) * b .sizes .width + olderColumn (b .x) (preferred k)
+
+pub record Stands (b : Spot) (k : ℕ) : Type 0 where
+  pub row : Past (preferred k .dy) (b .y) 0
+  pub column : Past (preferred k .dx) (b .x) 0
+  pub wide : b .sizes .width ≤ 1024
+
+pub record CopyOf (newer : List ℕ) (b : Spot) (block : List ℕ) : Type 0 where
+  pub sixteen : b .sizes .n ≡ 16
+  pub same : block ≡ blockCopy newer (b .sizes .width) (b .y * b .sizes .width + b .x) 16
 
 abbrev pub distortionOf : List ℕ → List ℕ → Spot → ℕ → ℕ
 distortionOf older newer b k = distortion (pairOf older newer (b .sizes)) (b .y) (b .x) (preferred k)

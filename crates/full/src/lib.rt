@@ -8,7 +8,7 @@ ghost use Rattle.frame.specs.Pictures.{pairOf};
 ghost use Rattle.distortion.specs.Blocks.{UpTo};
 ghost use Rattle.search.specs.Weighing.{Ready};
 ghost use Rattle.remaining.specs.Gathered.{passes, Listed};
-ghost use Rattle.full.specs.Full.{distortionOf, Choice, fullFound};
+ghost use Rattle.full.specs.Full.{beginsAt, Stands, CopyOf, distortionOf, Choice, fullFound};
 use search::Found;
 use search::Spot;
 
@@ -16,6 +16,18 @@ use search::Spot;
 pub struct Chosen {
     pub place: usize,
     pub distortion: u32,
+}
+
+// Where the older block of the candidate at place k of the preference table begins.
+fn begins_at(order: &[i32; 2178], b: Spot, k: usize) -> usize
+    requires { ⌜ Stands b k × (now order ≡ flat preference) × (k < 1089) ⌝ }
+    ensures { λ r. ⌜ r ≡ beginsAt b k ⌝ }
+{
+    let s = b.sizes;
+    let v = order::vector_at(order, k);
+    let r = search::past(v.dy, b.y, 0);
+    let c = search::past(v.dx, b.x, 0);
+    r * s.width + c
 }
 
 // The distortion of the candidate at place k of the preference table, as far as the ceiling goes.
@@ -32,15 +44,28 @@ pub fn distortion_of(
     ensures { λ d. ⌜ UpTo ceiling (distortionOf (now (older .entry)) (now (newer .entry)) b k) d × (d < 4294967295) ⌝ }
 {
     let s = b.sizes;
-    let y = b.y;
-    let x = b.x;
-    let v = order::vector_at(order, k);
-    let r = search::past(v.dy, y, 0);
-    let c = search::past(v.dx, x, 0);
     let width = s.width;
-    let here = y * width + x;
-    let there = r * width + c;
+    let here = b.y * width + b.x;
+    let there = begins_at(order, b, k);
     distortion::distortion_from(older, newer, width, s.n, here, there, ceiling)
+}
+
+// The same of a block of N 16, whole, from a copy of the block; the newer frame stands for the contract alone.
+fn copied_distortion_of(
+    older: &[u8],
+    newer: &[u8],
+    order: &[i32; 2178],
+    b: Spot,
+    k: usize,
+    block: &[u8; 256],
+) -> u32
+    requires { ⌜ Ready (now older) (now newer) b × (now order ≡ flat preference) ⌝ }
+    requires { ⌜ (k < 1089) × T (passes b k) × CopyOf (now newer) b (now block) ⌝ }
+    ensures { λ d. ⌜ d ≡ distortionOf (now (older .entry)) (now (newer .entry)) b k ⌝ }
+{
+    let s = b.sizes;
+    let there = begins_at(order, b, k);
+    distortion::copy_distortion(older, block, s.width, there as u32)
 }
 
 // Of the listed candidates, the first of least distortion.
@@ -74,6 +99,62 @@ pub fn choose(
     }
 }
 
+// The same of a block of N 16, from a copy of the block: faster where there are many candidates.
+fn choose_copied(
+    older: &[u8],
+    newer: &[u8],
+    order: &[i32; 2178],
+    b: Spot,
+    alive: &[u16; 1089],
+    count: usize,
+    block: &[u8; 256],
+) -> Chosen
+    requires { ⌜ Ready (now older) (now newer) b × (now order ≡ flat preference) ⌝ }
+    requires { ⌜ Listed b (now alive) count × (0 < count) × CopyOf (now newer) b (now block) ⌝ }
+    ensures { λ r. ⌜ Choice (distortionOf (now (older .entry)) (now (newer .entry)) b) (now (alive .entry)) count (r .place) (r .distortion) ⌝ }
+{
+    let mut best = remaining::wide(alive[0]);
+    let mut least = distortion_of(older, newer, order, b, best, 4294967295);
+    let mut i: usize = 1;
+    while i < count {
+        let k = remaining::wide(alive[i]);
+        let whole = copied_distortion_of(older, newer, order, b, k, block);
+        if whole < least {
+            best = k;
+            least = whole;
+        }
+        i += 1;
+    }
+    Chosen {
+        place: best,
+        distortion: least,
+    }
+}
+
+// Of many listed candidates, the first of least distortion.
+fn choose_of_many(
+    older: &[u8],
+    newer: &[u8],
+    order: &[i32; 2178],
+    b: Spot,
+    alive: &[u16; 1089],
+    count: usize,
+) -> Chosen
+    requires { ⌜ Ready (now older) (now newer) b × (now order ≡ flat preference) ⌝ }
+    requires { ⌜ Listed b (now alive) count × (0 < count) ⌝ }
+    ensures { λ r. ⌜ Choice (distortionOf (now (older .entry)) (now (newer .entry)) b) (now (alive .entry)) count (r .place) (r .distortion) ⌝ }
+{
+    let s = b.sizes;
+    if s.n != 16 {
+        return choose(older, newer, order, b, alive, count);
+    }
+    let width = s.width;
+    let here = b.y * width + b.x;
+    let mut block = [0u8; 256];
+    distortion::copy_block(newer, width, here, &mut block);
+    choose_copied(older, newer, order, b, alive, count, &block)
+}
+
 // Search 1 of one block.
 pub fn search(older: &[u8], newer: &[u8], order: &[i32; 2178], b: Spot) -> Found
     requires { ⌜ Ready (now older) (now newer) b × (now order ≡ flat preference) ⌝ }
@@ -81,7 +162,7 @@ pub fn search(older: &[u8], newer: &[u8], order: &[i32; 2178], b: Spot) -> Found
 {
     let mut alive = [0u16; 1089];
     let count = remaining::gather(order, b, &mut alive);
-    let best = choose(older, newer, order, b, &alive, count);
+    let best = choose_of_many(older, newer, order, b, &alive, count);
     let v = order::vector_at(order, best.place);
     Found {
         refusal: 0,

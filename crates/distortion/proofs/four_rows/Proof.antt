@@ -59,7 +59,7 @@ add-result-3 c = omega arith
 returns : tie.Need-returns
 returns c =
     let a = c .before .before .before .before .before .before .args in
-    omega (arith, rows-four absolute (a .older .now) (a .newer .now) (a .width) (a .a) (a .b) (a .n))
+    omega (arith, rows-four absolute (a .older .now) (a .newer .now) (a .across) (a .width) (a .a) (a .b) (a .n))
 
 pub four-rows-spec : {M : Type 1} → statement M
 four-rows-spec =

@@ -50,7 +50,7 @@ returns c =
     let a = c .before .before .before .before .before .args in
     let all : 4 * a .groups ≡ 4 * l .g + 4 * (a .groups - l .g) = omega arith in
     let most : l .g * (1020 * a .n) ≤ a .groups * (1020 * a .n) = mul-le-mul-right (1020 * a .n) (l .inv .0) in
-    rw all (reached absolute (a .older .now) (a .newer .now) (a .width) (a .a) (a .b) (a .n) (4 * l .g) (4 * (a .groups - l .g)) _ _ (l .inv .4) (c .if1 .taken), omega arith)
+    rw all (reached absolute (a .older .now) (a .newer .now) (a .width) (a .width) (a .a) (a .b) (a .n) (4 * l .g) (4 * (a .groups - l .g)) _ _ (l .inv .4) (c .if1 .taken), omega arith)
 
 four-rows-requires : tie.Need-four-rows-requires Inv-loop μ-loop
 four-rows-requires c κs = omega (arith, turn (c .before), c .before .before .before .before .before .pre)
@@ -82,7 +82,7 @@ loop-again c =
     let l = i .before .loop in
     let a = i .before .before .before .before .args in
     let e : 4 * (l .g + 1) ≡ 4 * l .g + 4 = omega arith in
-    let cut = rows-cut absolute (a .older .now) (a .newer .now) (a .width) (a .a) (a .b) (a .n) (4 * l .g) 4 in
+    let cut = rows-cut absolute (a .older .now) (a .newer .now) (a .width) (a .width) (a .a) (a .b) (a .n) (4 * l .g) 4 in
     let four = rw (l .inv .1, l .inv .2) at (c .four-rows .ensures .0) in
     (omega arith, omega (arith, turn i), omega (arith, turn i), omega (arith, more i), rw e (omega (arith, cut, four, l .inv .4)))
 

@@ -28,14 +28,14 @@ some g =
 gather-requires : tie.Need-gather-requires
 gather-requires c κs = (c .before .before .before .pre .1, refl)
 
-choose-requires : tie.Need-choose-requires
-choose-requires c κs =
+choose-of-many-requires : tie.Need-choose-of-many-requires
+choose-of-many-requires c κs =
     let g = c .before in
     let s = g .before .before .before .before in
     (s .pre, (gathered-listed (g .gather .ensures), some g))
 
 vector-at-requires : tie.Need-vector-at-requires
-vector-at-requires c κs = (c .before .before .before .before .before .before .pre .1, c .choose .ensures .small)
+vector-at-requires c κs = (c .before .before .before .before .before .before .pre .1, c .choose-of-many .ensures .small)
 
 cast-t11 : tie.Need-cast-t11
 cast-t11 c = fits-under w32 _ 1090 (omega (arith, gathered-few (c .before .before .before .gather .ensures))) tt
@@ -44,9 +44,9 @@ returns : tie.Need-returns
 unfolding fullFound best
 returns c =
     let h = c .before .before .before .before .gather .ensures in
-    let k = c .before .before .choose .ensures in
+    let k = c .before .before .choose-of-many .ensures in
     rw (toZ-ofZ (sfits-of (c .struct-told .given .0 .1)), toZ-ofZ (sfits-of (c .struct-told .given .1 .0 .1)), c .before .vector-at .ensures, k .cost, k .first, h .front, ← h .many)
 
 pub search-spec : {M : Type 1} → statement M
 search-spec =
-    tie.close (tie.spec gather-requires choose-requires vector-at-requires cast-t11 returns)
+    tie.close (tie.spec gather-requires choose-of-many-requires vector-at-requires cast-t11 returns)

@@ -1,0 +1,55 @@
+-- `choose_of_many`: a block of N 16 is copied first; it lies inside its frame.
+use Prim.Native.Nat.{_+_, _*_, _≤_}
+use mathlib.Core.Path.{refl}
+use native.Mathlib.Omega.{arith}
+use denote.Ref.{now}
+use lib.ListN.{length}
+use Rattle.distortion.specs.Blocks.{Comparable, begins, block-inside}
+use Rattle.full.proofs.choose_of_many.Statement.{statement}
+use Rattle.full.proofs.choose_of_many.Tie as tie
+
+-- the block against the older one at the same place
+own : (s : tie.Start) → let b = s .args .b in Comparable (now (s .args .older)) (now (s .args .newer)) (b .sizes) (b .y) (b .x) (b .y) (b .x)
+own s = let p = s .pre .0 .0 .placed in record { placed = p; down = p .down; across = p .across }
+
+first : (s : tie.Start) → let b = s .args .b in b .y * b .sizes .width + b .x ≤ length (now (s .args .newer))
+first s = begins _ _ _ _ _ _ _ (own s) .0
+
+choose-requires : tie.Need-choose-requires
+choose-requires c κs = c .before .before .before .before .before .pre
+
+returns : tie.Need-returns
+returns c = c .choose .ensures
+
+mul-here : tie.Need-mul-here
+mul-here c = omega (arith, first (c .before .before .before .before .before .before))
+
+add-here : tie.Need-add-here
+add-here c = omega (arith, first (c .before .before .before .before .before .before .before))
+
+copy-block-requires : tie.Need-copy-block-requires
+copy-block-requires c κs =
+    let s = c .before .before .before .before .before .before .before .before in
+    let k = block-inside _ _ _ _ _ _ _ (own s) in
+    (rw (c .before .before .before .if1 .left) at (k .in-newer), k .wide, refl)
+
+choose-copied-requires : tie.Need-choose-copied-requires
+choose-copied-requires c κs =
+    let e = c .before .before .before .before .before in
+    let s = e .before .before .before .before .before in
+    (s .pre .0, (s .pre .1 .0, s .pre .1 .1, record { sixteen = e .if1 .left; same = c .before .copy-block .ensures }))
+
+returns-2 : tie.Need-returns-2
+returns-2 c = c .choose-copied .ensures
+
+pub choose-of-many-spec : {M : Type 1} → statement M
+choose-of-many-spec =
+    tie.close
+    (tie.spec
+    choose-requires
+    returns
+    mul-here
+    add-here
+    copy-block-requires
+    choose-copied-requires
+    returns-2)

@@ -1,0 +1,36 @@
+-- `copied_distortion_of`: the older block begins there and lies inside, and the copy has the block's distortion.
+use mathlib.Core.Path.{_∙_}
+use native.Mathlib.Omega.{arith}
+use borrow.Author.Needs.{fits-under}
+use denote.Ref.{now}
+use mir.Syntax.{w32}
+use Rattle.distortion.specs.Blocks.{length-copy}
+use Rattle.full.proofs.Older.{stands, by-copy, begins-low, begins-inside}
+use Rattle.full.proofs.copied_distortion_of.Statement.{statement}
+use Rattle.full.proofs.copied_distortion_of.Tie as tie
+
+begins-at-requires : tie.Need-begins-at-requires
+begins-at-requires c κs =
+    let s = c .before .before .before in
+    (stands (now (s .args .older)) (now (s .args .newer)) (s .args .b) (s .args .k) (s .pre .0 .0) (s .pre .1 .1), s .pre .0 .1, s .pre .1 .0)
+
+cast-copy-distortion : tie.Need-cast-copy-distortion
+cast-copy-distortion c =
+    let s = c .before .before .before .before in
+    let low = begins-low (now (s .args .older)) (now (s .args .newer)) (s .args .b) (s .args .k) (s .pre .0 .0) (s .pre .1 .1) in
+    fits-under w32 _ 1048577 (omega (arith, low, c .begins-at .ensures)) tt
+
+copy-distortion-requires : tie.Need-copy-distortion-requires
+copy-distortion-requires c κs =
+    let s = c .before .before .before .before in
+    let inside = begins-inside (now (s .args .older)) (now (s .args .newer)) (s .args .b) (s .args .k) (s .pre .0 .0) (s .pre .1 .1) (s .pre .1 .2 .sixteen) in
+    (rw (s .pre .1 .2 .same) (length-copy _ _ _ 16), rw (c .begins-at .ensures) inside, s .pre .0 .0 .placed .paired .fitting .wide)
+
+returns : tie.Need-returns
+returns c =
+    let s = c .before .before .before .before .before in
+    (rw (c .before .begins-at .ensures) at (c .copy-distortion .ensures))
+    ∙ by-copy (now (s .args .older)) (now (s .args .newer)) (s .args .b) (s .args .k) (now (s .args .block)) (s .pre .1 .2)
+
+pub copied-distortion-of-spec : {M : Type 1} → statement M
+copied-distortion-of-spec = tie.close (tie.spec begins-at-requires cast-copy-distortion copy-distortion-requires returns)
