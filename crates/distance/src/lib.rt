@@ -6,7 +6,7 @@ ghost use lib.ListN.{length, getD};
 ghost use Rattle.base.specs.Sum.{sumTo};
 ghost use Rattle.order.specs.Preference.{preference, preferred, flat};
 ghost use Rattle.distortion.specs.Blocks.{blockAt};
-ghost use Rattle.squares.specs.Squares.{Cut, gapAt, Compared};
+ghost use Rattle.squares.specs.Squares.{OwnSums, Cut, gapAt, Compared};
 ghost use Rattle.remaining.specs.Gathered.{Filled};
 ghost use Rattle.distance.specs.Remaining.{Reached, placeOf, distanceOf, Tested};
 use search::Spot;
@@ -130,7 +130,7 @@ fn fill_many(
     pick(&part, order, o, alive, count, dist);
 }
 
-// The distance at m of every remaining candidate. The older frame stands for the contract alone: its sums are read.
+// The distance at m of every remaining candidate. The frames stand for the contract alone: the older one's sums are read, and the newer block's own.
 pub fn fill_distances(
     older: &[u8],
     newer: &[u8],
@@ -138,12 +138,14 @@ pub fn fill_distances(
     b: Spot,
     sums: &[u32],
     a: Window,
+    own: &[u32],
     m: usize,
     alive: &[u16; 1089],
     count: usize,
     dist: &mut [u32; 1089],
 )
-    requires { ⌜ (now order ≡ flat preference) × (length (now dist) ≡ 1089) × Tested (now older) (now newer) b (now sums) a m (now alive) count ⌝ }
+    requires { ⌜ (now order ≡ flat preference) × (length (now dist) ≡ 1089) × Tested (now older) (now newer) b (now sums) a m (now alive) count
+        × OwnSums (now newer) b (now own) ⌝ }
     ensures { λ _. ⌜ Filled (distanceOf (now (older .entry)) (now (newer .entry)) b m) (now (alive .entry)) count (now (dist .exit)) ⌝ }
 {
     let s = b.sizes;
@@ -153,7 +155,7 @@ pub fn fill_distances(
     let stride = a.columns + 1;
     let mut block = [0u32; 64];
     let mut steps = [0usize; 64];
-    squares::cut(newer, b, m, k, stride, &mut block, &mut steps);
+    squares::cut(newer, b, own, m, k, stride, &mut block, &mut steps);
     if count <= 256 {
         let top = a.top;
         let left = a.left;

@@ -1,6 +1,7 @@
--- A block that is ready to be searched: every resolution divides N, and at one that does no test drops the winner.
+-- A block that is ready to be searched: it has a table of its own, every resolution divides N, and at one that does no test drops the winner.
 use Prim.Native.Nat.{ℕ, _≤_, _∣_}
-use mathlib.Core.List.{_∷_}
+use mathlib.Core.List.{List, _∷_}
+use native.Mathlib.Nat.{le-trans, mul-le-mul, mul-le-mul-right}
 use native.Mathlib.Omega.{arith}
 use lib.Dec.{T}
 use Rattle.base.specs.Least.{_∈_}
@@ -8,11 +9,28 @@ use Rattle.order.specs.Preference.{preferred}
 use Rattle.frame.specs.Pictures.{Pair}
 use Rattle.frame.specs.Refusals.{listed, listed-elim}
 use Rattle.distortion.specs.Blocks.{absolute, distortion, newerBlock, olderBlock}
+use Rattle.search.specs.declared.Spot.{Spot}
+use Rattle.search.specs.Weighing.{Ready}
+use Rattle.sums.specs.Filling.{Fillable}
+use Rattle.reach.proofs.Windows.{ready-standing, ready-size}
+use Rattle.squares.specs.Squares.{ownWindow}
 use Rattle.pruning.specs.Prune.{resolutions}
 use Rattle.pruning.proofs.Blocks.{absolute-lawful}
 use Rattle.pruning.proofs.Pruned.{Safe}
 use Rattle.pruning.proofs.Search.{safe, resolutions-divide}
 use Rattle.pruned.specs.Answer.{distortionAt, distanceAt}
+
+pub own-fillable : (older newer : List ℕ) (b : Spot) → Ready older newer b → Fillable newer (b .sizes .width) (ownWindow b) 289
+own-fillable older newer b r =
+    let s = ready-standing older newer b r in
+    let n = ready-size older newer b r in
+    record {
+      across = s .across;
+      down = le-trans (mul-le-mul-right (b .sizes .width) (s .down)) (omega (arith, r .placed .paired .newer-whole));
+      wide = s .wide;
+      high = omega (arith, n);
+      table = mul-le-mul {n₂ = 17} {m₂ = 17} (omega (arith, n)) (omega (arith, n));
+    }
 
 pub divides : (n : ℕ) → T (listed n) → (m : ℕ) → m ∈ n ∷ resolutions n → m ∣ n
 divides = listed-elim (λ n. (m : ℕ) → m ∈ n ∷ resolutions n → m ∣ n) (resolutions-divide 2) (resolutions-divide 3) (resolutions-divide 4)

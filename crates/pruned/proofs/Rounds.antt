@@ -73,16 +73,19 @@ module _ {D : ℕ → ℕ} {d : ℕ → ℕ → ℕ} {N : ℕ} {p : ℕ → Bool
 
   -- one turn: the next resolution is m / 2
   pub going-more : (after dist′ : List ℕ) (q : Rest) → ((i : ℕ) → i ∣ N → Safe D d (absolute .limit) i) → 2 ≤ m
-      → ((z : ℕ) (s : Pruning) → InMemory z s alive r → InMemory z (sift d (absolute .limit) m (lower D d m s)) after q) → length dist′ ≡ 1089
+      → ((z : ℕ) (s : Pruning) → InMemory z s alive r → 0 < length (sift d (absolute .limit) m (lower D d m s) .left)
+      → InMemory z (sift d (absolute .limit) m (lower D d m s)) after q)
+      → length dist′ ≡ 1089
       → Going D d N p (m / 2) after dist′ q
   unfolding lower sift
   going-more after dist′ q safe h steps wide =
-      let held = steps (g .unused) (g .state) (g .held) in
+      let holds = sift-holds D d (pick p 1089) (absolute .limit) m _ (safe m (going-divides h)) (lower-holds D d (pick p 1089) m _ (g .holds)) in
+      let held = steps (g .unused) (g .state) (g .held) (holds-some holds) in
       record {
         unused = g .unused;
         state = sift d (absolute .limit) m (lower D d m (g .state));
         held = held;
-        holds = sift-holds D d (pick p 1089) (absolute .limit) m _ (safe m (going-divides h)) (lower-holds D d (pick p 1089) m _ (g .holds));
+        holds = holds;
         counted = sift-counted D d (absolute .limit) (pick p 1089) m _ (lower-counted D d (absolute .limit) (pick p 1089) m _ (g .counted));
         ahead = g .ahead ∙ rounds-more D d (absolute .limit) m (g .state) h;
         divides = λ i k. g .divides i (rw (halvings-more m h) (List·Memᴰ·tail k));
@@ -114,12 +117,15 @@ take-zeros (suc z) zero h = absurd (not-suc-le-zero h)
 take-zeros (suc z) (suc n) h = ap (λ (ks : List ℕ). 0 ∷ ks) (take-zeros z n (le-of-suc-le-suc h))
 
 module _ (D : ℕ → ℕ) (N : ℕ) (b : Spot) (zero-passes : passes b 0 ≡ true) {alive : List ℕ} {all : ℕ} {r : Rest} (a : Gathered b alive all) (f : Begun (D 0) N all r) where
+  start-bound : r .bound ≡ start D (pick (passes b) 1089) .bound
+  start-bound = f .bound ∙ sym (first-bound D (passes b) 1088 zero-passes)
+
   -- all candidates are in memory, and E
   start-held : InMemory (r .slot) (start D (pick (passes b) 1089)) alive r
   unfolding start
   start-held = record {
     long = a .long;
-    bound = f .bound ∙ sym (first-bound D (passes b) 1088 zero-passes);
+    bound = λ _. start-bound;
     many = a .many ∙ sym (f .count);
     left = rw (f .count) (a .front);
     slot = omega arith;
@@ -129,12 +135,13 @@ module _ (D : ℕ → ℕ) (N : ℕ) (b : Spot) (zero-passes : passes b 0 ≡ tr
 
   -- after the test at N the rounds from N / 2 on lead to the end
   pub going-start : (d : ℕ → ℕ → ℕ) {after dist : List ℕ} {q : Rest}
-      → (InMemory (r .slot) (start D (pick (passes b) 1089)) alive r → InMemory (r .slot) (sift d (absolute .limit) N (start D (pick (passes b) 1089))) after q)
+      → (InMemory (r .slot) (start D (pick (passes b) 1089)) alive r → r .bound ≡ start D (pick (passes b) 1089) .bound
+      → InMemory (r .slot) (sift d (absolute .limit) N (start D (pick (passes b) 1089))) after q)
       → length dist ≡ 1089 → Safe D d (absolute .limit) N → ((i : ℕ) → i ∈ resolutions N → i ∣ N)
       → Going D d N (passes b) (N / 2) after dist q
   unfolding prune sift start
   going-start d steps wide safe divides =
-      let held = steps start-held in
+      let held = steps start-held start-bound in
       record {
         unused = r .slot;
         state = sift d (absolute .limit) N (start D (pick (passes b) 1089));

@@ -12,10 +12,11 @@ ghost use Rattle.distortion.specs.Blocks.{absolute};
 ghost use Rattle.search.specs.Weighing.{Ready};
 ghost use Rattle.pruning.specs.Prune.{Pruning, lower, sift, resolutions};
 ghost use Rattle.remaining.specs.Gathered.{Listed, Filled};
+ghost use Rattle.squares.specs.Squares.{OwnSums};
 ghost use Rattle.full.specs.Full.{distortionOf};
 ghost use Rattle.distance.specs.Remaining.{distanceOf, Tested};
 ghost use Rattle.pruned.specs.Answer.{prunedFound};
-ghost use Rattle.pruned.specs.Memory.{Lent, InMemory, Begun, Leveled, finished};
+ghost use Rattle.pruned.specs.Memory.{Lent, InMemory, Begun, counted, Leveled, finished};
 use search::Found;
 use search::Spot;
 use sums::Window;
@@ -70,7 +71,7 @@ fn lowered(
     r: Rest,
 ) -> Rest
     requires { ⌜ Ready (now older) (now newer) b × (now order ≡ flat preference) ⌝ }
-    requires { ⌜ Listed b (now alive) (r .count) × (0 < r .count) ⌝ }
+    requires { ⌜ Listed b (now alive) (r .count) × (1 < r .count) ⌝ }
     ensures { λ q. ⌜ ((z m : ℕ) (s : Pruning) (d : ℕ → ℕ → ℕ) → InMemory z s (now (alive .entry)) r → Filled (d m) (now (alive .entry)) (r .count) (now (dist .entry))
         → InMemory z (lower (distortionOf (now (older .entry)) (now (newer .entry)) b) d m s) (now (alive .entry)) q) × (q .count ≡ r .count) × (q .slot ≡ r .slot) ⌝ }
 {
@@ -91,27 +92,42 @@ fn lowered(
     r
 }
 
-// Counts the tests and drops each candidate whose distance exceeds E.
-fn sifted(alive: &mut [u16; 1089], dist: &[u32; 1089], r: Rest) -> Rest
-    requires { ⌜ (length (now alive) ≡ 1089) × (r .count ≤ 1089) × (r .slot < 5) ⌝ }
-    ensures { λ q. ⌜ ((z m : ℕ) (s : Pruning) (d : ℕ → ℕ → ℕ) → InMemory z s (now (alive .entry)) r → Filled (d m) (now (alive .entry)) (r .count) (now (dist .entry))
-        → InMemory z (sift d (absolute .limit) m s) (now (alive .exit)) q) ⌝ }
+// Counts the tests at a resolution: one for each remaining candidate.
+fn count_tests(r: Rest) -> Rest
+    requires { ⌜ (r .count ≤ 1089) × (r .slot < 5) ⌝ }
+    ensures { λ q. ⌜ q ≡ counted r ⌝ }
 {
     let count = r.count;
     let bound = r.bound;
     let slot = r.slot;
     let mut counts = r.counts;
     counts[slot] = count as u32;
-    let kept = remaining::keep_within(alive, count, dist, bound);
     Rest {
-        count: kept,
+        count,
         bound,
         slot: slot + 1,
         counts,
     }
 }
 
-// One resolution of the rounds.
+// Counts the tests and drops each candidate whose distance exceeds E.
+fn sifted(alive: &mut [u16; 1089], dist: &[u32; 1089], r: Rest) -> Rest
+    requires { ⌜ (length (now alive) ≡ 1089) × (r .count ≤ 1089) × (r .slot < 5) ⌝ }
+    ensures { λ q. ⌜ ((z m : ℕ) (s : Pruning) (d : ℕ → ℕ → ℕ) → InMemory z s (now (alive .entry)) r → r .bound ≡ s .bound
+        → Filled (d m) (now (alive .entry)) (r .count) (now (dist .entry)) → InMemory z (sift d (absolute .limit) m s) (now (alive .exit)) q) ⌝ }
+{
+    let kept = remaining::keep_within(alive, r.count, dist, r.bound);
+    let q = count_tests(r);
+    let counts = q.counts;
+    Rest {
+        count: kept,
+        bound: q.bound,
+        slot: q.slot,
+        counts,
+    }
+}
+
+// One resolution of the rounds. A candidate alone is the best: it stays, whatever E is.
 fn level(
     older: &[u8],
     newer: &[u8],
@@ -119,16 +135,33 @@ fn level(
     b: Spot,
     sums: &[u32],
     a: Window,
+    own: &[u32],
     m: usize,
     alive: &mut [u16; 1089],
     dist: &mut [u32; 1089],
     r: Rest,
 ) -> Rest
-    requires { ⌜ (now order ≡ flat preference) × (length (now dist) ≡ 1089) × Tested (now older) (now newer) b (now sums) a m (now alive) (r .count) × (0 < r .count) × (r .slot < 5) ⌝ }
+    requires { ⌜ (now order ≡ flat preference) × (length (now dist) ≡ 1089) × Tested (now older) (now newer) b (now sums) a m (now alive) (r .count)
+        × OwnSums (now newer) b (now own) × (0 < r .count) × (r .slot < 5) ⌝ }
     ensures { λ q. ⌜ Leveled (distortionOf (now (older .entry)) (now (newer .entry)) b) (distanceOf (now (older .entry)) (now (newer .entry)) b) m (now (alive .entry)) r (now (alive .exit)) q × (length (now (dist .exit)) ≡ 1089) ⌝ }
 {
     let count = r.count;
-    distance::fill_distances(older, newer, order, b, sums, a, m, &*alive, count, dist);
+    if count == 1 {
+        return count_tests(r);
+    }
+    distance::fill_distances(
+        older,
+        newer,
+        order,
+        b,
+        sums,
+        a,
+        own,
+        m,
+        &*alive,
+        count,
+        dist,
+    );
     let q = lowered(older, newer, order, b, &*alive, &*dist, r);
     sifted(alive, &*dist, q)
 }
@@ -179,13 +212,39 @@ pub fn search(
     let mut dist = [0u32; 1089];
     let s = b.sizes;
     let n = s.n;
+    let mut own = [0u32; 289];
+    sums::fill_sums(newer, s.width, squares::own_window(b), &mut own);
     let total = remaining::gather(order, b, &mut alive);
     let first = begin(older, newer, order, b, total);
-    distance::fill_distances(older, newer, order, b, sums, a, n, &alive, total, &mut dist);
+    distance::fill_distances(
+        older,
+        newer,
+        order,
+        b,
+        sums,
+        a,
+        &own,
+        n,
+        &alive,
+        total,
+        &mut dist,
+    );
     let mut r = sifted(&mut alive, &dist, first);
     let mut m = n / 2;
     while m >= 2 {
-        r = level(older, newer, order, b, sums, a, m, &mut alive, &mut dist, r);
+        r = level(
+            older,
+            newer,
+            order,
+            b,
+            sums,
+            a,
+            &own,
+            m,
+            &mut alive,
+            &mut dist,
+            r,
+        );
         m = m / 2;
     }
     finish(older, newer, order, b, &alive, total, r)

@@ -18,11 +18,19 @@ pub fn magnitude(d: i32) -> u32
     }
 }
 
+// |a - b| of two sums of pels. By a signed difference: the compiler has its best code for that.
+pub fn gap(a: u32, b: u32) -> u32
+    requires { ⌜ (a ≤ 65280) × (b ≤ 65280) ⌝ }
+    ensures { λ r. ⌜ r ≡ absDiff a b ⌝ }
+{
+    magnitude((a as i32) - (b as i32))
+}
+
 // |a - b| of two pels.
 pub fn abs_diff(a: u8, b: u8) -> u32
     ensures { λ r. ⌜ (r ≡ absDiff a b) × (r ≤ 255) ⌝ }
 {
-    magnitude((a as i32) - (b as i32))
+    gap(a as u32, b as u32)
 }
 
 // |d| is at most w: d lies in -w ..= w.

@@ -26,7 +26,7 @@ fn add_run(
 {
     let mut c: usize = 0;
     while c < columns {
-        part[from + c] = part[from + c] + squares::gap(value, squares::look(sums, low, m, at + c));
+        part[from + c] = part[from + c] + signed::gap(value, squares::look(sums, low, m, at + c));
         c += 1;
     }
 }

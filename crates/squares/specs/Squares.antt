@@ -2,6 +2,7 @@
 -- pel sums." How that is worked out over the summed-area table: the newer block's squares one behind the other, row by row, and each older square
 -- by four look-ups, its place in the table told from the place of the older block's corner.
 --   looked    the sum of the square at a place of the table; Looked: what the four look-ups ask
+--   ownWindow the newer block as a part of its frame; OwnSums: a summed-area table of that part
 --   Cut       the newer block's squares: their sums, and how far from the corner's place each stands
 --   gapAt     the absolute difference at square s
 --   Compared  what working out the differences at all squares asks
@@ -10,8 +11,11 @@ use mathlib.Core.Path.{_≡_}
 use mathlib.Core.List.{List}
 use lib.ListN.{length, getD}
 use Rattle.signed.specs.Values.{absDiff}
-use Rattle.distortion.specs.Blocks.{Block}
+use Rattle.distortion.specs.Blocks.{Block, blockAt}
 use Rattle.pruning.specs.Distance.{squareSum}
+use Rattle.search.specs.declared.Spot.{Spot}
+use Rattle.sums.specs.declared.Window.{Window}
+use Rattle.sums.specs.Area.{SumsOf}
 
 -- the square's lower corner stands `low` places behind its upper one
 unfoldable pub looked : List ℕ → ℕ → ℕ → ℕ → ℕ
@@ -24,6 +28,12 @@ pub record Looked (sums : List ℕ) (low m at : ℕ) : Type 0 where
   pub wider : getD sums (at + low) 0 - getD sums at 0 ≤ getD sums (at + low + m) 0 - getD sums (at + m) 0
   pub value : looked sums low m at ≡ (getD sums (at + low + m) 0 - getD sums (at + m) 0) - (getD sums (at + low) 0 - getD sums at 0)
   pub small : looked sums low m at ≤ 65280
+
+abbrev pub ownWindow : Spot → Window
+ownWindow b = record { top = b .y; left = b .x; rows = b .sizes .n; columns = b .sizes .n }
+
+abbrev pub OwnSums : List ℕ → Spot → List ℕ → Type 0
+OwnSums newer b own = SumsOf (blockAt newer (b .sizes .width) (b .y) (b .x)) (b .sizes .n) (b .sizes .n) own
 
 pub record Cut (a : Block) (m k stride : ℕ) (block steps : List ℕ) : Type 0 where
   pub sums-long : k * k ≤ length block

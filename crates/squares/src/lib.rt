@@ -9,17 +9,9 @@ ghost use Rattle.signed.specs.Values.{absDiff};
 ghost use Rattle.distortion.specs.Blocks.{blockAt};
 ghost use Rattle.pruning.specs.Distance.{squareSum};
 ghost use Rattle.sums.specs.Area.{SumsOf};
-ghost use Rattle.reach.specs.Reach.{Standing};
-ghost use Rattle.squares.specs.Squares.{looked, Looked, Cut, gapAt, Compared};
+ghost use Rattle.squares.specs.Squares.{looked, Looked, ownWindow, OwnSums, Cut, gapAt, Compared};
 use search::Spot;
 use sums::Window;
-
-// |a - b|.
-pub fn gap(a: u32, b: u32) -> u32
-    ensures { λ r. ⌜ r ≡ absDiff a b ⌝ }
-{
-    if a < b { b - a } else { a - b }
-}
 
 // The sum of the square at place `at` of the table, by four look-ups.
 pub fn look(sums: &[u32], low: usize, m: usize, at: usize) -> u32
@@ -84,34 +76,41 @@ fn cut_block(
     }
 }
 
-// The squares of the newer block, by a table of its own.
+// The newer block as a part of its frame.
+pub fn own_window(b: Spot) -> Window
+    ensures { λ r. ⌜ r ≡ ownWindow b ⌝ }
+{
+    let s = b.sizes;
+    let n = s.n;
+    let top = b.y;
+    let left = b.x;
+    Window {
+        top,
+        left,
+        rows: n,
+        columns: n,
+    }
+}
+
+// The squares of the newer block, by its own summed-area table.
 pub fn cut(
     newer: &[u8],
     b: Spot,
+    own: &[u32],
     m: usize,
     k: usize,
     stride: usize,
     block: &mut [u32],
     steps: &mut [usize],
 )
-    requires { ⌜ Standing b × (b .sizes .height * b .sizes .width ≤ length (now newer)) × (b .sizes .n ≤ 16) × (k * m ≡ b .sizes .n) × (stride ≤ 1025) ⌝ }
+    requires { ⌜ OwnSums (now newer) b (now own) × (b .sizes .n ≤ 16) × (k * m ≡ b .sizes .n) × (stride ≤ 1025) ⌝ }
     requires { ⌜ (k * k ≤ length (now block)) × (k * k ≤ length (now steps)) ⌝ }
     ensures { λ _. ⌜ Cut (blockAt (now (newer .entry)) (b .sizes .width) (b .y) (b .x)) m k stride (now (block .exit)) (now (steps .exit)) ⌝ }
 {
     let s = b.sizes;
-    let n = s.n;
     let width = s.width;
-    let top = b.y;
-    let left = b.x;
-    let a = Window {
-        top,
-        left,
-        rows: n,
-        columns: n,
-    };
-    let mut table = [0u32; 289];
-    sums::fill_sums(newer, width, a, &mut table);
-    cut_block(newer, width, a, &table, m, k, stride, block, steps);
+    let a = own_window(b);
+    cut_block(newer, width, a, own, m, k, stride, block, steps);
 }
 
 // The distance of one older block, its corner at place `at` of the table.
@@ -130,7 +129,7 @@ pub fn distance_from(
     let mut sum: u32 = 0;
     let mut s: usize = 0;
     while s < count {
-        sum += gap(block[s], look(sums, low, m, at + steps[s]));
+        sum += signed::gap(block[s], look(sums, low, m, at + steps[s]));
         s += 1;
     }
     sum

@@ -7,24 +7,24 @@ use lib.ListN.{getD}
 use Rattle.distance.specs.Remaining.{Tested}
 use Rattle.squares.proofs.Cuts.{squares-few}
 use Rattle.distance.proofs.Turns.{filled-as}
-use Rattle.distance.proofs.Candidates.{size, standing, narrow, low-small, reached-table, compared-table, number-table}
+use Rattle.distance.proofs.Candidates.{size, narrow, low-small, reached-table, compared-table, number-table}
 use Rattle.distance.proofs.fill_distances.Statement.{statement}
 use Rattle.distance.proofs.fill_distances.Tie as tie
 
 -- ---- the facts of the start, where the newer block is cut
 
 abbrev start : tie.After-cut → tie.Start
-start c = c .before .before .before .before .before .before .before .before .before
+start c = c .before .before .before .before .before .before .before .before .before .before
 
 tested : (c : tie.After-cut) → let a = start c .args in Tested (now (a .older)) (now (a .newer)) (a .b) (now (a .sums)) (a .a) (a .m) (now (a .alive)) (a .count)
 tested c = start c .pre .2
 
 -- a pel is a byte
 olds : (c : tie.After-cut) (k : ℕ) → getD (now (start c .args .older)) k 0 ≤ 255
-olds c k = omega (arith, c .before .before .before .before .before .before .before .before .shared-slice-known .given k)
+olds c k = omega (arith, c .before .before .before .before .before .before .before .before .before .shared-slice-known .given k)
 
 news : (c : tie.After-cut) (k : ℕ) → getD (now (start c .args .newer)) k 0 ≤ 255
-news c k = omega (arith, c .before .before .before .before .before .before .before .shared-slice-known2 .given k)
+news c k = omega (arith, c .before .before .before .before .before .before .before .before .shared-slice-known2 .given k)
 
 div-k : tie.Need-div-k
 div-k c = search needs
@@ -40,11 +40,11 @@ slice-aggregate-cut-2 c = search needs
 
 cut-requires : tie.Need-cut-requires
 cut-requires c κs =
-    let s = c .before .before .before .before .before .before .before .before in
+    let s = c .before .before .before .before .before .before .before .before .before in
     let t = s .pre .2 in
     let sixteen = size _ _ _ _ _ _ _ _ t in
     let few = squares-few (s .args .b .sizes .n / s .args .m) (s .args .m) (t .two) (omega (arith, t .whole, sixteen)) in (
-      (standing _ _ _ _ _ _ _ _ t, omega (arith, t .ready .placed .paired .newer-whole), sixteen, t .whole, narrow _ _ _ _ _ _ _ _ t),
+      (s .pre .3, sixteen, t .whole, narrow _ _ _ _ _ _ _ _ t),
       (few, few),
     )
 
@@ -82,7 +82,7 @@ slice-aggregate-fill-many-2 c = search needs
 fill-many-requires : tie.Need-fill-many-requires
 fill-many-requires c κs =
     let k = c .before .before .before .before .before .before in
-    (start k .pre, (tested k .whole, k .cut .ensures))
+    ((start k .pre .0, start k .pre .1, tested k), (tested k .whole, k .cut .ensures))
 
 returns : tie.Need-returns
 returns c =

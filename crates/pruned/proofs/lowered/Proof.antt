@@ -30,10 +30,14 @@ near : (c : tie.After-distortion-of) (f : ℕ → ℕ) →
 near c f g = rw (← c .before .nearest .ensures .0 f g) (c .distortion-of .ensures .0)
 
 returns : tie.Need-returns
-returns c = (λ z m s d h g. lower-takes _ d m h _ (near (c .before .before) (d m) g) (c .if1 .taken), refl, refl)
+returns c =
+    let n = c .before .before in
+    (λ z m s d h g. lower-takes _ d m h (n .before .before .before .before .pre .1 .1) _ (near n (d m) g) (c .if1 .taken), refl, refl)
 
 returns-2 : tie.Need-returns-2
-returns-2 c = (λ z m s d h g. lower-stays _ d m h _ (near (c .before .before) (d m) g) (c .if1 .left), refl, refl)
+returns-2 c =
+    let n = c .before .before in
+    (λ z m s d h g. lower-stays _ d m h (n .before .before .before .before .pre .1 .1) _ (near n (d m) g) (c .if1 .left), refl, refl)
 
 pub lowered-spec : {M : Type 1} → statement M
 lowered-spec = tie.close (tie.spec nearest-requires distortion-of-requires returns returns-2)

@@ -9,34 +9,66 @@ use lib.ListN.{length}
 use denote.Ref.{now}
 use Rattle.base.specs.Picks.{pick}
 use Rattle.frame.specs.Pictures.{pairOf}
+use Rattle.squares.specs.Squares.{OwnSums}
+use Rattle.sums.specs.Area.{sums-of}
 use Rattle.search.proofs.Exhaustive.{still-passes}
 use Rattle.pruned.specs.Answer.{pruning, chosen, prunedFound}
 use Rattle.distance.specs.Remaining.{distanceOf}
 use Rattle.remaining.specs.Gathered.{passes}
 use Rattle.full.specs.Full.{distortionOf}
-use Rattle.pruned.proofs.Blocks.{divides, two-least, safe-at}
+use Rattle.pruned.proofs.Blocks.{own-fillable, divides, two-least, safe-at}
 use Rattle.remaining.proofs.Listing.{gathered-few, gathered-listed}
 use Rattle.pruned.proofs.Rounds.{Going, going-start, going-some, going-few, going-room, going-divides, going-listed, going-more, going-done}
 use Rattle.pruned.proofs.search.Statement.{statement}
 use Rattle.pruned.proofs.search.Tie as tie
 
 abbrev Inv-loop : tie.InvT-loop
-Inv-loop older newer order b sums a alive₀ dist₀ n total r₀ m₀ alive dist r m =
+Inv-loop older newer order b sums a alive₀ dist₀ n own total r₀ m₀ alive dist r m =
     Going (distortionOf older newer b) (distanceOf older newer b) (b .sizes .n) (passes b) m alive dist r × (length (pick (passes b) 1089) ≡ total)
 
 abbrev μ-loop : tie.MeasureT-loop
-μ-loop older newer order b sums a alive₀ dist₀ n total r₀ m₀ alive dist r m = m
+μ-loop older newer order b sums a alive₀ dist₀ n own total r₀ m₀ alive dist r m = m
+
+-- ---- the newer block's own table
+
+own-window-requires : tie.Need-own-window-requires Inv-loop μ-loop
+own-window-requires c κs = search needs
+
+slice-aggregate-fill-sums : tie.Need-slice-aggregate-fill-sums Inv-loop μ-loop
+slice-aggregate-fill-sums c = search needs
+
+fill-sums-requires : tie.Need-fill-sums-requires Inv-loop μ-loop
+fill-sums-requires c κs = rw (c .before .own-window .ensures) (own-fillable _ _ _ (c .before .before .before .before .before .before .pre .0 .ready))
+
+abbrev start : tie.After-fill-sums Inv-loop μ-loop → tie.Start Inv-loop μ-loop
+start c = c .before .before .before .before .before .before .before
+
+-- where the table is filled, from where the loop begins
+abbrev tabled : tie.At-loop Inv-loop μ-loop → tie.After-fill-sums Inv-loop μ-loop
+tabled c = c .before .before .before .before .before .before .before .before .before .before .before .before
+
+own-sums : (c : tie.After-fill-sums Inv-loop μ-loop) →
+    let a = start c .args in
+    OwnSums (now (a .newer)) (a .b) (c .fill-sums .last .1 .1 .1 .0)
+own-sums c = sums-of _ _ _ _ _ (rw (c .before .before .own-window .ensures) at (c .fill-sums .ensures))
+
+-- ---- the steps
 
 gather-requires : tie.Need-gather-requires Inv-loop μ-loop
 gather-requires c κs = search needs
 
 begin-requires : tie.Need-begin-requires Inv-loop μ-loop
-begin-requires c κs = (c .before .before .before .before .before .before .pre .0 .ready, c .before .before .before .before .before .before .pre .1)
+begin-requires c κs = let s = c .before .before .before .before .before .before .before .before .before .before in (s .pre .0 .ready, s .pre .1)
+
+slice-aggregate-fill-distances : tie.Need-slice-aggregate-fill-distances Inv-loop μ-loop
+slice-aggregate-fill-distances c = search needs
 
 fill-distances-requires : tie.Need-fill-distances-requires Inv-loop μ-loop
 fill-distances-requires c κs =
-    let l = c .before .before .before .before .before .before .before .before .before .pre .0 in (
-      c .before .before .before .before .before .before .before .before .before .pre .1,
+    let o = c .before .before .before .before .before .before .before in
+    let s = start o in
+    let l = s .pre .0 in (
+      s .pre .1,
       refl,
       record {
         ready = l .ready;
@@ -44,35 +76,42 @@ fill-distances-requires c κs =
         two = two-least _ (l .ready .placed .paired .allowed);
         covers = l .covers;
         table = l .table;
-        listed = gathered-listed (c .before .before .before .gather .ensures);
+        listed = gathered-listed (c .before .before .before .before .gather .ensures);
       },
+      own-sums o,
     )
 
 sifted-requires : tie.Need-sifted-requires Inv-loop μ-loop
 sifted-requires c κs =
-    let a = c .before .before .before .before .before .before .gather .ensures in
-    let f = c .before .before .before .before .before .begin .ensures in
+    let a = c .before .before .before .before .before .before .before .gather .ensures in
+    let f = c .before .before .before .before .before .before .begin .ensures in
     (a .long, omega (arith, gathered-few a, f .count), omega (arith, f .slot))
 
 loop-holds : tie.Need-loop-holds Inv-loop μ-loop
 loop-holds c =
-    let s = c .before .before .before .before .before .before .before .before .before .before .before .before .before in
-    let a = c .before .before .before .before .before .before .before .gather .ensures in
-    let f = c .before .before .before .before .before .before .begin .ensures in
+    let s = start (c .before .before .before .before .before .before .before .before .before .before .before) in
+    let a = c .before .before .before .before .before .before .before .before .gather .ensures in
+    let f = c .before .before .before .before .before .before .before .begin .ensures in
     let d = c .before .before .before .fill-distances .ensures in
     let r = s .pre .0 .ready in
     let p = pairOf (now (s .args .older)) (now (s .args .newer)) (s .args .b .sizes) in (
-      going-start _ _ _ (still-passes p _ _ _ (r .window) (r .placed .down) (r .placed .across)) a f _ (λ h. c .sifted .ensures _ _ _ _ h (rw (f .count) d)) (d .long) (safe-at p _ _ _ (dvd-refl _))
+      going-start _ _ _ (still-passes p _ _ _ (r .window) (r .placed .down) (r .placed .across)) a f _
+          (λ h e. c .sifted .ensures _ _ _ _ h e (rw (f .count) d)) (d .long) (safe-at p _ _ _ (dvd-refl _))
           (λ i k. divides _ (r .placed .paired .allowed) i (List·Memᴰ·tail k)),
       a .many,
     )
 
+slice-aggregate-level : tie.Need-slice-aggregate-level Inv-loop μ-loop
+slice-aggregate-level c = search needs
+
 level-requires : tie.Need-level-requires Inv-loop μ-loop
 level-requires c κs =
-    let g = c .before .before .before .loop .inv .0 in
-    let h : 2 ≤ c .before .before .before .loop .m = omega (arith, c .before .before .loop-test .taken) in
-    let l = c .before .before .before .before .before .before .before .before .before .before .before .before .before .before .before .before .before .pre .0 in (
-      c .before .before .before .before .before .before .before .before .before .before .before .before .before .before .before .before .before .pre .1,
+    let i = c .before .before .before .before in
+    let g = i .loop .inv .0 in
+    let h : 2 ≤ i .loop .m = omega (arith, c .before .before .before .loop-test .taken) in
+    let s = start (tabled i) in
+    let l = s .pre .0 in (
+      s .pre .1,
       g .wide,
       record {
         ready = l .ready;
@@ -82,6 +121,7 @@ level-requires c κs =
         table = l .table;
         listed = going-listed g;
       },
+      own-sums (tabled i),
       going-some g,
       omega (arith, going-room g h),
     )
@@ -91,15 +131,20 @@ loop-less c = omega arith
 
 loop-again : tie.Need-loop-again Inv-loop μ-loop
 loop-again c =
-    let l = c .before .before .before .before .loop .inv in
-    let s = c .before .before .before .before .before .before .before .before .before .before .before .before .before .before .before .before .before .before in
-    (going-more (l .0) _ _ _ (safe-at (pairOf (now (s .args .older)) (now (s .args .newer)) (s .args .b .sizes)) _ _) (omega (arith, c .before .before .before .loop-test .taken)) (c .level .ensures .0 .step) (c .level .ensures .1), l .1)
+    let i = c .before .before .before .before .before in
+    let l = i .loop .inv in
+    let s = start (tabled i) in (
+      going-more (l .0) _ _ _ (safe-at (pairOf (now (s .args .older)) (now (s .args .newer)) (s .args .b .sizes)) _ _)
+          (omega (arith, c .before .before .before .before .loop-test .taken)) (c .level .ensures .0 .step) (c .level .ensures .1),
+      l .1,
+    )
 
 finish-requires : tie.Need-finish-requires Inv-loop μ-loop
 finish-requires c κs =
-    let l = c .before .before .loop .inv in
-    let few = gathered-few (c .before .before .before .before .before .before .before .before .before .before .gather .ensures) in
-    let s = c .before .before .before .before .before .before .before .before .before .before .before .before .before .before .before .before in
+    let i = c .before .before in
+    let l = i .loop .inv in
+    let few = gathered-few (i .before .before .before .before .before .before .before .before .before .gather .ensures) in
+    let s = start (tabled i) in
     ((s .pre .0 .ready, s .pre .1), (going-listed (l .0), going-some (l .0), omega (arith, l .0 .slots), omega (arith, going-few (l .0), l .1), few))
 
 returns : tie.Need-returns Inv-loop μ-loop
@@ -114,11 +159,16 @@ search-spec =
     (tie.spec
     Inv-loop
     μ-loop
+    own-window-requires
+    slice-aggregate-fill-sums
+    fill-sums-requires
     gather-requires
     begin-requires
+    slice-aggregate-fill-distances
     fill-distances-requires
     sifted-requires
     loop-holds
+    slice-aggregate-level
     level-requires
     loop-less
     loop-again
