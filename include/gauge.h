@@ -9,8 +9,9 @@
  * numbers, and filled. A pointer must not be null, not even where the length is 0, and list and table share no byte with each other
  * or with a frame.
  *
- * An answer is a struct by value whose first member is `refusal`: 0 where the call is accepted, else the number of the first
- * rule that the input breaks, in the order given at the call. All other members of a refused answer are 0.
+ * An answer is a struct by value that begins with `refusal`: 0 where the call is accepted, else the number of the first rule that
+ * the input or the track breaks, in the order given at the call. All else in a refused answer is 0, but for a track, which is handed
+ * back as it was.
  *
  *     1  width or height not 4 to 1,024
  *     2  a frame whose length is not width x height

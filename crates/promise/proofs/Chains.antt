@@ -12,7 +12,6 @@ use Rattle.base.specs.Tests.{T-true}
 use Rattle.frame.specs.Pictures.{Pair}
 use Rattle.frame.specs.Refusals.{unless, first, first-zero, searchOk, windowOk, thresholdOk, pairRefusal, requestRefusal, Paired, paired, window-small}
 use Rattle.frame.specs.Refusals as refusals
-use Rattle.block.specs.Block.{searchRefusal}
 use Rattle.field.specs.Field.{asked, listSize, fieldRefusal}
 
 -- ---- the refusals of a step that come before the field is filled, and the one after
@@ -40,9 +39,6 @@ module _ (p : Pair) where
 
   abbrev pub requestChain : (s w t : ℕ) → ℕ
   requestChain s w t = requestRefusal (length (p .older)) (length (p .newer)) (asked (p .sizes) s w t)
-
-  abbrev pub blockChain : (s w t y x : ℕ) → ℕ
-  blockChain s w t y x = searchRefusal (length (p .older)) (length (p .newer)) (asked (p .sizes) s w t) y x
 
   abbrev pub fieldChain : (s w t list table : ℕ) → ℕ
   fieldChain s w t list table = fieldRefusal (length (p .older)) (length (p .newer)) (asked (p .sizes) s w t) list table

@@ -141,10 +141,6 @@ pub bias-unbias : (b u : ℕ) → bias b (unbias b u) ≡ u
 unfolding bias unbias
 bias-unbias b u = omega (arith, added (pos u -ℤ pos b) (pos b), less (pos u) (pos b))
 
-pub unbias-bias : (b : ℕ) (d : ℤ) → natAbs d ≤ b → unbias b (bias b d) ≡ d
-unfolding bias unbias
-unbias-bias b d h = same _ d (omega (arith, added d (pos b), less (pos (up (d +ℤ pos b))) (pos b)))
-
 pub bias-is : (b : ℕ) (d : ℤ) → natAbs d ≤ b → bias b d + dn d ≡ b + up d
 unfolding bias
 bias-is b d h = omega (arith, added d (pos b))
