@@ -1,42 +1,24 @@
 -- A block's squares one behind the other, and what the look-ups at each of them give: where the older block lies in the part whose table this
 -- is, the differences at all squares add up to the distance.
 use Prim.Native.Nat.{ℕ, zero, suc, _+_, _*_, _/_, _%_, _≤_, _<_}
-use mathlib.Core.Path.{_≡_, refl, ap, ap₂, subst, _∙_}
-use mathlib.Core.List.{List, _++_}
+use mathlib.Core.Path.{_≡_, refl, ap₂, subst, _∙_}
+use mathlib.Core.List.{List}
 use native.Mathlib.Nat.{add-assoc, add-mul, zero-mul, mul-comm, mul-le-mul, le-refl, mod-lt, div-add-mod, div-lt-iff-lt-mul, mul-div-cancel}
 use native.Mathlib.Omega.{arith}
-use lib.ListN.{length, getD, drop}
+use lib.ListN.{getD}
 use Rattle.base.specs.Sum.{sumTo, sumTo-group, sumOver-ext, sumOver-bound}
-use Rattle.base.specs.Index.{row-next, row-fits}
-use Rattle.base.specs.Lists.{listTo, concatTo, fillTo, length-listTo, concatTo-more, length-concatTo, length-fill, fill-join}
+use Rattle.base.specs.Index.{row-fits}
+use Rattle.base.specs.Rows.{Rowed}
 use Rattle.distortion.specs.Blocks.{Block, absolute}
 use Rattle.pruning.specs.Distance.{squareSum, distanceBy}
 use Rattle.sums.specs.Area.{SumsOf, rows-at}
 use Rattle.sums.specs.Square.{squareAt, Square, squared}
 use Rattle.squares.specs.Squares.{looked, Looked, Cut, gapAt, Compared}
 
--- ---- a list filled row by row: p rows of k are filled, as f says
+-- ---- a list filled row by row
 
-pub record Rowed (f : ℕ → ℕ → ℕ) (k : ℕ) (before list : List ℕ) (p : ℕ) : Type 0 where
-  pub long : length list ≡ length before
-  pub filled : list ≡ concatTo (λ i. listTo (f i) k) p ++ drop (p * k) before
-
-module _ (f : ℕ → ℕ → ℕ) (k : ℕ) (before : List ℕ) where
-  pub rowed-none : Rowed f k before before 0
-  unfolding concatTo
-  rowed-none = record { long = refl; filled = rw zero-mul }
-
-  pub rowed-step : (list next : List ℕ) (p from : ℕ) → Rowed f k before list p → from ≡ p * k → from + k ≤ length list → next ≡ fillTo list from (f p) k → Rowed f k before next (p + 1)
-  rowed-step list next p from g e room h = record {
-    long = rw h (length-fill list from (f p) k room ∙ g .long);
-    filled =
-        rw (h, e)
-        (ap (λ (t : List ℕ). fillTo t (p * k) (f p) k) (g .filled)
-        ∙ rw (fill-join (concatTo (λ i. listTo (f i) k) p) before (p * k) k (f p) (length-concatTo _ k (λ i. length-listTo _ k) p), concatTo-more _ p, row-next p k));
-  }
-
-  pub rowed-at : (list : List ℕ) (n : ℕ) → Rowed f k before list n → (p q : ℕ) → p < n → q < k → getD list (p * k + q) 0 ≡ f p q
-  rowed-at list n g p q hp hq = rw (g .filled) (rows-at f k n p q _ hp hq)
+pub rowed-at : (f : ℕ → ℕ → ℕ) (k : ℕ) (before list : List ℕ) (n : ℕ) → Rowed f k before list n → (p q : ℕ) → p < n → q < k → getD list (p * k + q) 0 ≡ f p q
+rowed-at f k before list n g p q hp hq = rw (g .filled) (rows-at f k n p q _ hp hq)
 
 -- what holds at each place of k rows of k holds at each number below k * k
 by-rows : (P : ℕ → Type 0) (k : ℕ) → ((p q : ℕ) → p < k → q < k → P (p * k + q)) → (s : ℕ) → s < k * k → P s

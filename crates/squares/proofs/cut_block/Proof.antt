@@ -8,7 +8,8 @@ use lib.ListN.{length}
 use Rattle.base.specs.Index.{row-next, row-fits}
 use Rattle.distortion.specs.Blocks.{blockAt}
 use Rattle.pruning.specs.Distance.{squareSum}
-use Rattle.squares.proofs.Cuts.{Rowed, rowed-none, rowed-step, rowed-at}
+use Rattle.base.specs.Rows.{Rowed, rowed-none, rowed-step}
+use Rattle.squares.proofs.Cuts.{rowed-at}
 use Rattle.squares.proofs.cut_block.Statement.{statement}
 use Rattle.squares.proofs.cut_block.Tie as tie
 
