@@ -11,7 +11,7 @@ use lib.IntN.{ℤ, pos}
 use lib.Seq.{sets-eq, take-at}
 use lib.ListN.{length, getD, set, take, drop, replicate, length-set}
 use Rattle.base.specs.Sum.{sumTo, sumTo-bound}
-use Rattle.base.specs.Lists.{concatTo, concatTo-more, length-concatTo, drop-over}
+use Rattle.base.specs.Lists.{concatTo, concatTo-more, drop-over}
 use Rattle.frame.specs.declared.Request.{Request}
 use Rattle.frame.specs.Pictures.{Pair}
 use Rattle.frame.specs.Grid.{blocks}
@@ -23,6 +23,7 @@ use Rattle.reading.specs.Tally.{code}
 use Rattle.reading.proofs.Tally.{tally-none, tally-more}
 use Rattle.field.specs.declared.Total.{Total}
 use Rattle.field.specs.Field.{blockOf, vectorOf, entry, entries, fieldAnswer}
+use Rattle.field.proofs.Places.{length-entries}
 use Rattle.field.specs.Filling.{Sound, asTotal, totalOver, joined, Few, Filled}
 
 pub filled-none : (found : ℕ → Found) (list : List ℤ) (votes : List ℕ) → votes ≡ replicate 1089 0 → Filled found 0 list list votes (asTotal (0 ∷ 0 ∷ 0 ∷ 0 ∷ 0 ∷ []) 0)
@@ -66,7 +67,7 @@ module _ (found : ℕ → Found) (n : ℕ) (before after : List ℤ) (votes : Li
       let e : 3 * n + 1 ≡ suc (3 * n) = omega arith in
       let e′ : 3 * n + 2 ≡ suc (suc (3 * n)) = omega arith in
       let next : 3 * (n + 1) ≡ 3 * n + 3 = omega arith in
-      let made : length (entries found n) ≡ 3 * n = omega (arith, length-concatTo (λ k. entry (found k)) 3 (λ i. refl) n) in
+      let made = length-entries found n in
       rw (e, e′, next)
       (sets-eq (entry (found n)) after (3 * n) (omega (arith, f .long))
       ∙ ap (λ (l : List ℤ). take (3 * n) l ++ entry (found n) ++ drop (3 * n + 3) l) (f .list)

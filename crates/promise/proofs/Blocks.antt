@@ -1,16 +1,14 @@
 -- Search 2 on a pair that an accepted step has, block by block and over the grid: at a block that stands wholly inside it finds the exhaustive best and counts
 -- what it drops and measures, and every grid block stands so.
-use Prim.Native.Nat.{ℕ, _+_, _*_, _≤_, _<_}
+use Prim.Native.Nat.{ℕ, _+_, _≤_, _<_}
 use mathlib.Core.Path.{_≡_, refl, sym, ap, ap₂, _∙_}
 use mathlib.Core.List.{List, [], _∷_, _++_}
 use native.Mathlib.Omega.{arith}
 use lib.Dec.{T, le→leb, lt→ltb}
 use lib.IntN.{ℤ, pos}
 use lib.Signed.{_≤ℤ_, _<ℤ_, leZ-yes, ltZ-yes}
-use lib.ListN.{List·getD-append}
-use Rattle.base.specs.Index.{row-fits}
 use Rattle.base.specs.Sum.{sumTo-ext, sumTo-add}
-use Rattle.base.specs.Lists.{concatTo-ext, concatTo, length-concatTo, getD-concatTo}
+use Rattle.base.specs.Lists.{concatTo-ext}
 use Rattle.order.specs.declared.Vector.{Vector}
 use Rattle.order.specs.Vectors.{Within}
 use Rattle.frame.specs.Pictures.{Pair, Fitting}
@@ -26,24 +24,17 @@ use Rattle.probe.proofs.Probe.{within-more}
 use Rattle.pruned.specs.Answer.{prunedFound}
 use Rattle.pruned.proofs.Laws.{pruned-distortion, pruned-adds, pruned-is-best}
 use Rattle.block.specs.Block.{search-fine, block-accepted, searched-pruned}
-use Rattle.field.specs.Field.{asked, entries, entry, blockOf, vectorOf, droppedOver, countOver}
+use Rattle.field.specs.Field.{asked, entries, blockOf, vectorOf, droppedOver, countOver}
+use Rattle.field.proofs.Places.{entry-at}
 use Rattle.reading.specs.Reading.{majority}
 use Rattle.reading.proofs.Majority.{majority-ext}
 use Rattle.promise.specs.Demand.{bestOf, bestEntries, EachBlock, EachPlace, EachGridPlace, overGrid, reported, number, isDropped, isMeasured, single}
 use Rattle.promise.proofs.Chains.{requestChain, Fine, fine-paired, request-any}
 use Rattle.promise.proofs.Counting.{dropped-number, measured-number, dropped-worse}
 
--- ---- lists of entries
-
 -- the distortion listed for block k
 pub entries-third : (found : ℕ → Found) (n k : ℕ) (rest : List ℤ) → k < n → reported (entries found n ++ rest) k ≡ pos (found k .distortion)
-unfolding entries
-entries-third found n k rest h =
-    let e : 3 * k + 2 ≡ k * 3 + 2 = omega arith in
-    rw e
-    (List·getD-append (concatTo (λ k. entry (found k)) n) rest (pos 0) (k * 3 + 2)
-    (omega (arith, row-fits k n 3 h, length-concatTo (λ k. entry (found k)) 3 (λ i. refl) n))
-    ∙ getD-concatTo (λ k. entry (found k)) 3 (λ i. refl) n k 2 (pos 0) h (omega arith))
+entries-third found n k rest h = entry-at found n rest k 2 h (omega arith)
 
 pub at-most : {a b : ℕ} → a ≤ b → pos a ≤ℤ pos b
 at-most {a} {b} h = leZ-yes (le→leb a b h)
