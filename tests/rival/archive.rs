@@ -49,23 +49,15 @@ struct GaugeFieldAnswer {
 }
 
 #[repr(C)]
-struct GaugeTrack {
-    homed: bool,
-    y: i32,
-    x: i32,
-    steps: u32,
-}
-
-#[repr(C)]
 struct GaugeHomed {
     refusal: u32,
-    track: GaugeTrack,
+    track: Track,
 }
 
 #[repr(C)]
 struct GaugeStepped {
     answer: GaugeFieldAnswer,
-    track: GaugeTrack,
+    track: Track,
 }
 
 extern "C" {
@@ -118,12 +110,12 @@ extern "C" {
         table_length: usize,
     ) -> GaugeFieldAnswer;
 
-    fn gauge_track_new() -> GaugeTrack;
+    fn gauge_track_new() -> Track;
 
-    fn gauge_home(track: GaugeTrack, y: i32, x: i32) -> GaugeHomed;
+    fn gauge_home(track: Track, y: i32, x: i32) -> GaugeHomed;
 
     fn gauge_step(
-        track: GaugeTrack,
+        track: Track,
         older: *const u8,
         older_length: usize,
         newer: *const u8,
@@ -136,16 +128,21 @@ extern "C" {
     ) -> GaugeStepped;
 }
 
-/// The single-block search.
-pub fn search_block(pair: &Pair, request: &Request) -> Answer {
-    let asked = GaugeRequest {
+/// A request as the header has it.
+fn gauge_request(pair: &Pair, n: usize, search: u32, w: usize, t: u32) -> GaugeRequest {
+    GaugeRequest {
         width: pair.width,
         height: pair.height,
-        n: request.n,
-        search: request.search,
-        w: request.w,
-        t: request.t,
-    };
+        n,
+        search,
+        w,
+        t,
+    }
+}
+
+/// The single-block search.
+pub fn search_block(pair: &Pair, request: &Request) -> Answer {
+    let asked = gauge_request(pair, request.n, request.search, request.w, request.t);
     // The pointers are never null and each stands with its slice's own length, which is all that the header asks.
     let found = unsafe {
         gauge_search_block(
@@ -216,18 +213,6 @@ pub fn row_view(pair: &Pair, asked: &Viewing) -> Viewed {
     }
 }
 
-/// A field's request as the header has it.
-fn field_request(pair: &Pair, request: &FieldRequest) -> GaugeRequest {
-    GaugeRequest {
-        width: pair.width,
-        height: pair.height,
-        n: request.n,
-        search: request.search,
-        w: request.w,
-        t: request.t,
-    }
-}
-
 fn field_answer(answer: GaugeFieldAnswer) -> FieldAnswer {
     FieldAnswer {
         refusal: answer.refusal as i64,
@@ -236,24 +221,6 @@ fn field_answer(answer: GaugeFieldAnswer) -> FieldAnswer {
         votes: answer.votes as i64,
         counts: answer.counts.map(|count| count as i64),
         dropped: answer.dropped as i64,
-    }
-}
-
-fn gauge_track(track: Track) -> GaugeTrack {
-    GaugeTrack {
-        homed: track.homed,
-        y: track.y,
-        x: track.x,
-        steps: track.steps,
-    }
-}
-
-fn track_of(track: GaugeTrack) -> Track {
-    Track {
-        homed: track.homed,
-        y: track.y,
-        x: track.x,
-        steps: track.steps,
     }
 }
 
@@ -267,7 +234,7 @@ pub fn field(pair: &Pair, request: &FieldRequest, lent: &mut Lent) -> FieldAnswe
             pair.older.len(),
             pair.newer.as_ptr(),
             pair.newer.len(),
-            field_request(pair, request),
+            gauge_request(pair, request.n, request.search, request.w, request.t),
             lent.list.as_mut_ptr(),
             lent.list_length,
             lent.table.as_mut_ptr(),
@@ -280,14 +247,14 @@ pub fn field(pair: &Pair, request: &FieldRequest, lent: &mut Lent) -> FieldAnswe
 /// A new track.
 pub fn new_track() -> Track {
     // It takes nothing.
-    track_of(unsafe { gauge_track_new() })
+    unsafe { gauge_track_new() }
 }
 
 /// Home: the refusal and the track.
 pub fn home(track: Track, y: i32, x: i32) -> (i64, Track) {
     // It takes plain values.
-    let homed = unsafe { gauge_home(gauge_track(track), y, x) };
-    (homed.refusal as i64, track_of(homed.track))
+    let homed = unsafe { gauge_home(track, y, x) };
+    (homed.refusal as i64, homed.track)
 }
 
 /// Step: the answer and the track.
@@ -301,17 +268,17 @@ pub fn step(
     assert!(lent.list_length <= lent.list.len() && lent.table_length <= lent.table.len());
     let stepped = unsafe {
         gauge_step(
-            gauge_track(track),
+            track,
             pair.older.as_ptr(),
             pair.older.len(),
             pair.newer.as_ptr(),
             pair.newer.len(),
-            field_request(pair, request),
+            gauge_request(pair, request.n, request.search, request.w, request.t),
             lent.list.as_mut_ptr(),
             lent.list_length,
             lent.table.as_mut_ptr(),
             lent.table_length,
         )
     };
-    (field_answer(stepped.answer), track_of(stepped.track))
+    (field_answer(stepped.answer), stepped.track)
 }

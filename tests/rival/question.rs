@@ -83,8 +83,9 @@ pub struct FieldAnswer {
     pub dropped: i64,
 }
 
-/// "The track holds homed or not, y, x and steps."
+/// "The track holds homed or not, y, x and steps." Laid out as the header's gauge_track.
 #[derive(Clone, Copy, PartialEq, Eq, Debug)]
+#[repr(C)]
 pub struct Track {
     pub homed: bool,
     pub y: i32,
