@@ -1,0 +1,24 @@
+-- `standing`: the head's rules first, then the grid.
+use mathlib.Core.Path.{sym, _∙_}
+use borrow.Author.Needs.{needs}
+use borrow.Author.Tests.{ne-eqb, eq-eqb}
+use Rattle.log.specs.Step.{standingOk}
+use Rattle.log.proofs.standing.Statement.{statement}
+use Rattle.log.proofs.standing.Tie as tie
+
+head-refusal-requires : tie.Need-head-refusal-requires
+head-refusal-requires c κs = search needs
+
+returns : tie.Need-returns
+unfolding standingOk
+returns c = rw (← (c .before .head-refusal .ensures), ne-eqb _ 0 (c .if1 .taken))
+
+grid-requires : tie.Need-grid-requires
+grid-requires c κs = sym (c .before .head-refusal .ensures) ∙ c .if1 .left
+
+returns-2 : tie.Need-returns-2
+unfolding standingOk
+returns-2 c = let d = c .before in rw (← (d .before .head-refusal .ensures), eq-eqb _ 0 (d .if1 .left), ← (c .grid .ensures .0))
+
+pub standing-spec : {M : Type 1} → statement M
+standing-spec = tie.close (tie.spec head-refusal-requires returns grid-requires returns-2)

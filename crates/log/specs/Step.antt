@@ -1,0 +1,188 @@
+-- 01, "Log": "A walker over a lent log hands out one command a call." One call, from any cursor: the command, and the cursor after it.
+-- Refusals 13 to 18: "14 command unknown or not due (due are: a head first and only there, then blocks until the grid is full, then the end); 13 bytes
+-- end before the command is complete; 15 head that 1, 3, 4 or 5 would turn away; 16 block vector no candidate, distortion below 0 or over 255 × N², or a
+-- still block as command 2; 17 end with another number; 18 bytes after the end. First offset wins; at one command 14, then 13, then the rest. The
+-- place is the command's offset (the log's length if none begins, the first extra byte for 18)."
+--   turnedAway, handedOut   a refusal; a command, and where the walker then stands
+--   judged       "at one command 14, then 13, then the rest"
+--   headAt, blockAt, stillAt, endAt   a command of that kind at an offset, in any phase
+--   byCommand    "The command byte decides"
+--   stepAt       one call of the walker, 34 included
+--   startCursor  where a walk begins
+use Prim.Native.Nat.{ℕ, _+_, _≤_, _<_}
+use mathlib.Core.Path.{_≡_}
+use mathlib.Core.List.{List}
+use mathlib.Core.Bool.{Bool, true, false, cond, not, _&&_}
+use lib.ListN.{length, getD}
+use lib.Dec.{leb, ltb, eqb, leb→le, eqb→eq}
+use borrow.Author.Tests.{le-leb, lt-leb, eq-eqb, ne-eqb}
+use Rattle.base.specs.Tests.{and-left, and-right, true-T}
+use lib.IntN.{ℤ, pos}
+use Rattle.signed.specs.Values.{signedByte}
+use Rattle.log.specs.declared.Head.{Head}
+use Rattle.log.specs.declared.Phase.{Phase}
+use Rattle.log.specs.declared.Phase.the-variants.{Start, Body, Ended, Over}
+use Rattle.log.specs.declared.Cursor.{Cursor}
+use Rattle.log.specs.declared.Command.{Command}
+use Rattle.log.specs.declared.Command.the-variants as Cmd
+use Rattle.log.specs.declared.Stepped.{Stepped}
+use Rattle.log.specs.Numbers.{be2, be4}
+use Rattle.log.specs.Heads.{headRefusal, headOk, gridOf, entryOk, isStill}
+
+-- refused with a number and a place; the walker keeps its place and is over
+abbrev pub turnedAway : ℕ → ℕ → ℕ → Stepped
+turnedAway at number place = record { command = Cmd.Refused number place; next = record { at = at; phase = Over } }
+
+abbrev pub handedOut : Command → ℕ → Phase → Stepped
+handedOut command next phase = record { command = command; next = record { at = next; phase = phase } }
+
+-- a command at `at` that is due or not, of so many bytes, and what is to be said once it is due and whole
+unfoldable pub judged : Bool → ℕ → List ℕ → ℕ → Stepped → Stepped
+judged due size log at rest = cond due (cond (leb (at + size) (length log)) rest (turnedAway at 13 at)) (turnedAway at 14 at)
+
+-- ---- the four commands
+
+-- the numbers of a head command at `at`
+unfoldable pub headIn : List ℕ → ℕ → Head
+headIn log at =
+    record { width = be2 log (at + 1); height = be2 log (at + 3); n = getD log (at + 5) 0; w = getD log (at + 6) 0; search = getD log (at + 7) 0 }
+
+-- a head: 8 bytes, due at the start
+unfoldable pub headTaken : List ℕ → ℕ → Stepped
+headTaken log at = let h = headIn log at in cond (headOk h) (handedOut (Cmd.Head h) (at + 8) (Body h 0)) (turnedAway at 15 at)
+
+abbrev pub headAt : List ℕ → ℕ → Phase → Stepped
+headAt log at Start = judged true 8 log at (headTaken log at)
+headAt log at (Body h k) = turnedAway at 14 at
+headAt log at Ended = turnedAway at 14 at
+headAt log at Over = turnedAway at 14 at
+
+-- a block: 5 bytes, due until the grid is full
+unfoldable pub blockTaken : List ℕ → ℕ → Head → ℕ → Stepped
+blockTaken log at h k =
+    let dy = signedByte (getD log (at + 1) 0) in
+    let dx = signedByte (getD log (at + 2) 0) in
+    let distortion = be2 log (at + 3) in
+    cond (entryOk h k dy dx (pos distortion) && not (isStill dy dx (pos distortion)))
+    (handedOut (Cmd.Block dy dx distortion) (at + 5) (Body h (k + 1)))
+    (turnedAway at 16 at)
+
+abbrev pub blockAt : List ℕ → ℕ → Phase → Stepped
+blockAt log at Start = turnedAway at 14 at
+blockAt log at (Body h k) = judged (ltb k (gridOf h)) 5 log at (blockTaken log at h k)
+blockAt log at Ended = turnedAway at 14 at
+blockAt log at Over = turnedAway at 14 at
+
+-- a still block: 1 byte, due as a block is
+abbrev pub stillAt : List ℕ → ℕ → Phase → Stepped
+stillAt log at Start = turnedAway at 14 at
+stillAt log at (Body h k) = judged (ltb k (gridOf h)) 1 log at (handedOut Cmd.Still (at + 1) (Body h (k + 1)))
+stillAt log at Ended = turnedAway at 14 at
+stillAt log at Over = turnedAway at 14 at
+
+-- the end: 5 bytes, due once the grid is full, with the number of its blocks
+unfoldable pub endTaken : List ℕ → ℕ → Head → Stepped
+endTaken log at h = cond (eqb (be4 log (at + 1)) (gridOf h)) (handedOut (Cmd.End (gridOf h)) (at + 5) Ended) (turnedAway at 17 at)
+
+abbrev pub endAt : List ℕ → ℕ → Phase → Stepped
+endAt log at Start = turnedAway at 14 at
+endAt log at (Body h k) = judged (leb (gridOf h) k) 5 log at (endTaken log at h)
+endAt log at Ended = turnedAway at 14 at
+endAt log at Over = turnedAway at 14 at
+
+-- ---- one call
+
+-- "The command byte decides: 1 head, 2 block, 3 still block, 4 end; 0 and 5 to 255 are unknown."
+unfoldable pub byCommand : ℕ → List ℕ → ℕ → Phase → Stepped
+byCommand command log at phase =
+    cond (eqb command 1) (headAt log at phase)
+    (cond (eqb command 2) (blockAt log at phase)
+    (cond (eqb command 3) (stillAt log at phase)
+    (cond (eqb command 4) (endAt log at phase) (turnedAway at 14 at))))
+
+-- 13 at the log's length if no command begins
+unfoldable pub commandAt : List ℕ → ℕ → Phase → Stepped
+commandAt log at phase = cond (leb (length log) at) (turnedAway at 13 at) (byCommand (getD log at 0) log at phase)
+
+-- "The call after the end command answers 18 if bytes follow it, else 34."
+abbrev pub afterEnd : List ℕ → ℕ → Stepped
+afterEnd log at = cond (ltb at (length log)) (turnedAway at 18 at) (turnedAway at 34 0)
+
+-- head numbers that 15 lets pass, and no more blocks than the grid has
+unfoldable pub standingOk : Head → ℕ → Bool
+standingOk h k = headOk h && leb k (gridOf h)
+
+abbrev pub phaseOk : Phase → Bool
+phaseOk Start = true
+phaseOk (Body h k) = standingOk h k
+phaseOk Ended = true
+phaseOk Over = true
+
+abbrev pub byPhase : List ℕ → ℕ → Phase → Stepped
+byPhase log at Start = commandAt log at Start
+byPhase log at (Body h k) = cond (standingOk h k) (commandAt log at (Body h k)) (turnedAway at 34 0)
+byPhase log at Ended = afterEnd log at
+byPhase log at Over = turnedAway at 34 0
+
+-- "34 walker called after a refusal, or after its end with no byte left, or one built by hand whose place is past the log, whose head numbers (once a
+-- head is read) 15 would turn away, or whose blocks exceed the grid; place 0"
+unfoldable pub stepAt : List ℕ → Cursor → Stepped
+stepAt log c = cond (ltb (length log) (c .at)) (turnedAway (c .at) 34 0) (byPhase log (c .at) (c .phase))
+
+abbrev pub startCursor : Cursor
+startCursor = record { at = 0; phase = Start }
+
+-- ---- laws
+
+module _ (size : ℕ) (log : List ℕ) (at : ℕ) (rest : Stepped) where
+  pub judged-not : (due : Bool) → due ≡ false → judged due size log at rest ≡ turnedAway at 14 at
+  unfolding judged
+  judged-not due e = rw e
+
+  pub judged-short : (due : Bool) → due ≡ true → length log < at + size → judged due size log at rest ≡ turnedAway at 13 at
+  unfolding judged
+  judged-short due e h = rw (e, lt-leb (at + size) (length log) h)
+
+  pub judged-whole : (due : Bool) → due ≡ true → at + size ≤ length log → judged due size log at rest ≡ rest
+  unfolding judged
+  judged-whole due e h = rw (e, le-leb (at + size) (length log) h)
+
+pub standing-head : (h : Head) (k : ℕ) → standingOk h k ≡ true → headRefusal h ≡ 0
+unfolding standingOk
+standing-head h k e = eqb→eq (headRefusal h) 0 (and-left (headOk h) (leb k (gridOf h)) (true-T _ e))
+
+pub standing-blocks : (h : Head) (k : ℕ) → standingOk h k ≡ true → k ≤ gridOf h
+unfolding standingOk
+standing-blocks h k e = leb→le k (gridOf h) (and-right (headOk h) (leb k (gridOf h)) (true-T _ e))
+
+-- what a whole command that is due comes to
+module _ (log : List ℕ) (at : ℕ) where
+  pub head-not : (headRefusal (headIn log at) ≡ 0 → ⊥) → headTaken log at ≡ turnedAway at 15 at
+  unfolding headTaken
+  head-not h = rw (ne-eqb (headRefusal (headIn log at)) 0 h)
+
+  pub head-taken : headRefusal (headIn log at) ≡ 0 → headTaken log at ≡ handedOut (Cmd.Head (headIn log at)) (at + 8) (Body (headIn log at) 0)
+  unfolding headTaken
+  head-taken e = rw (eq-eqb (headRefusal (headIn log at)) 0 e)
+
+  pub end-not : (h : Head) → (be4 log (at + 1) ≡ gridOf h → ⊥) → endTaken log at h ≡ turnedAway at 17 at
+  unfolding endTaken
+  end-not h n = rw (ne-eqb (be4 log (at + 1)) (gridOf h) n)
+
+  pub end-taken : (h : Head) → be4 log (at + 1) ≡ gridOf h → endTaken log at h ≡ handedOut (Cmd.End (gridOf h)) (at + 5) Ended
+  unfolding endTaken
+  end-taken h e = rw (eq-eqb (be4 log (at + 1)) (gridOf h) e)
+
+  module _ (h : Head) (k : ℕ) {dy dx : ℤ} {distortion : ℕ} (ey : dy ≡ signedByte (getD log (at + 1) 0)) (ex : dx ≡ signedByte (getD log (at + 2) 0)) (ed : distortion ≡ be2 log (at + 3)) where
+    pub block-not : entryOk h k dy dx (pos distortion) ≡ false → blockTaken log at h k ≡ turnedAway at 16 at
+    unfolding blockTaken
+    block-not e = rw (← ey, ← ex, ← ed, e)
+
+    pub block-still : entryOk h k dy dx (pos distortion) ≡ true → isStill dy dx (pos distortion) ≡ true → blockTaken log at h k ≡ turnedAway at 16 at
+    unfolding blockTaken
+    block-still e f = rw (← ey, ← ex, ← ed, e, f)
+
+    pub block-taken : entryOk h k dy dx (pos distortion) ≡ true → isStill dy dx (pos distortion) ≡ false
+        → blockTaken log at h k ≡ handedOut (Cmd.Block dy dx distortion) (at + 5) (Body h (k + 1))
+    unfolding blockTaken
+    block-taken e f = rw (← ey, ← ex, ← ed, e, f)

@@ -1,0 +1,27 @@
+-- A walk: the commands that the walker's calls hand out, from a cursor on, one after the other, with the refusal that ends it last.
+--   commandsFrom   in so many calls at most
+--   walk           from the start of a log. A call that is not refused goes on by a byte at least, so length + 1 calls always do
+--   lastOf         the last command of a walk: how it ended
+use Prim.Native.Nat.{ℕ, zero, suc, _+_}
+use mathlib.Core.List.{List, [], _∷_}
+use mathlib.Core.Bool.{cond}
+use lib.ListN.{length}
+use Rattle.log.specs.declared.Cursor.{Cursor}
+use Rattle.log.specs.declared.Command.{Command}
+use Rattle.log.specs.declared.Command.the-variants as Cmd
+use Rattle.log.specs.Commands.{isRefused}
+use Rattle.log.specs.Step.{stepAt, startCursor}
+
+unfoldable pub commandsFrom : ℕ → List ℕ → Cursor → List Command
+commandsFrom zero log c = []
+commandsFrom (suc calls) log c =
+    let s = stepAt log c in
+    s .command ∷ cond (isRefused (s .command)) [] (commandsFrom calls log (s .next))
+
+unfoldable pub walk : List ℕ → List Command
+walk log = commandsFrom (length log + 1) log startCursor
+
+unfoldable pub lastOf : List Command → Command
+lastOf [] = Cmd.Refused 34 0
+lastOf (c ∷ []) = c
+lastOf (c ∷ d ∷ ds) = lastOf (d ∷ ds)

@@ -1,0 +1,477 @@
+// A log of document 01, command by command: the command at a cursor, judged by the rules of 01, for a log of any bytes and a cursor built
+// in any way.
+
+ghost use mathlib.Core.Path.{_≡_};
+ghost use mathlib.Core.Bool.{true};
+ghost use Prim.Native.Nat.{_+_, _≤_, _<_};
+ghost use lib.ListN.{length};
+ghost use lib.Dec.{leb, ltb};
+ghost use Rattle.log.specs.declared.Phase.the-variants.{Body};
+ghost use Rattle.log.specs.Numbers.{be2, be4};
+ghost use Rattle.log.specs.Commands.{commandNumber, placeOf, isRefused};
+ghost use Rattle.log.specs.Heads.{sizesIn, headRefusal, gridOf, distortionOk, entryOk, isStill};
+ghost use Rattle.log.specs.Step.{turnedAway, judged, headIn, headTaken, headAt, blockTaken, blockAt, stillAt, endTaken, endAt, commandAt, afterEnd, standingOk, phaseOk, stepAt, startCursor};
+use frame::Sizes;
+use signed::Shifted;
+
+// A head's numbers.
+#[repr(C)]
+pub struct Head {
+    pub width: usize,
+    pub height: usize,
+    pub n: usize,
+    pub w: usize,
+    pub search: u32,
+}
+
+// How far a walk is: before the head, among the blocks with the head's numbers and how many blocks were read, after the end command, or
+// after a refusal.
+pub enum Phase {
+    Start,
+    Body { head: Head, blocks: usize },
+    Ended,
+    Over,
+}
+
+// Where a walk stands: the offset of the next command, and how far it is.
+pub struct Cursor {
+    pub at: usize,
+    pub phase: Phase,
+}
+
+// What a call of the walker hands out. `commandNumber` and `commandValues` of specs/Commands.antt are 01's number and values of each case.
+pub enum Command {
+    Head(Head),
+    Block { dy: i32, dx: i32, distortion: u32 },
+    Still,
+    End(usize),
+    Refused { number: u32, place: usize },
+}
+
+// The command of one call, and the cursor after it.
+pub struct Stepped {
+    pub command: Command,
+    pub next: Cursor,
+}
+
+// ---- 01's numbers
+
+// A command's number: its byte, or the refusal's.
+pub fn command_number(command: Command) -> u32
+    ensures { λ r. ⌜ r ≡ commandNumber command ⌝ }
+{
+    match command {
+        Command::Head(_) => 1,
+        Command::Block {
+            dy: _,
+            dx: _,
+            distortion: _,
+        } => 2,
+        Command::Still => 3,
+        Command::End(_) => 4,
+        Command::Refused { number, place: _ } => number,
+    }
+}
+
+// A refusal's place.
+pub fn place_of(command: Command) -> usize
+    ensures { λ r. ⌜ r ≡ placeOf command ⌝ }
+{
+    match command {
+        Command::Head(_) => 0,
+        Command::Block {
+            dy: _,
+            dx: _,
+            distortion: _,
+        } => 0,
+        Command::Still => 0,
+        Command::End(_) => 0,
+        Command::Refused { number: _, place } => place,
+    }
+}
+
+// The command is a refusal.
+pub fn is_refused(command: Command) -> bool
+    ensures { λ r. ⌜ r ≡ isRefused command ⌝ }
+{
+    match command {
+        Command::Head(_) => false,
+        Command::Block {
+            dy: _,
+            dx: _,
+            distortion: _,
+        } => false,
+        Command::Still => false,
+        Command::End(_) => false,
+        Command::Refused {
+            number: _,
+            place: _,
+        } => true,
+    }
+}
+
+// ---- heads and blocks
+
+// The sizes of a head.
+pub fn sizes_in(h: Head) -> Sizes
+    ensures { λ r. ⌜ r ≡ sizesIn h ⌝ }
+{
+    Sizes {
+        width: h.width,
+        height: h.height,
+        n: h.n,
+    }
+}
+
+// The first of 1 3 4 5 that applies to a head's numbers, or 0.
+pub fn head_refusal(h: Head) -> u32
+    ensures { λ r. ⌜ r ≡ headRefusal h ⌝ }
+{
+    if !frame::side_ok(h.width) {
+        return 1;
+    }
+    if !frame::side_ok(h.height) {
+        return 1;
+    }
+    if !frame::block_ok(sizes_in(h)) {
+        return 3;
+    }
+    if !frame::search_ok(h.search) {
+        return 4;
+    }
+    if !frame::window_ok(h.search, h.w) {
+        return 5;
+    }
+    0
+}
+
+// How many blocks the head's grid has.
+pub fn grid(h: Head) -> usize
+    requires { ⌜ headRefusal h ≡ 0 ⌝ }
+    ensures { λ r. ⌜ (r ≡ gridOf h) × (r ≤ 1048576) ⌝ }
+{
+    frame::block_count(sizes_in(h))
+}
+
+// 16: 0 to 255 × N² is a distortion.
+fn distortion_ok(n: usize, distortion: i32) -> bool
+    requires { ⌜ n ≤ 1024 ⌝ }
+    ensures { λ r. ⌜ r ≡ distortionOk n distortion ⌝ }
+{
+    let at = signed::shift(0, distortion, 255 * (n * n));
+    match at {
+        Shifted::At(_) => true,
+        Shifted::Outside => false,
+    }
+}
+
+// 16: what grid block k may have: a candidate and its distortion.
+pub fn entry_ok(h: Head, k: usize, dy: i32, dx: i32, distortion: i32) -> bool
+    requires { ⌜ (headRefusal h ≡ 0) × (k < gridOf h) ⌝ }
+    ensures { λ r. ⌜ r ≡ entryOk h k dy dx distortion ⌝ }
+{
+    let s = sizes_in(h);
+    let row = frame::block_row(s, k);
+    let column = frame::block_column(s, k);
+    if !frame::is_candidate(s, h.w, row, column, dy, dx) {
+        return false;
+    }
+    distortion_ok(h.n, distortion)
+}
+
+// (0,0) with distortion 0.
+pub fn is_still(dy: i32, dx: i32, distortion: i32) -> bool
+    ensures { λ r. ⌜ r ≡ isStill dy dx distortion ⌝ }
+{
+    if signed::magnitude(dy) != 0 {
+        return false;
+    }
+    if signed::magnitude(dx) != 0 {
+        return false;
+    }
+    signed::magnitude(distortion) == 0
+}
+
+// ---- bytes
+
+// A byte as a number.
+fn wide(b: u8) -> usize
+    ensures { λ r. ⌜ (r ≡ b) × (r < 256) ⌝ }
+{
+    b as usize
+}
+
+// Two bytes, highest first.
+fn two(log: &[u8], i: usize) -> usize
+    requires { ⌜ i + 1 < length (now log) ⌝ }
+    ensures { λ r. ⌜ (r ≡ be2 (now (log .entry)) i) × (r < 65536) ⌝ }
+{
+    wide(log[i]) * 256 + wide(log[i + 1])
+}
+
+// Four bytes, highest first.
+fn four(log: &[u8], i: usize) -> usize
+    requires { ⌜ i + 3 < length (now log) ⌝ }
+    ensures { λ r. ⌜ r ≡ be4 (now (log .entry)) i ⌝ }
+{
+    two(log, i) * 65536 + two(log, i + 2)
+}
+
+// The numbers of a head command.
+pub fn head_in(log: &[u8], at: usize) -> Head
+    requires { ⌜ at + 8 ≤ length (now log) ⌝ }
+    ensures { λ r. ⌜ r ≡ headIn (now (log .entry)) at ⌝ }
+{
+    Head {
+        width: two(log, at + 1),
+        height: two(log, at + 3),
+        n: wide(log[at + 5]),
+        w: wide(log[at + 6]),
+        search: wide(log[at + 7]) as u32,
+    }
+}
+
+// ---- one command
+
+// A refusal; the walk is over.
+fn turned_away(at: usize, number: u32, place: usize) -> Stepped
+    ensures { λ r. ⌜ r ≡ turnedAway at number place ⌝ }
+{
+    Stepped {
+        command: Command::Refused { number, place },
+        next: Cursor {
+            at,
+            phase: Phase::Over,
+        },
+    }
+}
+
+// A head where one is due.
+fn head_due(log: &[u8], at: usize) -> Stepped
+    requires { ⌜ at ≤ length (now log) ⌝ }
+    ensures { λ r. ⌜ r ≡ judged true 8 (now (log .entry)) at (headTaken (now (log .entry)) at) ⌝ }
+{
+    if log.len() - at < 8 {
+        return turned_away(at, 13, at);
+    }
+    let head = head_in(log, at);
+    if head_refusal(head) != 0 {
+        return turned_away(at, 15, at);
+    }
+    Stepped {
+        command: Command::Head(head),
+        next: Cursor {
+            at: at + 8,
+            phase: Phase::Body { head, blocks: 0 },
+        },
+    }
+}
+
+fn head_at(log: &[u8], at: usize, phase: Phase) -> Stepped
+    requires { ⌜ at ≤ length (now log) ⌝ }
+    ensures { λ r. ⌜ r ≡ headAt (now (log .entry)) at phase ⌝ }
+{
+    match phase {
+        Phase::Start => head_due(log, at),
+        Phase::Body { head: _, blocks: _ } => turned_away(at, 14, at),
+        Phase::Ended => turned_away(at, 14, at),
+        Phase::Over => turned_away(at, 14, at),
+    }
+}
+
+// A block as command 2, among the blocks.
+fn block_due(log: &[u8], at: usize, head: Head, blocks: usize) -> Stepped
+    requires { ⌜ (at ≤ length (now log)) × (standingOk head blocks ≡ true) ⌝ }
+    ensures { λ r. ⌜ r ≡ judged (ltb blocks (gridOf head)) 5 (now (log .entry)) at (blockTaken (now (log .entry)) at head blocks) ⌝ }
+{
+    if blocks >= grid(head) {
+        return turned_away(at, 14, at);
+    }
+    if log.len() - at < 5 {
+        return turned_away(at, 13, at);
+    }
+    block_taken(log, at, head, blocks)
+}
+
+// A whole block command that is due.
+fn block_taken(log: &[u8], at: usize, head: Head, blocks: usize) -> Stepped
+    requires { ⌜ (at + 5 ≤ length (now log)) × (headRefusal head ≡ 0) × (blocks < gridOf head) ⌝ }
+    ensures { λ r. ⌜ r ≡ blockTaken (now (log .entry)) at head blocks ⌝ }
+{
+    let dy = signed::from_byte(log[at + 1]);
+    let dx = signed::from_byte(log[at + 2]);
+    let distortion = two(log, at + 3);
+    if !entry_ok(head, blocks, dy, dx, distortion as i32) {
+        return turned_away(at, 16, at);
+    }
+    if is_still(dy, dx, distortion as i32) {
+        return turned_away(at, 16, at);
+    }
+    Stepped {
+        command: Command::Block {
+            dy,
+            dx,
+            distortion: distortion as u32,
+        },
+        next: Cursor {
+            at: at + 5,
+            phase: Phase::Body {
+                head,
+                blocks: blocks + 1,
+            },
+        },
+    }
+}
+
+fn block_at(log: &[u8], at: usize, phase: Phase) -> Stepped
+    requires { ⌜ (at ≤ length (now log)) × (phaseOk phase ≡ true) ⌝ }
+    ensures { λ r. ⌜ r ≡ blockAt (now (log .entry)) at phase ⌝ }
+{
+    match phase {
+        Phase::Body { head, blocks } => block_due(log, at, head, blocks),
+        Phase::Start => turned_away(at, 14, at),
+        Phase::Ended => turned_away(at, 14, at),
+        Phase::Over => turned_away(at, 14, at),
+    }
+}
+
+// A still block, among the blocks.
+fn still_due(log: &[u8], at: usize, head: Head, blocks: usize) -> Stepped
+    requires { ⌜ (at < length (now log)) × (standingOk head blocks ≡ true) ⌝ }
+    ensures { λ r. ⌜ r ≡ stillAt (now (log .entry)) at (Body head blocks) ⌝ }
+{
+    if blocks >= grid(head) {
+        return turned_away(at, 14, at);
+    }
+    Stepped {
+        command: Command::Still,
+        next: Cursor {
+            at: at + 1,
+            phase: Phase::Body {
+                head,
+                blocks: blocks + 1,
+            },
+        },
+    }
+}
+
+fn still_at(log: &[u8], at: usize, phase: Phase) -> Stepped
+    requires { ⌜ (at < length (now log)) × (phaseOk phase ≡ true) ⌝ }
+    ensures { λ r. ⌜ r ≡ stillAt (now (log .entry)) at phase ⌝ }
+{
+    match phase {
+        Phase::Body { head, blocks } => still_due(log, at, head, blocks),
+        Phase::Start => turned_away(at, 14, at),
+        Phase::Ended => turned_away(at, 14, at),
+        Phase::Over => turned_away(at, 14, at),
+    }
+}
+
+// An end command, among the blocks.
+fn end_due(log: &[u8], at: usize, head: Head, blocks: usize) -> Stepped
+    requires { ⌜ (at ≤ length (now log)) × (standingOk head blocks ≡ true) ⌝ }
+    ensures { λ r. ⌜ r ≡ judged (leb (gridOf head) blocks) 5 (now (log .entry)) at (endTaken (now (log .entry)) at head) ⌝ }
+{
+    let all = grid(head);
+    if blocks < all {
+        return turned_away(at, 14, at);
+    }
+    if log.len() - at < 5 {
+        return turned_away(at, 13, at);
+    }
+    if four(log, at + 1) != all {
+        return turned_away(at, 17, at);
+    }
+    Stepped {
+        command: Command::End(all),
+        next: Cursor {
+            at: at + 5,
+            phase: Phase::Ended,
+        },
+    }
+}
+
+fn end_at(log: &[u8], at: usize, phase: Phase) -> Stepped
+    requires { ⌜ (at ≤ length (now log)) × (phaseOk phase ≡ true) ⌝ }
+    ensures { λ r. ⌜ r ≡ endAt (now (log .entry)) at phase ⌝ }
+{
+    match phase {
+        Phase::Body { head, blocks } => end_due(log, at, head, blocks),
+        Phase::Start => turned_away(at, 14, at),
+        Phase::Ended => turned_away(at, 14, at),
+        Phase::Over => turned_away(at, 14, at),
+    }
+}
+
+// The command byte decides.
+fn command_at(log: &[u8], at: usize, phase: Phase) -> Stepped
+    requires { ⌜ (at ≤ length (now log)) × (phaseOk phase ≡ true) ⌝ }
+    ensures { λ r. ⌜ r ≡ commandAt (now (log .entry)) at phase ⌝ }
+{
+    if log.len() <= at {
+        return turned_away(at, 13, at);
+    }
+    let command = log[at];
+    match command {
+        0 => turned_away(at, 14, at),
+        1 => head_at(log, at, phase),
+        2 => block_at(log, at, phase),
+        3 => still_at(log, at, phase),
+        4 => end_at(log, at, phase),
+        5..=255 => turned_away(at, 14, at),
+    }
+}
+
+// The call after the end command.
+fn after_end(log: &[u8], at: usize) -> Stepped
+    ensures { λ r. ⌜ r ≡ afterEnd (now (log .entry)) at ⌝ }
+{
+    if at < log.len() {
+        turned_away(at, 18, at)
+    } else {
+        turned_away(at, 34, 0)
+    }
+}
+
+// Head numbers and a number of blocks such as a walk can have.
+fn standing(head: Head, blocks: usize) -> bool
+    ensures { λ r. ⌜ r ≡ standingOk head blocks ⌝ }
+{
+    if head_refusal(head) != 0 {
+        return false;
+    }
+    blocks <= grid(head)
+}
+
+// One call of the walker: the command at the cursor, and the cursor after it.
+pub fn step_at(log: &[u8], cursor: Cursor) -> Stepped
+    ensures { λ r. ⌜ r ≡ stepAt (now (log .entry)) cursor ⌝ }
+{
+    let at = cursor.at;
+    let phase = cursor.phase;
+    if log.len() < at {
+        return turned_away(at, 34, 0);
+    }
+    match phase {
+        Phase::Start => command_at(log, at, phase),
+        Phase::Body { head, blocks } => {
+            if standing(head, blocks) {
+                command_at(log, at, phase)
+            } else {
+                turned_away(at, 34, 0)
+            }
+        }
+        Phase::Ended => after_end(log, at),
+        Phase::Over => turned_away(at, 34, 0),
+    }
+}
+
+// Where a walk begins.
+pub fn start() -> Cursor
+    ensures { λ r. ⌜ r ≡ startCursor ⌝ }
+{
+    Cursor {
+        at: 0,
+        phase: Phase::Start,
+    }
+}

@@ -1,0 +1,57 @@
+-- 01, "Log": "Another call reads a whole log into a list and answers with the head's numbers." "10 list shorter than three a block; log reading tests it right
+-- after an accepted head, with place 8". Nothing is stored before the whole log is accepted.
+--   fieldOf    the list that a walk's blocks make, three numbers each, in order
+--   logRead    what the call answers: the head's refusal; 10; the refusal of the rest; or the head's numbers. The list comes in by its length
+--   Reading    that, with what the list then holds: readInto
+use Prim.Native.Nat.{ℕ, _*_}
+use mathlib.Core.List.{List, _++_, flatMap}
+use mathlib.Core.Bool.{cond}
+use lib.Dec.{ltb, eqb}
+use lib.IntN.{ℤ}
+use lib.ListN.{length, drop}
+use Rattle.log.specs.declared.Head.{Head}
+use Rattle.log.specs.declared.Command.{Command}
+use Rattle.log.specs.Commands.{commandNumber, placeOf, isRefused, blockValues}
+use Rattle.log.specs.Heads.{gridOf}
+use Rattle.log.specs.Step.{headIn, stepAt, startCursor}
+use Rattle.log.specs.Walk.{walk, lastOf}
+use Rattle.log_reading.specs.declared.LogRead.{LogRead}
+
+unfoldable pub fieldOf : List Command → List ℤ
+fieldOf commands = flatMap blockValues commands
+
+-- ---- the answer
+
+abbrev pub refusedRead : ℕ → ℕ → LogRead
+refusedRead refusal place = record { refusal = refusal; place = place; head = record { width = 0; height = 0; n = 0; w = 0; search = 0 } }
+
+abbrev pub refusedBy : Command → LogRead
+refusedBy command = refusedRead (commandNumber command) (placeOf command)
+
+abbrev pub acceptedRead : Head → LogRead
+acceptedRead h = record { refusal = 0; place = 0; head = h }
+
+-- A walk from the start ends with 34 only after the end command with no byte left: then the whole log is accepted.
+unfoldable pub logRead : List ℕ → ℕ → LogRead
+logRead log list =
+    let begun = stepAt log startCursor .command in
+    let ended = lastOf (walk log) in
+    let h = headIn log 0 in
+    cond (isRefused begun) (refusedBy begun)
+    (cond (ltb list (3 * gridOf h)) (refusedRead 10 8)
+    (cond (eqb (commandNumber ended) 34) (acceptedRead h) (refusedBy ended)))
+
+-- ---- the call
+
+pub record Reading : Type 0 where
+  pub answer : LogRead
+  pub list : List ℤ
+
+abbrev pub asReading : LogRead → List ℤ → Reading
+asReading answer list = record { answer = answer; list = list }
+
+unfoldable pub readInto : List ℕ → List ℤ → Reading
+readInto log list =
+    let answer = logRead log (length list) in
+    let field = fieldOf (walk log) in
+    asReading answer (cond (eqb (answer .refusal) 0) (field ++ drop (length field) list) list)
