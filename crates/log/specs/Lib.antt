@@ -1,6 +1,5 @@
 pub mod Numbers
 pub mod Commands
-pub mod Heads
 pub mod Step
 pub mod Walk
 pub mod Logs

@@ -9,11 +9,11 @@ use lib.ListN.{getD}
 use lib.IntN.{ℤ, pos}
 use Rattle.base.specs.Lists.{listTo}
 use Rattle.signed.specs.Int.{up}
-use Rattle.log.specs.declared.Head.{Head}
+use Rattle.heads.specs.declared.Head.{Head}
 use Rattle.log.specs.declared.Command.{Command}
 use Rattle.log.specs.declared.Command.the-variants as Cmd
 use Rattle.log.specs.Commands.{commandBytes}
-use Rattle.log.specs.Heads.{gridOf, isStill}
+use Rattle.heads.specs.Heads.{gridOf, isStill}
 
 -- the number at place i of block k's three
 abbrev pub valueOf : List ℤ → ℕ → ℕ → ℤ

@@ -19,7 +19,7 @@ use borrow.Author.Tests.{le-leb, lt-leb, eq-eqb, ne-eqb}
 use Rattle.base.specs.Tests.{and-left, and-right, true-T}
 use lib.IntN.{ℤ, pos}
 use Rattle.signed.specs.Values.{signedByte}
-use Rattle.log.specs.declared.Head.{Head}
+use Rattle.heads.specs.declared.Head.{Head}
 use Rattle.log.specs.declared.Phase.{Phase}
 use Rattle.log.specs.declared.Phase.the-variants.{Start, Body, Ended, Over}
 use Rattle.log.specs.declared.Cursor.{Cursor}
@@ -27,7 +27,7 @@ use Rattle.log.specs.declared.Command.{Command}
 use Rattle.log.specs.declared.Command.the-variants as Cmd
 use Rattle.log.specs.declared.Stepped.{Stepped}
 use Rattle.log.specs.Numbers.{be2, be4}
-use Rattle.log.specs.Heads.{headRefusal, headOk, gridOf, entryOk, isStill}
+use Rattle.heads.specs.Heads.{headRefusal, headOk, gridOf, entryOk, isStill}
 
 -- refused with a number and a place; the walker keeps its place and is over
 abbrev pub turnedAway : ℕ → ℕ → ℕ → Stepped

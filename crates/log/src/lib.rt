@@ -9,20 +9,9 @@ ghost use lib.Dec.{leb, ltb};
 ghost use Rattle.log.specs.declared.Phase.the-variants.{Body};
 ghost use Rattle.log.specs.Numbers.{be2, be4};
 ghost use Rattle.log.specs.Commands.{commandNumber, placeOf, isRefused};
-ghost use Rattle.log.specs.Heads.{sizesIn, headRefusal, gridOf, distortionOk, entryOk, isStill};
+ghost use Rattle.heads.specs.Heads.{headRefusal, gridOf};
 ghost use Rattle.log.specs.Step.{turnedAway, judged, headIn, headTaken, headAt, blockTaken, blockAt, stillAt, endTaken, endAt, commandAt, afterEnd, standingOk, phaseOk, stepAt, startCursor};
-use frame::Sizes;
-use signed::Shifted;
-
-// A head's numbers.
-#[repr(C)]
-pub struct Head {
-    pub width: usize,
-    pub height: usize,
-    pub n: usize,
-    pub w: usize,
-    pub search: u32,
-}
+use heads::Head;
 
 // How far a walk is: before the head, among the blocks with the head's numbers and how many blocks were read, after the end command, or
 // after a refusal.
@@ -110,88 +99,6 @@ pub fn is_refused(command: Command) -> bool
     }
 }
 
-// ---- heads and blocks
-
-// The sizes of a head.
-pub fn sizes_in(h: Head) -> Sizes
-    ensures { λ r. ⌜ r ≡ sizesIn h ⌝ }
-{
-    Sizes {
-        width: h.width,
-        height: h.height,
-        n: h.n,
-    }
-}
-
-// The first of 1 3 4 5 that applies to a head's numbers, or 0.
-pub fn head_refusal(h: Head) -> u32
-    ensures { λ r. ⌜ r ≡ headRefusal h ⌝ }
-{
-    if !frame::side_ok(h.width) {
-        return 1;
-    }
-    if !frame::side_ok(h.height) {
-        return 1;
-    }
-    if !frame::block_ok(sizes_in(h)) {
-        return 3;
-    }
-    if !frame::search_ok(h.search) {
-        return 4;
-    }
-    if !frame::window_ok(h.search, h.w) {
-        return 5;
-    }
-    0
-}
-
-// How many blocks the head's grid has.
-pub fn grid(h: Head) -> usize
-    requires { ⌜ headRefusal h ≡ 0 ⌝ }
-    ensures { λ r. ⌜ (r ≡ gridOf h) × (r ≤ 1048576) ⌝ }
-{
-    frame::block_count(sizes_in(h))
-}
-
-// 16: 0 to 255 × N² is a distortion.
-fn distortion_ok(n: usize, distortion: i32) -> bool
-    requires { ⌜ n ≤ 1024 ⌝ }
-    ensures { λ r. ⌜ r ≡ distortionOk n distortion ⌝ }
-{
-    let at = signed::shift(0, distortion, 255 * (n * n));
-    match at {
-        Shifted::At(_) => true,
-        Shifted::Outside => false,
-    }
-}
-
-// 16: what grid block k may have: a candidate and its distortion.
-pub fn entry_ok(h: Head, k: usize, dy: i32, dx: i32, distortion: i32) -> bool
-    requires { ⌜ (headRefusal h ≡ 0) × (k < gridOf h) ⌝ }
-    ensures { λ r. ⌜ r ≡ entryOk h k dy dx distortion ⌝ }
-{
-    let s = sizes_in(h);
-    let row = frame::block_row(s, k);
-    let column = frame::block_column(s, k);
-    if !frame::is_candidate(s, h.w, row, column, dy, dx) {
-        return false;
-    }
-    distortion_ok(h.n, distortion)
-}
-
-// (0,0) with distortion 0.
-pub fn is_still(dy: i32, dx: i32, distortion: i32) -> bool
-    ensures { λ r. ⌜ r ≡ isStill dy dx distortion ⌝ }
-{
-    if signed::magnitude(dy) != 0 {
-        return false;
-    }
-    if signed::magnitude(dx) != 0 {
-        return false;
-    }
-    signed::magnitude(distortion) == 0
-}
-
 // ---- bytes
 
 // A byte as a number.
@@ -255,7 +162,7 @@ fn head_due(log: &[u8], at: usize) -> Stepped
         return turned_away(at, 13, at);
     }
     let head = head_in(log, at);
-    if head_refusal(head) != 0 {
+    if heads::head_refusal(head) != 0 {
         return turned_away(at, 15, at);
     }
     Stepped {
@@ -284,7 +191,7 @@ fn block_due(log: &[u8], at: usize, head: Head, blocks: usize) -> Stepped
     requires { ⌜ (at ≤ length (now log)) × (standingOk head blocks ≡ true) ⌝ }
     ensures { λ r. ⌜ r ≡ judged (ltb blocks (gridOf head)) 5 (now (log .entry)) at (blockTaken (now (log .entry)) at head blocks) ⌝ }
 {
-    if blocks >= grid(head) {
+    if blocks >= heads::grid(head) {
         return turned_away(at, 14, at);
     }
     if log.len() - at < 5 {
@@ -301,10 +208,10 @@ fn block_taken(log: &[u8], at: usize, head: Head, blocks: usize) -> Stepped
     let dy = signed::from_byte(log[at + 1]);
     let dx = signed::from_byte(log[at + 2]);
     let distortion = two(log, at + 3);
-    if !entry_ok(head, blocks, dy, dx, distortion as i32) {
+    if !heads::entry_ok(head, blocks, dy, dx, distortion as i32) {
         return turned_away(at, 16, at);
     }
-    if is_still(dy, dx, distortion as i32) {
+    if heads::is_still(dy, dx, distortion as i32) {
         return turned_away(at, 16, at);
     }
     Stepped {
@@ -340,7 +247,7 @@ fn still_due(log: &[u8], at: usize, head: Head, blocks: usize) -> Stepped
     requires { ⌜ (at < length (now log)) × (standingOk head blocks ≡ true) ⌝ }
     ensures { λ r. ⌜ r ≡ stillAt (now (log .entry)) at (Body head blocks) ⌝ }
 {
-    if blocks >= grid(head) {
+    if blocks >= heads::grid(head) {
         return turned_away(at, 14, at);
     }
     Stepped {
@@ -372,7 +279,7 @@ fn end_due(log: &[u8], at: usize, head: Head, blocks: usize) -> Stepped
     requires { ⌜ (at ≤ length (now log)) × (standingOk head blocks ≡ true) ⌝ }
     ensures { λ r. ⌜ r ≡ judged (leb (gridOf head) blocks) 5 (now (log .entry)) at (endTaken (now (log .entry)) at head) ⌝ }
 {
-    let all = grid(head);
+    let all = heads::grid(head);
     if blocks < all {
         return turned_away(at, 14, at);
     }
@@ -437,10 +344,10 @@ fn after_end(log: &[u8], at: usize) -> Stepped
 fn standing(head: Head, blocks: usize) -> bool
     ensures { λ r. ⌜ r ≡ standingOk head blocks ⌝ }
 {
-    if head_refusal(head) != 0 {
+    if heads::head_refusal(head) != 0 {
         return false;
     }
-    blocks <= grid(head)
+    blocks <= heads::grid(head)
 }
 
 // One call of the walker: the command at the cursor, and the cursor after it.

@@ -9,10 +9,10 @@ use mathlib.Core.Bool.{cond}
 use lib.Dec.{ltb, eqb}
 use lib.IntN.{ℤ}
 use lib.ListN.{length, drop}
-use Rattle.log.specs.declared.Head.{Head}
+use Rattle.heads.specs.declared.Head.{Head}
 use Rattle.log.specs.declared.Command.{Command}
 use Rattle.log.specs.Commands.{commandNumber, placeOf, isRefused, blockValues}
-use Rattle.log.specs.Heads.{gridOf}
+use Rattle.heads.specs.Heads.{gridOf}
 use Rattle.log.specs.Step.{headIn, stepAt, startCursor}
 use Rattle.log.specs.Walk.{walk, lastOf}
 use Rattle.log_reading.specs.declared.LogRead.{LogRead}

@@ -1,6 +1,6 @@
 // Reading a whole log of document 01 into a lent list, three numbers a block. Nothing is stored before the whole log is accepted.
 
-use log::Head;
+use heads::Head;
 
 // What reading answers: the head's numbers, or a refusal with its place.
 #[repr(C)]

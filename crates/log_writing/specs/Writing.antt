@@ -11,8 +11,8 @@ use lib.Dec.{leb, ltb, eqb}
 use lib.IntN.{ℤ}
 use lib.ListN.{length, drop}
 use Rattle.frame.specs.Refusals.{unless, first}
-use Rattle.log.specs.declared.Head.{Head}
-use Rattle.log.specs.Heads.{headRefusal, gridOf, entryOk}
+use Rattle.heads.specs.declared.Head.{Head}
+use Rattle.heads.specs.Heads.{headRefusal, gridOf, entryOk}
 use Rattle.log.specs.Logs.{valueOf, logOf}
 use Rattle.log_writing.specs.declared.Written.{Written}
 

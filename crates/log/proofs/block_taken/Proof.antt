@@ -6,10 +6,10 @@ use borrow.Author.Needs.{sfits-of}
 use mir.Facts.{toZ-ofZ}
 use Rattle.base.specs.Tests.{passed, failed}
 use Rattle.frame.specs.Grid.{blocks-few}
-use Rattle.log.specs.Heads.{sizesIn, headed}
+use Rattle.heads.specs.Heads.{sizesIn, headed}
 use Rattle.log.specs.Step.{block-not, block-still, block-taken}
 use lib.IntN.{pos}
-use Rattle.log.specs.Heads.{entryOk, isStill}
+use Rattle.heads.specs.Heads.{entryOk, isStill}
 use mir.Syntax.{w32}
 use mir.Val.{toZ}
 use mir.Facts.{toZ-pos}

@@ -4,14 +4,14 @@ use mathlib.Core.Path.{_≡_, ap, sym, _∙_}
 use borrow.Author.Needs.{needs}
 use borrow.Author.Tests.{ne-eqb, eq-eqb}
 use mir.Facts.{toZ-ofZ}
-use Rattle.log.specs.Heads.{isStill, zero-is}
+use Rattle.heads.specs.Heads.{isStill, zero-is}
 use lib.Dec.{eqb}
 use lib.IntN.{ℤ, natAbs, pos}
 use mir.Syntax.{w32}
 use mir.Val.{SFits, toZ, ofZ}
 use Rattle.signed.specs.Int.{eqZ}
-use Rattle.log.proofs.is_still.Statement.{statement}
-use Rattle.log.proofs.is_still.Tie as tie
+use Rattle.heads.proofs.is_still.Statement.{statement}
+use Rattle.heads.proofs.is_still.Tie as tie
 
 -- a part whose size is m is 0 where m is
 nought : {z : ℤ} {m : ℕ} → SFits w32 z → m ≡ natAbs (toZ w32 (ofZ w32 z)) → eqZ z (pos 0) ≡ eqb m 0

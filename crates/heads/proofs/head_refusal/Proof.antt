@@ -3,11 +3,11 @@ use mathlib.Core.Path.{_≡_, ap, _∙_}
 use borrow.Author.Needs.{needs}
 use mathlib.Core.Bool.{true}
 use Rattle.base.specs.Tests.{passed, failed}
-use Rattle.log.specs.Heads.{headRefusal}
+use Rattle.heads.specs.Heads.{headRefusal}
 use Rattle.frame.specs.Refusals.{sideOk, blockOk, searchOk}
-use Rattle.log.specs.Heads.{sizesIn}
-use Rattle.log.proofs.head_refusal.Statement.{statement}
-use Rattle.log.proofs.head_refusal.Tie as tie
+use Rattle.heads.specs.Heads.{sizesIn}
+use Rattle.heads.proofs.head_refusal.Statement.{statement}
+use Rattle.heads.proofs.head_refusal.Tie as tie
 
 -- what was passed on the way, in the chain's words
 wide : (d : tie.Else1) → sideOk (d .before .before .args .h .width) ≡ true

@@ -3,14 +3,14 @@ use mathlib.Core.Path.{_≡_}
 use native.Mathlib.Omega.{arith}
 use borrow.Author.Needs.{needs}
 use Rattle.base.specs.Tests.{passed, failed}
-use Rattle.log.specs.Heads.{entryOk, headed}
+use Rattle.heads.specs.Heads.{entryOk, headed}
 use Rattle.order.specs.Vectors.{vec}
 use Rattle.frame.specs.Grid.{blockRow, blockColumn}
 use Rattle.frame.specs.Candidates.{candidate}
-use Rattle.log.specs.Heads.{sizesIn}
+use Rattle.heads.specs.Heads.{sizesIn}
 use mir.Facts.{toZ-ofZ}
-use Rattle.log.proofs.entry_ok.Statement.{statement}
-use Rattle.log.proofs.entry_ok.Tie as tie
+use Rattle.heads.proofs.entry_ok.Statement.{statement}
+use Rattle.heads.proofs.entry_ok.Tie as tie
 
 -- what `is_candidate` answers
 looked : (c : tie.After-is-candidate) → let a = c .before .before .before .before .args in let s = sizesIn (a .h) in c .is-candidate .result ≡ candidate s (a .h .w) (blockRow s (a .k)) (blockColumn s (a .k)) (vec (a .dy) (a .dx))

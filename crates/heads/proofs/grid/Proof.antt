@@ -2,9 +2,9 @@
 use mathlib.Core.Path.{refl}
 use borrow.Author.Needs.{needs}
 use Rattle.frame.specs.Grid.{blocks-few}
-use Rattle.log.specs.Heads.{sizesIn, headed}
-use Rattle.log.proofs.grid.Statement.{statement}
-use Rattle.log.proofs.grid.Tie as tie
+use Rattle.heads.specs.Heads.{sizesIn, headed}
+use Rattle.heads.proofs.grid.Statement.{statement}
+use Rattle.heads.proofs.grid.Tie as tie
 
 sizes-in-requires : tie.Need-sizes-in-requires
 sizes-in-requires c κs = search needs

@@ -23,7 +23,7 @@ use Rattle.frame.specs.Pictures.{sizes, Fitting}
 use Rattle.frame.specs.Grid.{blocks, blockRow, blockColumn}
 use Rattle.frame.specs.Candidates.{candidate}
 use Rattle.frame.specs.Refusals.{unless, sideOk, listed, blockOk, searchOk, windowOk, unless-zero, fitting, window-small}
-use Rattle.log.specs.declared.Head.{Head}
+use Rattle.heads.specs.declared.Head.{Head}
 
 abbrev pub sizesIn : Head → Sizes
 sizesIn h = sizes (h .width) (h .height) (h .n)

@@ -5,10 +5,10 @@ use native.Mathlib.Omega.{arith}
 use borrow.Author.Needs.{needs}
 use native.Mathlib.Nat.{mul-le-mul}
 use Rattle.signed.specs.Values.{shiftedBy}
-use Rattle.log.specs.Heads.{distortion-in, distortion-out}
+use Rattle.heads.specs.Heads.{distortion-in, distortion-out}
 use mir.Facts.{toZ-ofZ}
-use Rattle.log.proofs.distortion_ok.Statement.{statement}
-use Rattle.log.proofs.distortion_ok.Tie as tie
+use Rattle.heads.proofs.distortion_ok.Statement.{statement}
+use Rattle.heads.proofs.distortion_ok.Tie as tie
 
 -- what `shift` answers
 moved : (c : tie.After-shift) → let a = c .before .args in c .shift .result ≡ shiftedBy 0 (a .distortion) (255 * (a .n * a .n))
