@@ -208,10 +208,11 @@ fn block_taken(log: &[u8], at: usize, head: Head, blocks: usize) -> Stepped
     let dy = signed::from_byte(log[at + 1]);
     let dx = signed::from_byte(log[at + 2]);
     let distortion = two(log, at + 3);
-    if !heads::entry_ok(head, blocks, dy, dx, distortion as i32) {
+    let d = distortion as i32;
+    if !heads::entry_ok(head, blocks, dy, dx, d) {
         return turned_away(at, 16, at);
     }
-    if heads::is_still(dy, dx, distortion as i32) {
+    if heads::is_still(dy, dx, d) {
         return turned_away(at, 16, at);
     }
     Stepped {
@@ -292,7 +293,7 @@ fn end_due(log: &[u8], at: usize, head: Head, blocks: usize) -> Stepped
     Stepped {
         command: Command::End(all),
         next: Cursor {
-            at: at + 5,
+            at: at + 5, // the first extra byte, where there is one
             phase: Phase::Ended,
         },
     }

@@ -66,8 +66,8 @@ add-two c = search needs
 two-requires : tie.Need-two-requires
 two-requires c κs = search needs
 
-cast-entry-ok : tie.Need-cast-entry-ok
-cast-entry-ok c = search needs
+cast-d : tie.Need-cast-d
+cast-d c = search needs
 
 entry-ok-requires : tie.Need-entry-ok-requires
 entry-ok-requires c κs = search needs
@@ -82,9 +82,6 @@ returns c = let e = c .before .before in
     let y = x .before .before in
     let a = y .before .before .before .args in
     c .turned-away .ensures ∙ sym (block-not _ _ (a .head) (a .blocks) (y .from-byte .ensures) (x .from-byte2 .ensures) (t .two .ensures .0) (failed (entry e) (c .before .if1 .taken)))
-
-cast-is-still : tie.Need-cast-is-still
-cast-is-still c = search needs
 
 is-still-requires : tie.Need-is-still-requires
 is-still-requires c κs = search needs
@@ -105,8 +102,8 @@ returns-2 c = let i = c .before .before in
 cast-t16 : tie.Need-cast-t16
 cast-t16 c = search needs
 
-add-t8 : tie.Need-add-t8
-add-t8 c = search needs
+add-t9 : tie.Need-add-t9
+add-t9 c = search needs
 
 add-t18 : tie.Need-add-t18
 add-t18 c = let a = c .before .before .before .before .before .before .before .before .before .before in omega (arith, a .pre .2, blocks-few (sizesIn (a .args .head)) (headed (a .args .head) (a .pre .1) .fitting))
@@ -134,15 +131,14 @@ block-taken-spec =
     from-byte-requires-2
     add-two
     two-requires
-    cast-entry-ok
+    cast-d
     entry-ok-requires
     turned-away-requires
     returns
-    cast-is-still
     is-still-requires
     turned-away-requires-2
     returns-2
     cast-t16
-    add-t8
+    add-t9
     add-t18
     returns-3)

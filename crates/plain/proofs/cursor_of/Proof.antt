@@ -1,0 +1,32 @@
+-- `cursor_of`: the match is the definition's chain of tests.
+use Prim.Native.Nat.{ℕ, zero, suc, _+_, _-_, _*_, _≤_, _<_}
+use mathlib.Core.Path.{_≡_, refl, ap, ap₂, sym, _∙_}
+use native.Mathlib.Omega.{arith}
+use native.Mathlib.Numerals.{add-one}
+use borrow.Author.Needs.{needs}
+use lib.ListN.{length, getD, take, drop, set}
+use borrow.Author.Tests.{ne-eqb}
+use Rattle.plain.specs.Plain.{phaseOf}
+use Rattle.plain.proofs.cursor_of.Statement.{statement}
+use Rattle.plain.proofs.cursor_of.Tie as tie
+use Rattle.plain.proofs.cursor_of.Reads as reads
+use Rattle.plain.proofs.cursor_of.Lts as lts
+
+returns : tie.Need-returns
+unfolding phaseOf
+returns c = simp (c .match .keys1)
+
+returns-2 : tie.Need-returns-2
+unfolding phaseOf
+returns-2 c = simp (c .match .keys2)
+
+returns-3 : tie.Need-returns-3
+unfolding phaseOf
+returns-3 c = simp (c .match .keys3)
+
+returns-4 : tie.Need-returns-4
+unfolding phaseOf
+returns-4 c = let no = c .match .rest in simp (ne-eqb _ 0 (no .0 .0 .1), ne-eqb _ 1 (no .0 .1), ne-eqb _ 2 (no .1))
+
+pub cursor-of-spec : {M : Type 1} → statement M
+cursor-of-spec = tie.close (tie.spec returns returns-2 returns-3 returns-4)

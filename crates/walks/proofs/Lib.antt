@@ -1,0 +1,9 @@
+pub mod Ends
+pub mod Accepted
+pub mod Bytes
+pub mod Sound
+pub mod Whole
+pub mod Entries
+pub mod Steps
+pub mod Made
+pub mod Complete

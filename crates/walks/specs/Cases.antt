@@ -1,0 +1,191 @@
+-- 01, "Log": "A walker over a lent log hands out one command a call." The outcomes of one call, from any cursor, each with all that it says.
+--   dyAt, dxAt, distortionAt   the operands of a block command at an offset
+--   NoMore   what 34 is answered for
+--   Reason   what a refusal's number says: it is 13 or more, and 34 has place 0
+--   Kind     the outcomes: refused; a head, a block, a still block, the end
+--   kinds    every call has one of them
+use Prim.Native.Nat.{ℕ, _+_, _≤_, _<_}
+use mathlib.Core.Path.{_≡_, refl}
+use mathlib.Core.List.{List}
+use mathlib.Core.Bool.{Bool, true, false, cond, not, _&&_}
+use native.Mathlib.Omega.{arith}
+use lib.ListN.{length, getD}
+use lib.Dec.{leb, ltb, eqb}
+use lib.IntN.{ℤ, pos}
+use borrow.Author.Tests.{ltb-true, ltb-false, leb-true, eqb-true}
+use Rattle.signed.specs.Values.{signedByte}
+use Rattle.log.specs.declared.Head.{Head}
+use Rattle.log.specs.declared.Phase.{Phase}
+use Rattle.log.specs.declared.Phase.the-variants.{Start, Body, Ended, Over}
+use Rattle.log.specs.declared.Cursor.{Cursor}
+use Rattle.log.specs.declared.Command.the-variants as Cmd
+use Rattle.log.specs.declared.Stepped.{Stepped}
+use Rattle.log.specs.Numbers.{be2, be4}
+use Rattle.log.specs.Heads.{headRefusal, headOk, gridOf, entryOk, isStill}
+use Rattle.log.specs.Step.{turnedAway, handedOut, judged, headIn, headTaken, headAt, blockTaken, blockAt, stillAt, endTaken, endAt, byCommand, commandAt, standingOk, phaseOk, byPhase, stepAt}
+
+abbrev pub dyAt : List ℕ → ℕ → ℤ
+dyAt log at = signedByte (getD log (at + 1) 0)
+
+abbrev pub dxAt : List ℕ → ℕ → ℤ
+dxAt log at = signedByte (getD log (at + 2) 0)
+
+abbrev pub distortionAt : List ℕ → ℕ → ℕ
+distortionAt log at = be2 log (at + 3)
+
+-- "34 walker called after a refusal, or after its end with no byte left, or one built by hand"
+pub data NoMore (log : List ℕ) (c : Cursor) : Type 0 where
+  past : length log < c .at → NoMore log c
+  unsound : phaseOk (c .phase) ≡ false → NoMore log c
+  ended : c .phase ≡ Ended → length log ≤ c .at → NoMore log c
+  over : c .phase ≡ Over → NoMore log c
+
+pub record Reason (log : List ℕ) (c : Cursor) (number place : ℕ) : Type 0 where
+  pub least : 13 ≤ number
+  pub over : number ≡ 34 → (place ≡ 0) × NoMore log c
+
+pub data Kind (log : List ℕ) (c : Cursor) : Stepped → Type 0 where
+  refused : (number place : ℕ) → number ≤ 34 → place ≤ length log → Reason log c number place
+      → Kind log c (turnedAway (c .at) number place)
+  head : c .phase ≡ Start → getD log (c .at) 0 ≡ 1 → c .at + 8 ≤ length log → headRefusal (headIn log (c .at)) ≡ 0
+      → Kind log c (handedOut (Cmd.Head (headIn log (c .at))) (c .at + 8) (Body (headIn log (c .at)) 0))
+  block : (h : Head) (k : ℕ) → c .phase ≡ Body h k → headRefusal h ≡ 0 → k < gridOf h → getD log (c .at) 0 ≡ 2 → c .at + 5 ≤ length log
+      → entryOk h k (dyAt log (c .at)) (dxAt log (c .at)) (pos (distortionAt log (c .at))) ≡ true
+      → isStill (dyAt log (c .at)) (dxAt log (c .at)) (pos (distortionAt log (c .at))) ≡ false
+      → Kind log c (handedOut (Cmd.Block (dyAt log (c .at)) (dxAt log (c .at)) (distortionAt log (c .at))) (c .at + 5) (Body h (k + 1)))
+  still : (h : Head) (k : ℕ) → c .phase ≡ Body h k → headRefusal h ≡ 0 → k < gridOf h → getD log (c .at) 0 ≡ 3 → c .at + 1 ≤ length log
+      → Kind log c (handedOut Cmd.Still (c .at + 1) (Body h (k + 1)))
+  end : (h : Head) (k : ℕ) → c .phase ≡ Body h k → headRefusal h ≡ 0 → k ≡ gridOf h → getD log (c .at) 0 ≡ 4 → c .at + 5 ≤ length log
+      → be4 log (c .at + 1) ≡ gridOf h
+      → Kind log c (handedOut (Cmd.End (gridOf h)) (c .at + 5) Ended)
+
+-- ---- every call has one
+
+-- both of two tests
+both-true : (a b : Bool) → (a && b) ≡ true → (a ≡ true) × (b ≡ true)
+both-true true b e = (refl, e)
+both-true false b e = (e, cc)
+
+module _ (log : List ℕ) (at : ℕ) (phase : Phase) (inside : at ≤ length log) where
+  abbrev here : Cursor
+  here = record { at = at; phase = phase }
+
+  -- refused with a number below 34, at the command's offset
+  away : (number : ℕ) → 13 ≤ number → number < 34 → Kind log here (turnedAway at number at)
+  away number l h = refused number at (omega arith) inside (record { least = l; over = λ e. absurd (omega arith) })
+
+  judged-kind : (due : Bool) (size : ℕ) (rest : Stepped) → (due ≡ true → at + size ≤ length log → Kind log here rest) → Kind log here (judged due size log at rest)
+  unfolding judged
+  judged-kind due size rest k = go due refl (leb (at + size) (length log)) refl
+    where
+      go : (a : Bool) → due ≡ a → (b : Bool) → leb (at + size) (length log) ≡ b
+          → Kind log here (cond a (cond b rest (turnedAway at 13 at)) (turnedAway at 14 at))
+      go true e true f = k e (leb-true _ _ f)
+      go true e false f = away 13 (omega arith) (omega arith)
+      go false e b f = away 14 (omega arith) (omega arith)
+
+module _ (log : List ℕ) (at : ℕ) (inside : at ≤ length log) where
+  abbrev at-phase : Phase → Cursor
+  at-phase phase = record { at = at; phase = phase }
+
+  head-kind : (phase : Phase) → getD log at 0 ≡ 1 → Kind log (at-phase phase) (headAt log at phase)
+  unfolding headTaken
+  head-kind Start e = judged-kind log at Start inside true 8 (headTaken log at) (λ d f. go f (headOk (headIn log at)) refl)
+    where
+      go : at + 8 ≤ length log → (a : Bool) → headOk (headIn log at) ≡ a
+          → Kind log (at-phase Start) (cond a (handedOut (Cmd.Head (headIn log at)) (at + 8) (Body (headIn log at) 0)) (turnedAway at 15 at))
+      go f true g = head refl e f (eqb-true _ _ g)
+      go f false g = away log at Start inside 15 (omega arith) (omega arith)
+  head-kind (Body h k) e = away log at (Body h k) inside 14 (omega arith) (omega arith)
+  head-kind Ended e = away log at Ended inside 14 (omega arith) (omega arith)
+  head-kind Over e = away log at Over inside 14 (omega arith) (omega arith)
+
+  block-kind : (phase : Phase) → phaseOk phase ≡ true → getD log at 0 ≡ 2 → Kind log (at-phase phase) (blockAt log at phase)
+  unfolding blockTaken standingOk
+  block-kind Start s e = away log at Start inside 14 (omega arith) (omega arith)
+  block-kind (Body h k) s e =
+      judged-kind log at (Body h k) inside (ltb k (gridOf h)) 5 (blockTaken log at h k)
+      (λ d f.
+      go (ltb-true _ _ d) f (entryOk h k (dyAt log at) (dxAt log at) (pos (distortionAt log at))) refl
+      (isStill (dyAt log at) (dxAt log at) (pos (distortionAt log at)))
+      refl)
+    where
+      go : k < gridOf h → at + 5 ≤ length log → (a : Bool) → entryOk h k (dyAt log at) (dxAt log at) (pos (distortionAt log at)) ≡ a
+          → (b : Bool) → isStill (dyAt log at) (dxAt log at) (pos (distortionAt log at)) ≡ b
+          → Kind log (at-phase (Body h k))
+          (cond (a && not b) (handedOut (Cmd.Block (dyAt log at) (dxAt log at) (distortionAt log at)) (at + 5) (Body h (k + 1))) (turnedAway at 16 at))
+      go d f true g true j = away log at (Body h k) inside 16 (omega arith) (omega arith)
+      go d f true g false j = block h k refl (eqb-true _ _ (both-true (headOk h) (leb k (gridOf h)) s .0)) d e f g j
+      go d f false g b j = away log at (Body h k) inside 16 (omega arith) (omega arith)
+  block-kind Ended s e = away log at Ended inside 14 (omega arith) (omega arith)
+  block-kind Over s e = away log at Over inside 14 (omega arith) (omega arith)
+
+  still-kind : (phase : Phase) → phaseOk phase ≡ true → getD log at 0 ≡ 3 → Kind log (at-phase phase) (stillAt log at phase)
+  unfolding standingOk
+  still-kind Start s e = away log at Start inside 14 (omega arith) (omega arith)
+  still-kind (Body h k) s e =
+      judged-kind log at (Body h k) inside (ltb k (gridOf h)) 1 _
+      (λ d f. still h k refl (eqb-true _ _ (both-true (headOk h) (leb k (gridOf h)) s .0)) (ltb-true _ _ d) e f)
+  still-kind Ended s e = away log at Ended inside 14 (omega arith) (omega arith)
+  still-kind Over s e = away log at Over inside 14 (omega arith) (omega arith)
+
+  end-kind : (phase : Phase) → phaseOk phase ≡ true → getD log at 0 ≡ 4 → Kind log (at-phase phase) (endAt log at phase)
+  unfolding endTaken standingOk
+  end-kind Start s e = away log at Start inside 14 (omega arith) (omega arith)
+  end-kind (Body h k) s e =
+      let t = both-true (headOk h) (leb k (gridOf h)) s in
+      judged-kind log at (Body h k) inside (leb (gridOf h) k) 5 (endTaken log at h)
+      (λ d f. go (eqb-true _ _ (t .0)) (leb-true _ _ (t .1)) (leb-true _ _ d) f (eqb (be4 log (at + 1)) (gridOf h)) refl)
+    where
+      go : headRefusal h ≡ 0 → k ≤ gridOf h → gridOf h ≤ k → at + 5 ≤ length log → (a : Bool) → eqb (be4 log (at + 1)) (gridOf h) ≡ a
+          → Kind log (at-phase (Body h k)) (cond a (handedOut (Cmd.End (gridOf h)) (at + 5) Ended) (turnedAway at 17 at))
+      go t l m f true g = end h k refl t (omega arith) e f (eqb-true _ _ g)
+      go t l m f false g = away log at (Body h k) inside 17 (omega arith) (omega arith)
+  end-kind Ended s e = away log at Ended inside 14 (omega arith) (omega arith)
+  end-kind Over s e = away log at Over inside 14 (omega arith) (omega arith)
+
+  command-kind : (phase : Phase) → phaseOk phase ≡ true → Kind log (at-phase phase) (commandAt log at phase)
+  unfolding commandAt byCommand
+  command-kind phase s =
+      go (leb (length log) at) (eqb (getD log at 0) 1) refl (eqb (getD log at 0) 2) refl (eqb (getD log at 0) 3) refl (eqb (getD log at 0) 4) refl
+    where
+      go : (t b1 : Bool) → eqb (getD log at 0) 1 ≡ b1 → (b2 : Bool) → eqb (getD log at 0) 2 ≡ b2 → (b3 : Bool) → eqb (getD log at 0) 3 ≡ b3
+          → (b4 : Bool) → eqb (getD log at 0) 4 ≡ b4
+          → Kind log (at-phase phase)
+          (cond t (turnedAway at 13 at)
+          (cond b1 (headAt log at phase)
+          (cond b2 (blockAt log at phase)
+          (cond b3 (stillAt log at phase)
+          (cond b4 (endAt log at phase) (turnedAway at 14 at))))))
+      go true b1 e1 b2 e2 b3 e3 b4 e4 = away log at phase inside 13 (omega arith) (omega arith)
+      go false true e1 b2 e2 b3 e3 b4 e4 = head-kind phase (eqb-true _ _ e1)
+      go false false e1 true e2 b3 e3 b4 e4 = block-kind phase s (eqb-true _ _ e2)
+      go false false e1 false e2 true e3 b4 e4 = still-kind phase s (eqb-true _ _ e3)
+      go false false e1 false e2 false e3 true e4 = end-kind phase s (eqb-true _ _ e4)
+      go false false e1 false e2 false e3 false e4 = away log at phase inside 14 (omega arith) (omega arith)
+
+  -- 34, for what the phase says
+  no-more : (phase : Phase) → NoMore log (at-phase phase) → Kind log (at-phase phase) (turnedAway at 34 0)
+  no-more phase n = refused 34 0 (omega arith) (omega arith) (record { least = omega arith; over = λ e. (refl, n) })
+
+  phase-kind : (phase : Phase) → Kind log (at-phase phase) (byPhase log at phase)
+  phase-kind Start = command-kind Start refl
+  phase-kind (Body h k) = go (standingOk h k) refl
+    where
+      go : (a : Bool) → standingOk h k ≡ a → Kind log (at-phase (Body h k)) (cond a (commandAt log at (Body h k)) (turnedAway at 34 0))
+      go true e = command-kind (Body h k) e
+      go false e = no-more (Body h k) (unsound e)
+  phase-kind Ended = go (ltb at (length log)) refl
+    where
+      go : (a : Bool) → ltb at (length log) ≡ a → Kind log (at-phase Ended) (cond a (turnedAway at 18 at) (turnedAway at 34 0))
+      go true e = away log at Ended inside 18 (omega arith) (omega arith)
+      go false e = no-more Ended (ended refl (ltb-false _ _ e))
+  phase-kind Over = no-more Over (over refl)
+
+pub kinds : (log : List ℕ) (c : Cursor) → Kind log c (stepAt log c)
+unfolding stepAt
+kinds log c = go (ltb (length log) (c .at)) refl
+  where
+    go : (a : Bool) → ltb (length log) (c .at) ≡ a → Kind log c (cond a (turnedAway (c .at) 34 0) (byPhase log (c .at) (c .phase)))
+    go true e = refused 34 0 (omega arith) (omega arith) (record { least = omega arith; over = λ q. (refl, past (ltb-true _ _ e)) })
+    go false e = phase-kind log (c .at) (ltb-false _ _ e) (c .phase)
