@@ -6,8 +6,8 @@
  *
  * Every call takes any input whatever. It keeps no pointer and holds no state, so it may be called from several threads. A frame
  * is lent as a pointer and its length in bytes, and only read; a list and a table are lent as a pointer and their length in
- * numbers, and filled. A pointer must not be null, not even where the length is 0, and list and table share no byte with each other
- * or with a frame.
+ * numbers, and filled; a log and a buffer as a pointer and their length in bytes. A pointer must not be null, not even where the length
+ * is 0, and memory that is filled shares no byte with any other that is lent.
  *
  * An answer is a struct by value that begins with `refusal`: 0 where the call is accepted, else the number of the first rule that
  * the input or the track breaks, in the order given at the call. All else in a refused answer is 0, but for a track, which is handed
@@ -25,9 +25,18 @@
  *    10  a list shorter than three numbers a grid block
  *    11  a homing place outside -1,000,000 to 1,000,000
  *    12  side neither 0 nor 1
+ *    13  log: the bytes end before the command is complete
+ *    14  log: a command that is unknown or not due
+ *    15  log: a head that 1, 3, 4 or 5 would turn away
+ *    16  log: a block whose vector is no candidate, whose distortion is below 0 or over 255 x N x N, or a still block as command 2
+ *    17  log: an end with another number of blocks
+ *    18  log: bytes after the end
+ *    19  writing a log: a buffer shorter than the log
+ *    20  printing a log: more than 65,536 bytes
  *    31  a step of a track that is not homed
  *    32  a step of a track that has 1,000,000 steps or more
  *    33  the step would lead outside -1,000,000 to 1,000,000
+ *    34  walking a log: a walk that is over, or a cursor that no walk of this log can have
  *
  * Link with libgauge.a (`rt staticlib gauge` writes it to target/staticlib/).
  */
@@ -129,6 +138,64 @@ typedef struct {
  * Tests 1 2 3 4 5 6 9 10 31 32 33. */
 gauge_stepped gauge_step(gauge_track track, const uint8_t *older, size_t older_length, const uint8_t *newer, size_t newer_length,
                          gauge_request request, int32_t *list, size_t list_length, uint32_t *table, size_t table_length);
+
+/* ---- logs: a field, kept as bytes. A head command, a command for each grid block, an end command; see document 01. */
+
+/* A head's numbers. */
+typedef struct {
+    size_t width, height, n, w;
+    uint32_t search;
+} gauge_head;
+
+/* What writing a log answers. */
+typedef struct {
+    uint32_t refusal;
+    size_t place;  /* 16: the block's number, from 0 */
+    size_t length; /* the log's length in bytes */
+} gauge_written;
+
+/* Writes the log of a field into a buffer: head numbers, and a list of three numbers a block as the field call fills it. The buffer past the
+ * log keeps what it held, as all of it does where the call is refused. Tests 1 3 4 5 10 16 19. */
+gauge_written gauge_write_log(gauge_head head, const int32_t *list, size_t list_length, uint8_t *buffer, size_t buffer_length);
+
+/* What reading a log answers. */
+typedef struct {
+    uint32_t refusal;
+    size_t place; /* the byte offset of the command that is refused; 8 for refusal 10 */
+    gauge_head head;
+} gauge_log_read;
+
+/* Reads a whole log into a list, three numbers a block. Nothing is stored before the whole log is accepted; the list past the field keeps what
+ * it held. Tests, command by command, 14 13 15 16 17, 10 right after the head, and 18. */
+gauge_log_read gauge_read_log(const uint8_t *log, size_t log_length, int32_t *list, size_t list_length);
+
+/* Prints a log as text, a line a command until a refusal; for more than 65,536 bytes the line of refusal 20 alone. Puts as much of the text into the
+ * buffer as fits, with no zero byte after it, and answers with the length of the whole text, at most GAUGE_TEXT_MOST. */
+#define GAUGE_TEXT_MOST 393236
+size_t gauge_print_log(const uint8_t *log, size_t log_length, uint8_t *buffer, size_t buffer_length);
+
+/* Where a walk along a log stands. All zeros: at its start. */
+typedef struct {
+    size_t at;       /* the offset of the next command */
+    uint32_t phase;  /* 0 before the head, 1 among the blocks, 2 after the end, any other number after a refusal */
+    gauge_head head; /* among the blocks: the head's numbers */
+    size_t blocks;   /* and how many blocks were read */
+} gauge_cursor;
+
+/* What one call of a walk answers. */
+typedef struct {
+    uint32_t refusal;
+    size_t place;        /* a refusal's place */
+    uint32_t command;    /* 1 head, 2 block, 3 still block, 4 end; 0 where refused */
+    gauge_head head;     /* of a head */
+    int32_t dy, dx;      /* of a block */
+    uint32_t distortion;
+    size_t blocks;       /* of an end */
+    gauge_cursor next;   /* where the walk then stands */
+} gauge_walked;
+
+/* Hands out the command at a cursor, and the cursor to go on with. Tests 34, then 14 13 15 16 17; after the end 18 or 34. */
+gauge_walked gauge_walk(const uint8_t *log, size_t log_length, gauge_cursor cursor);
 
 #ifdef __cplusplus
 }

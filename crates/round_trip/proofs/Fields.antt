@@ -11,11 +11,11 @@ use lib.Seq.{take-add}
 use Rattle.base.specs.Lists.{listTo, listTo-ext}
 use Rattle.base.specs.Tests.{and-left, and-right, T-true, true-T}
 use Rattle.signed.specs.Int.{same, eqZ, eq-yes}
-use Rattle.log.specs.declared.Head.{Head}
+use Rattle.heads.specs.declared.Head.{Head}
 use Rattle.log.specs.declared.Command.{Command}
 use Rattle.log.specs.declared.Command.the-variants as Cmd
 use Rattle.log.specs.Commands.{commandBytes, blockValues}
-use Rattle.log.specs.Heads.{headRefusal, gridOf, isStill}
+use Rattle.heads.specs.Heads.{headRefusal, gridOf, isStill}
 use Rattle.log.specs.Logs.{valueOf, blockCommand, logCommands, logOf}
 use Rattle.log.specs.Walk.{lastOf}
 use Rattle.log_writing.specs.Writing.{listedOk}

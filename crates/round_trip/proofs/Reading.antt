@@ -11,7 +11,7 @@ use lib.IntN.{ℤ}
 use lib.ListN.{length, drop}
 use Rattle.log.specs.declared.Command.the-variants as Cmd
 use Rattle.log.specs.Commands.{commandNumber, isRefused}
-use Rattle.log.specs.Heads.{gridOf}
+use Rattle.heads.specs.Heads.{gridOf}
 use Rattle.log.specs.Step.{headIn, stepAt, startCursor}
 use Rattle.log.specs.Walk.{walk, lastOf}
 use Rattle.log_reading.specs.declared.LogRead.{LogRead}

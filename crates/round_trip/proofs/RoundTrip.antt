@@ -9,10 +9,10 @@ use lib.IntN.{ℤ}
 use lib.ListN.{length, take, drop, length-append}
 use lib.Seq.{take-append-seam, length-take-le}
 use Rattle.base.specs.Lists.{Each}
-use Rattle.log.specs.declared.Head.{Head}
+use Rattle.heads.specs.declared.Head.{Head}
 use Rattle.log.specs.declared.Command.the-variants as Cmd
 use Rattle.log.specs.Commands.{commandNumber, commandBytes}
-use Rattle.log.specs.Heads.{gridOf}
+use Rattle.heads.specs.Heads.{gridOf}
 use Rattle.log.specs.Logs.{logCommands, logOf}
 use Rattle.log.specs.Step.{headIn}
 use Rattle.log.specs.Walk.{walk, lastOf}

@@ -11,8 +11,8 @@ use lib.Dec.{leb, ltb, eqb, leb→le}
 use lib.IntN.{ℤ}
 use lib.ListN.{length, drop}
 use Rattle.frame.specs.Refusals.{unless, unless-zero, first-zero, first-none}
-use Rattle.log.specs.declared.Head.{Head}
-use Rattle.log.specs.Heads.{headRefusal, gridOf}
+use Rattle.heads.specs.declared.Head.{Head}
+use Rattle.heads.specs.Heads.{headRefusal, gridOf}
 use Rattle.log.specs.Logs.{logOf}
 use Rattle.log_writing.specs.Writing.{listRefusal, listedOk, firstWrong, Writing, asWriting, refusedWrite, wroteListed, wrote}
 

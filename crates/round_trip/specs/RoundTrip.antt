@@ -11,11 +11,11 @@ use mathlib.Core.List.{List, [], _∷_, _++_}
 use lib.IntN.{ℤ}
 use lib.ListN.{length, take, drop}
 use Rattle.base.specs.Lists.{Each}
-use Rattle.log.specs.declared.Head.{Head}
+use Rattle.heads.specs.declared.Head.{Head}
 use Rattle.log.specs.declared.Cursor.{Cursor}
 use Rattle.log.specs.declared.Command.the-variants as Cmd
 use Rattle.log.specs.Commands.{commandNumber, isRefused}
-use Rattle.log.specs.Heads.{gridOf}
+use Rattle.heads.specs.Heads.{gridOf}
 use Rattle.log.specs.Logs.{logCommands, logOf}
 use Rattle.log.specs.Step.{headIn, stepAt}
 use Rattle.log.specs.Walk.{commandsFrom, walk, lastOf}

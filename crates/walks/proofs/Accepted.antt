@@ -12,7 +12,7 @@ use native.Mathlib.Omega.{arith}
 use borrow.Author.Tests.{le-leb, eq-eqb}
 use lib.IntN.{pos}
 use lib.ListN.{length, getD}
-use Rattle.log.specs.declared.Head.{Head}
+use Rattle.heads.specs.declared.Head.{Head}
 use Rattle.log.specs.declared.Phase.the-variants.{Body, Ended}
 use Rattle.log.specs.declared.Cursor.{Cursor}
 use Rattle.log.specs.declared.Command.{Command}
@@ -20,7 +20,7 @@ use Rattle.log.specs.declared.Command.the-variants as Cmd
 use Rattle.log.specs.declared.Stepped.{Stepped}
 use Rattle.log.specs.Numbers.{be4}
 use Rattle.log.specs.Commands.{commandNumber, isRefused, blockValues}
-use Rattle.log.specs.Heads.{headRefusal, gridOf, entryOk, isStill}
+use Rattle.heads.specs.Heads.{headRefusal, gridOf, entryOk, isStill}
 use Rattle.log.specs.Step.{headIn, standingOk, stepAt, startCursor}
 use Rattle.log.specs.Walk.{commandsFrom, walk, lastOf}
 use Rattle.walks.specs.Cases.{dyAt, dxAt, distortionAt, NoMore, past, unsound, ended, over, Kind, kinds}

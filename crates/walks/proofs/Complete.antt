@@ -7,13 +7,13 @@ use native.Mathlib.Omega.{arith}
 use lib.IntN.{ℤ}
 use lib.ListN.{length, drop, length-drop}
 use Rattle.base.specs.Lists.{listTo}
-use Rattle.log.specs.declared.Head.{Head}
+use Rattle.heads.specs.declared.Head.{Head}
 use Rattle.log.specs.declared.Phase.the-variants.{Body, Ended}
 use Rattle.log.specs.declared.Cursor.{Cursor}
 use Rattle.log.specs.declared.Command.{Command}
 use Rattle.log.specs.declared.Command.the-variants as Cmd
 use Rattle.log.specs.Commands.{commandBytes, isRefused}
-use Rattle.log.specs.Heads.{headRefusal, gridOf, entryOk}
+use Rattle.heads.specs.Heads.{headRefusal, gridOf, entryOk}
 use Rattle.log.specs.Logs.{valueOf, blockCommand, logCommands, logOf}
 use Rattle.log.specs.Step.{handedOut, turnedAway, stepAt, startCursor}
 use Rattle.log.specs.Walk.{commandsFrom, walk}

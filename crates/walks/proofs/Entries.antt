@@ -11,10 +11,10 @@ use Rattle.base.specs.Tests.{T-true}
 use Rattle.frame.specs.Grid.{blockRow, blockColumn, block-down, block-across}
 use Rattle.frame.specs.Candidates.{candidate, still-candidate}
 use Rattle.order.specs.Vectors.{vec}
-use Rattle.log.specs.declared.Head.{Head}
+use Rattle.heads.specs.declared.Head.{Head}
 use Rattle.log.specs.declared.Command.{Command}
 use Rattle.log.specs.Commands.{commandNumber, blockValues}
-use Rattle.log.specs.Heads.{sizesIn, headRefusal, headed, gridOf, entryOk}
+use Rattle.heads.specs.Heads.{sizesIn, headRefusal, headed, gridOf, entryOk}
 use Rattle.log.specs.Logs.{valueOf}
 use Rattle.log.specs.Step.{headIn}
 use Rattle.log.specs.Walk.{walk, lastOf}

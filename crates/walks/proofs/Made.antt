@@ -7,7 +7,7 @@ use lib.IntN.{ℤ}
 use Rattle.signed.specs.Int.{up}
 use Rattle.log.specs.declared.Command.{Command}
 use Rattle.log.specs.declared.Command.the-variants as Cmd
-use Rattle.log.specs.Heads.{isStill}
+use Rattle.heads.specs.Heads.{isStill}
 use Rattle.log.specs.Logs.{valueOf, blockCommand}
 
 pub data Made (dy dx z : ℤ) : Command → Type 0 where

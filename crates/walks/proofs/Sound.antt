@@ -7,12 +7,12 @@ use lib.ListN.{getD, drop}
 use lib.Seq.{drop-length}
 use Rattle.base.specs.Lists.{listTo}
 use Rattle.signed.specs.Values.{byte-of-signed}
-use Rattle.log.specs.declared.Head.{Head}
+use Rattle.heads.specs.declared.Head.{Head}
 use Rattle.log.specs.declared.Command.{Command}
 use Rattle.log.specs.declared.Command.the-variants as Cmd
 use Rattle.log.specs.Numbers.{be4}
 use Rattle.log.specs.Commands.{commandNumber, commandBytes}
-use Rattle.log.specs.Heads.{gridOf}
+use Rattle.heads.specs.Heads.{gridOf}
 use Rattle.log.specs.Step.{headIn}
 use Rattle.log.specs.Walk.{walk, lastOf}
 use Rattle.walks.specs.Cases.{dyAt, dxAt, distortionAt}

@@ -16,13 +16,13 @@ use Rattle.signed.specs.Values.{signed-byte-of}
 use Rattle.order.specs.Vectors.{vec}
 use Rattle.frame.specs.Grid.{blockRow, blockColumn}
 use Rattle.frame.specs.Candidates.{candidate, candidate-yes}
-use Rattle.log.specs.declared.Head.{Head}
+use Rattle.heads.specs.declared.Head.{Head}
 use Rattle.log.specs.declared.Phase.the-variants.{Body, Ended}
 use Rattle.log.specs.declared.Cursor.{Cursor}
 use Rattle.log.specs.declared.Command.the-variants as Cmd
 use Rattle.log.specs.Numbers.{be2, be4}
 use Rattle.log.specs.Commands.{commandBytes}
-use Rattle.log.specs.Heads.{sizesIn, headRefusal, gridOf, distortionOk, entryOk, isStill, headed}
+use Rattle.heads.specs.Heads.{sizesIn, headRefusal, gridOf, distortionOk, entryOk, isStill, headed}
 use Rattle.log.specs.Step.{turnedAway, handedOut, judged, headIn, headTaken, blockTaken, endTaken, byCommand, commandAt, standingOk, stepAt, startCursor}
 
 -- ---- a log that goes on with some bytes at an offset

@@ -6,11 +6,11 @@ use mathlib.Core.List.{List, [], _∷_, _++_, flatMap, append-assoc}
 use native.Mathlib.Omega.{arith}
 use lib.IntN.{ℤ, pos}
 use Rattle.base.specs.Lists.{listTo, listTo-ext}
-use Rattle.log.specs.declared.Head.{Head}
+use Rattle.heads.specs.declared.Head.{Head}
 use Rattle.log.specs.declared.Command.{Command}
 use Rattle.log.specs.declared.Command.the-variants as Cmd
 use Rattle.log.specs.Commands.{commandNumber, blockValues}
-use Rattle.log.specs.Heads.{gridOf, isStill}
+use Rattle.heads.specs.Heads.{gridOf, isStill}
 use Rattle.log.specs.Logs.{valueOf, blockCommand, logCommands}
 use Rattle.log.specs.Step.{headIn}
 use Rattle.log.specs.Walk.{walk, lastOf}

@@ -14,14 +14,14 @@ use lib.Dec.{leb, ltb, eqb}
 use lib.IntN.{ℤ, pos}
 use borrow.Author.Tests.{ltb-true, ltb-false, leb-true, eqb-true}
 use Rattle.signed.specs.Values.{signedByte}
-use Rattle.log.specs.declared.Head.{Head}
+use Rattle.heads.specs.declared.Head.{Head}
 use Rattle.log.specs.declared.Phase.{Phase}
 use Rattle.log.specs.declared.Phase.the-variants.{Start, Body, Ended, Over}
 use Rattle.log.specs.declared.Cursor.{Cursor}
 use Rattle.log.specs.declared.Command.the-variants as Cmd
 use Rattle.log.specs.declared.Stepped.{Stepped}
 use Rattle.log.specs.Numbers.{be2, be4}
-use Rattle.log.specs.Heads.{headRefusal, headOk, gridOf, entryOk, isStill}
+use Rattle.heads.specs.Heads.{headRefusal, headOk, gridOf, entryOk, isStill}
 use Rattle.log.specs.Step.{turnedAway, handedOut, judged, headIn, headTaken, headAt, blockTaken, blockAt, stillAt, endTaken, endAt, byCommand, commandAt, standingOk, phaseOk, byPhase, stepAt}
 
 abbrev pub dyAt : List ℕ → ℕ → ℤ
