@@ -1,1 +1,173 @@
 // The text of a log: all that the program prints, put into a lent buffer. A byte past the buffer's end is counted and not put.
+
+ghost use mathlib.Core.Path.{_≡_};
+ghost use mathlib.Core.List.{flatMap};
+ghost use Prim.Native.Nat.{_+_, _≤_, _<_};
+ghost use lib.ListN.{length};
+ghost use lib.IntN.{pos};
+ghost use Rattle.put.specs.Put.{Put, over};
+ghost use Rattle.log.specs.declared.Command.the-variants as Cmd;
+ghost use Rattle.log.specs.Walk.{walk};
+ghost use Rattle.log_text.specs.Text.{digits, decimal, number, worded, lineOf, printed};
+use heads::Head;
+use log::Command;
+
+// The byte of a digit.
+fn digit(n: usize) -> u8
+    requires { ⌜ n < 10 ⌝ }
+    ensures { λ r. ⌜ r ≡ 48 + n ⌝ }
+{
+    48 + n as u8
+}
+
+// The decimal digits of n, at most so many.
+fn put_digits(out: &mut [u8], at: usize, n: usize, most: usize) -> usize
+    requires { ⌜ (at + most ≤ 1000001020) × (most ≤ 20) ⌝ }
+    ensures { λ r. ⌜ Put (now (out .entry)) at (digits most n) (now (out .exit)) r ⌝ }
+{
+    if most == 0 {
+        return at;
+    }
+    if n < 10 {
+        return put::put_byte(out, at, digit(n));
+    }
+    let k = put_digits(out, at, n / 10, most - 1);
+    put::put_byte(out, k, digit(n % 10))
+}
+
+// The decimal digits of n. Most numbers of a log have one.
+fn put_number(out: &mut [u8], at: usize, n: usize) -> usize
+    requires { ⌜ at ≤ 1000001000 ⌝ }
+    ensures { λ r. ⌜ Put (now (out .entry)) at (decimal n) (now (out .exit)) r ⌝ }
+{
+    if n < 10 {
+        return put::put_byte(out, at, digit(n));
+    }
+    put_digits(out, at, n, 20)
+}
+
+// A number, and the byte after it.
+fn put_field(out: &mut [u8], at: usize, n: usize, after: u8) -> usize
+    requires { ⌜ at ≤ 1000001000 ⌝ }
+    ensures { λ r. ⌜ (Put (now (out .entry)) at (number (pos n) after) (now (out .exit)) r) × (r ≤ at + 21) ⌝ }
+{
+    let k = put_number(out, at, n);
+    put::put_byte(out, k, after)
+}
+
+// A word.
+fn put_word(out: &mut [u8], at: usize, word: &[u8]) -> usize
+    requires { ⌜ (at ≤ 1000001000) × (length (now word) ≤ 8) ⌝ }
+    ensures { λ r. ⌜ (Put (now (out .entry)) at (now (word .entry)) (now (out .exit)) r) × (r ≤ at + 8) ⌝ }
+{
+    let mut k = at;
+    let mut i = 0;
+    while i < word.len() {
+        k = put::put_byte(out, k, word[i]);
+        i += 1;
+    }
+    k
+}
+
+// A signed number, and the byte after it.
+fn put_signed(out: &mut [u8], at: usize, z: i32, after: u8) -> usize
+    requires { ⌜ at ≤ 1000000900 ⌝ }
+    ensures { λ r. ⌜ (Put (now (out .entry)) at (number z after) (now (out .exit)) r) × (r ≤ at + 22) ⌝ }
+{
+    let n = signed::magnitude(z) as usize;
+    if z < 0 {
+        let k = put::put_byte(out, at, b'-');
+        return put_field(out, k, n, after);
+    }
+    put_field(out, at, n, after)
+}
+
+fn put_head(out: &mut [u8], at: usize, h: Head) -> usize
+    requires { ⌜ at ≤ 1000000000 ⌝ }
+    ensures { λ r. ⌜ (Put (now (out .entry)) at (worded (Cmd.Head h)) (now (out .exit)) r) × (r ≤ at + 105) ⌝ }
+{
+    let a = put_field(out, at, h.width, b' ');
+    let b = put_field(out, a, h.height, b' ');
+    let c = put_field(out, b, h.n, b' ');
+    let d = put_field(out, c, h.w, b' ');
+    put_field(out, d, h.search as usize, b'\n')
+}
+
+fn put_block(out: &mut [u8], at: usize, dy: i32, dx: i32, distortion: u32) -> usize
+    requires { ⌜ at ≤ 1000000000 ⌝ }
+    ensures { λ r. ⌜ (Put (now (out .entry)) at (worded (Cmd.Block dy dx distortion)) (now (out .exit)) r) × (r ≤ at + 65) ⌝ }
+{
+    let a = put_signed(out, at, dy, b' ');
+    let b = put_signed(out, a, dx, b' ');
+    put_field(out, b, distortion as usize, b'\n')
+}
+
+fn put_end(out: &mut [u8], at: usize, blocks: usize) -> usize
+    requires { ⌜ at ≤ 1000000000 ⌝ }
+    ensures { λ r. ⌜ (Put (now (out .entry)) at (worded (Cmd.End blocks)) (now (out .exit)) r) × (r ≤ at + 29) ⌝ }
+{
+    let a = put_word(out, at, b"end ");
+    put_field(out, a, blocks, b'\n')
+}
+
+fn put_refused(out: &mut [u8], at: usize, refusal: u32, place: usize) -> usize
+    requires { ⌜ at ≤ 1000000000 ⌝ }
+    ensures { λ r. ⌜ (Put (now (out .entry)) at (worded (Cmd.Refused refusal place)) (now (out .exit)) r) × (r ≤ at + 58) ⌝ }
+{
+    let a = put_word(out, at, b"refused ");
+    let b = put_field(out, a, refusal as usize, b' ');
+    let c = put_word(out, b, b"at ");
+    put_field(out, c, place, b'\n')
+}
+
+// The line of a command.
+fn put_line(out: &mut [u8], at: usize, command: Command) -> usize
+    requires { ⌜ at ≤ 1000000000 ⌝ }
+    ensures { λ r. ⌜ (Put (now (out .entry)) at (lineOf command) (now (out .exit)) r) × (r ≤ at + 128) ⌝ }
+{
+    match command {
+        Command::Head(h) => put_head(out, at, h),
+        Command::Block { dy, dx, distortion } => put_block(out, at, dy, dx, distortion),
+        Command::Still => put_word(out, at, b"0 0 0\n"),
+        Command::End(blocks) => put_end(out, at, blocks),
+        Command::Refused { number, place } => {
+            if number == 34 {
+                at
+            } else {
+                put_refused(out, at, number, place)
+            }
+        }
+    }
+}
+
+// The lines of a walk, from the buffer's start.
+fn put_walk(log: &[u8], out: &mut [u8]) -> usize
+    requires { ⌜ length (now log) ≤ 65536 ⌝ }
+    ensures { λ r. ⌜ Put (now (out .entry)) 0 (flatMap lineOf (walk (now (log .entry)))) (now (out .exit)) r ⌝ }
+{
+    let mut cursor = log::start();
+    let mut at = 0;
+    let mut calls = log.len() + 1;
+    while calls > 0 {
+        let s = log::step_at(log, cursor);
+        let command = s.command;
+        let next = s.next;
+        at = put_line(out, at, command);
+        if log::is_refused(command) {
+            return at;
+        }
+        cursor = next;
+        calls -= 1;
+    }
+    at
+}
+
+// All that the program prints for the bytes of a log, over the front of the buffer as far as it fits. Answers with the text's length.
+pub fn print_log(log: &[u8], out: &mut [u8]) -> usize
+    ensures { λ r. ⌜ (now (out .exit) ≡ over (printed (now (log .entry))) (now (out .entry))) × (r ≡ length (printed (now (log .entry)))) × (r ≤ 393236) ⌝ }
+{
+    if log.len() > 65536 {
+        return put_refused(out, 0, 20, 65536);
+    }
+    put_walk(log, out)
+}
