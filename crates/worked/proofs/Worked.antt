@@ -1,11 +1,11 @@
 -- The table of 01's worked pairs holds: every answer is computed from the definitions, and is the one owed. The computing goes by the laws of
 -- Once.antt, which give the same answers in a form that is quick to compute.
 use mathlib.Core.Path.{_≡_, refl, ap, _∙_}
-use mathlib.Core.List.{List, [], _∷_}
+use mathlib.Core.List.{List, [], _∷_, flatMap}
 use Rattle.base.specs.Sum.{sumTo}
 use Rattle.base.specs.Lists.{Each, none, more, listTo, concatTo}
 use Rattle.base.specs.Least.{leastFrom, leastOf}
-use Rattle.signed.specs.Values.{movedBy}
+use Rattle.signed.specs.Values.{movedBy, signedByte, byteOf}
 use Rattle.order.specs.Preference.{preference}
 use Rattle.frame.specs.Grid.{rows, columns, blocks, blockRow, blockColumn}
 use Rattle.frame.specs.Candidates.{candidate}
@@ -25,7 +25,15 @@ use Rattle.block.specs.Block.{searchRefusal}
 use Rattle.reading.specs.Reading.{votes}
 use Rattle.field.specs.Field.{fieldRefusal, entries, tableOf}
 use Rattle.track.specs.Track.{newTrack, homed, stepRefusal, arrived}
-use Rattle.worked.specs.Table.{pairA, pairB, pairC, pairD, Call, search, measure, distance, field, travelling, calls}
+use Rattle.heads.specs.Heads.{headRefusal, entryOk, isStill}
+use Rattle.log.specs.Numbers.{be2, be4}
+use Rattle.log.specs.Step.{judged, headIn, headTaken, blockTaken, endTaken, standingOk, byCommand, commandAt, stepAt}
+use Rattle.log.specs.Walk.{commandsFrom, walk as logWalk, lastOf}
+use Rattle.log.specs.Logs.{blockCommand, logCommands, logOf}
+use Rattle.log_writing.specs.Writing.{listRefusal, firstWrong, wroteListed, wrote}
+use Rattle.log_reading.specs.Reading.{fieldOf, logRead, readInto}
+use Rattle.log_text.specs.Text.{digits, number, spaced, endWord, refusedWord, atWord, worded, printed}
+use Rattle.worked.specs.Table.{pairA, pairB, pairC, pairD, Call, search, measure, distance, field, travelling, calls, writing, reading, walking, printing}
 use Rattle.worked.specs.Table.{Answer, found, filled, travels, results, answer, Row, Right, table}
 use Rattle.worked.proofs.Places.{walk, after}
 use Rattle.worked.proofs.Alike.{every, alike}
@@ -39,6 +47,10 @@ answerOnce (distance p m) = answer (distance p m)
 answerOnce (field p q list table) = filled (fieldOnce (p .older) (p .newer) (q p) list table)
 answerOnce (travelling p w) = travels (travelOnce p w)
 answerOnce (calls cs) = results (runOnce newTrack cs)
+answerOnce (writing h list buffer) = answer (writing h list buffer)
+answerOnce (reading log list) = answer (reading log list)
+answerOnce (walking log) = answer (walking log)
+answerOnce (printing log) = answer (printing log)
 
 answer-once : (c : Call) → answer c ≡ answerOnce c
 answer-once (search p q y x) = ap found (block-once (p .older) (p .newer) (q p) y x)
@@ -47,6 +59,10 @@ answer-once (distance p m) = refl
 answer-once (field p q list table) = ap filled (field-once (p .older) (p .newer) (q p) list table)
 answer-once (travelling p w) = ap travels (travel-once p w)
 answer-once (calls cs) = ap results (run-once newTrack cs)
+answer-once (writing h list buffer) = refl
+answer-once (reading log list) = refl
+answer-once (walking log) = refl
+answer-once (printing log) = refl
 
 abbrev answers : List Row → List Answer
 answers [] = []
@@ -73,6 +89,9 @@ unfolding
     searchRefusal walk after
     rows columns blocks blockRow blockColumn listTo concatTo summed fieldRefusal entries tableOf votes every alike
     movedBy homed stepRefusal arrived
+    signedByte byteOf headRefusal entryOk isStill be2 be4 judged headIn headTaken blockTaken endTaken standingOk byCommand commandAt stepAt
+    commandsFrom logWalk lastOf blockCommand logCommands logOf flatMap
+    listRefusal firstWrong wroteListed wrote fieldOf logRead readInto digits number spaced endWord refusedWord atWord worded printed
 computed = refl
 
 pub worked : Each Right table

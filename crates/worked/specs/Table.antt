@@ -1,10 +1,12 @@
 -- 01, "Worked pairs": "Marked * belong to the proved set", and "For the reviewer": "Starred pairs: one joint table, one proof over it." Here
--- stand A to H, all but their logs. A row has what is asked of a pair and the answer that 01 gives; it is right if the definitions that the
+-- stand A to I. A row has what is asked of a pair and the answer that 01 gives; it is right if the definitions that the
 -- contracts cite give that answer.
 --   pairA, pairB, pairC, pairD   the frames with their sizes; E and F have C's, G and H have B's
 --   full, pruned, fourStep, cross   what a search of a pair is asked
---   heldList, heldTable   what lent memory held
---   Call     what is asked: a search of one block, the measuring call, a distance, a field, a travel, or calls on a track
+--   headOf, logB, logC   a head by search 2 with w 1; the logs of B and C
+--   heldList, heldTable, heldBuffer   what lent memory held
+--   Call     what is asked: a search of one block, the measuring call, a distance, a field, a travel, calls on a track, or a log that is written, read,
+--            walked or printed
 --   answer   the answer by the definitions
 --   Row      what is asked, and the answer that 01 gives; Right: they agree
 --   table    the rows; the proof over them: proofs/Worked.antt
@@ -13,7 +15,7 @@ use mathlib.Core.Path.{_≡_}
 use mathlib.Core.Bool.{true}
 use mathlib.Core.List.{List, [], _∷_, _++_}
 use lib.IntN.{ℤ, pos, negℤ}
-use lib.ListN.{replicate}
+use lib.ListN.{length, replicate}
 use Rattle.base.specs.Lists.{concatTo}
 use Rattle.order.specs.declared.Vector.{Vector}
 use Rattle.order.specs.Vectors.{vec}
@@ -31,6 +33,13 @@ use Rattle.field.specs.declared.FieldAnswer.{FieldAnswer}
 use Rattle.field.specs.Field.{asked, refusedField, Fielded, asFielded, fielded}
 use Rattle.track.specs.declared.Track.{Track}
 use Rattle.track.specs.Track.{homedAt, asStepping}
+use Rattle.heads.specs.declared.Head.{Head}
+use Rattle.log.specs.declared.Command.{Command}
+use Rattle.log.specs.declared.Command.the-variants as Cmd
+use Rattle.log.specs.Walk.{walk}
+use Rattle.log_writing.specs.Writing.{Writing, asWriting, wrote}
+use Rattle.log_reading.specs.Reading.{Reading, asReading, refusedRead, acceptedRead, readInto}
+use Rattle.log_text.specs.Text.{printed}
 use Rattle.promise.specs.Demand.{Call as TrackCall, Result, travel, run}
 use Rattle.promise.specs.Demand.Call.{home, step}
 use Rattle.promise.specs.Demand.Result.{homing, stepping}
@@ -80,8 +89,11 @@ heldList n = replicate n (pos 5)
 abbrev pub heldTable : ℕ → List ℕ
 heldTable n = replicate n 6
 
+abbrev pub heldBuffer : ℕ → List ℕ
+heldBuffer n = replicate n 8
+
 -- a search of the block at row y, column x; a vector of the block at (0,0) measured; the distance at m of the two blocks at (0,0); a field with
--- what list and table held; a travel by window w; calls on a track, from New on
+-- what list and table held; a travel by window w; calls on a track, from New on; a log written into a buffer, read into a list, walked, printed
 pub data Call : Type 0 where
   search : Pair → (Pair → Request) → (y x : ℕ) → Call
   measure : Pair → Vector → Call
@@ -89,6 +101,10 @@ pub data Call : Type 0 where
   field : Pair → (Pair → Request) → List ℤ → List ℕ → Call
   travelling : Pair → (w : ℕ) → Call
   calls : List TrackCall → Call
+  writing : Head → List ℤ → List ℕ → Call
+  reading : List ℕ → List ℤ → Call
+  walking : List ℕ → Call
+  printing : List ℕ → Call
 
 -- ---- what is answered
 
@@ -99,6 +115,10 @@ pub data Answer : Type 0 where
   filled : Fielded → Answer
   travels : Vector → Answer
   results : List Result → Answer
+  written : Writing → Answer
+  read : Reading → Answer
+  commands : List Command → Answer
+  text : List ℕ → Answer
 
 -- by the definitions
 abbrev pub answer : Call → Answer
@@ -108,6 +128,10 @@ answer (distance p m) = apart (distanceBy absolute (p .sizes .n) m (newerBlock p
 answer (field p q list table) = filled (fielded (p .older) (p .newer) (q p) list table)
 answer (travelling p w) = travels (travel p w)
 answer (calls cs) = results (run cs)
+answer (writing h list buffer) = written (wrote h list buffer)
+answer (reading log list) = read (readInto log list)
+answer (walking log) = commands (walk log)
+answer (printing log) = text (printed log)
 
 -- as 01 gives them: a vector, its distortion, the five counts and the number dropped
 abbrev pub finds : Vector → ℕ → List ℕ → ℕ → Answer
@@ -186,6 +210,33 @@ homedAndStepped y x t a =
     let second = stepping (asStepping (record { track = t; answer = a }) listB tableB) in
     results (first ∷ second ∷ [])
 
+-- ---- logs: what buffer and list hold, two places longer than the used part
+
+-- the head of a pair searched by search 2 with w 1
+abbrev pub headOf : Pair → Head
+headOf p = record { width = p .sizes .width; height = p .sizes .height; n = p .sizes .n; w = 1; search = 2 }
+
+-- "search 2's log above": `01 00 05 00 04 04 01 02 02 00 01 00 00 04 00 00 00 01`
+abbrev pub logB : List ℕ
+logB = 1 ∷ 0 ∷ 5 ∷ 0 ∷ 4 ∷ 4 ∷ 1 ∷ 2 ∷ 2 ∷ 0 ∷ 1 ∷ 0 ∷ 0 ∷ 4 ∷ 0 ∷ 0 ∷ 0 ∷ 1 ∷ []
+
+-- "5 4 4 1 2", "0 1 0" and "end 1", each line with its end
+abbrev pub textB : List ℕ
+textB =
+    53 ∷ 32 ∷ 52 ∷ 32 ∷ 52 ∷ 32 ∷ 49 ∷ 32 ∷ 50 ∷ 10
+    ∷ 48 ∷ 32 ∷ 49 ∷ 32 ∷ 48 ∷ 10
+    ∷ 101 ∷ 110 ∷ 100 ∷ 32 ∷ 49 ∷ 10 ∷ []
+
+-- `01 00 08 00 08 04 01 02 03 03 03 03 04 00 00 00 04`
+abbrev pub logC : List ℕ
+logC = 1 ∷ 0 ∷ 8 ∷ 0 ∷ 8 ∷ 4 ∷ 1 ∷ 2 ∷ 3 ∷ 3 ∷ 3 ∷ 3 ∷ 4 ∷ 0 ∷ 0 ∷ 0 ∷ 4 ∷ []
+
+abbrev pub writes : List ℕ → Answer
+writes log = written (asWriting (record { refusal = 0; place = 0; length = length log }) (log ++ heldBuffer 2))
+
+abbrev pub readsAs : Head → List ℤ → Answer
+readsAs h list = read (asReading (acceptedRead h) list)
+
 -- ---- the table
 
 pub record Row : Type 0 where
@@ -214,6 +265,11 @@ table =
     ∷ (field pairB (full 1) (heldList 5) (heldTable 32) gives fills (reads vectorB 1 (onlyAtOne 2) 0) listB (heldTable 32))
     ∷ (field pairB (pruned 1) (heldList 5) (heldTable 32) gives fills readsB listB tableB)
     ∷ (travelling pairB 1 gives travels (vec (pos 0) (minus 1)))
+    -- "search 2's log above"
+    ∷ (writing (headOf pairB) listB (heldBuffer 20) gives writes logB)
+    ∷ (reading logB (heldList 5) gives readsAs (headOf pairB) listB)
+    ∷ (walking logB gives commands (Cmd.Head (headOf pairB) ∷ Cmd.Block (pos 0) (pos 1) 0 ∷ Cmd.End 1 ∷ Cmd.Refused 34 0 ∷ []))
+    ∷ (printing logB gives text textB)
     -- C* ".. w 1: four still blocks, full 4 each; pruned sums 0,0,16,16,16"
     ∷ (search pairC (full 1) 0 0 gives stillAfter 4)
     ∷ (search pairC (full 1) 0 4 gives stillAfter 4)
@@ -221,6 +277,11 @@ table =
     ∷ (search pairC (full 1) 4 4 gives stillAfter 4)
     ∷ (field pairC (full 1) (heldList 14) (heldTable 83) gives fills (reads origin 4 (onlyAtOne 16) 0) listC (heldTable 83))
     ∷ (field pairC (pruned 1) (heldList 14) (heldTable 83) gives fills (reads origin 4 (0 ∷ 0 ∷ 16 ∷ 16 ∷ 16 ∷ []) 0) listC tableC)
+    -- "log `01 00 08 00 08 04 01 02 03 03 03 03 04 00 00 00 04`"
+    ∷ (writing (headOf pairC) listC (heldBuffer 19) gives writes logC)
+    ∷ (reading logC (heldList 14) gives readsAs (headOf pairC) listC)
+    ∷ (walking logC
+    gives commands (Cmd.Head (headOf pairC) ∷ Cmd.Still ∷ Cmd.Still ∷ Cmd.Still ∷ Cmd.Still ∷ Cmd.End 4 ∷ Cmd.Refused 34 0 ∷ []))
     -- D* "distances 0 at 4 and 2, distortion 160"
     ∷ (distance pairD 4 gives apart 0)
     ∷ (distance pairD 2 gives apart 0)
@@ -237,4 +298,8 @@ table =
     ∷ (homeAndStep (pos 10) (pos 20) gives homedAndStepped (pos 10) (pos 20) (record { homed = true; y = pos 10; x = pos 19; steps = 1 }) readsB)
     -- H* "home (0,-1000000), step B: 33": the old track, zeros, list and table filled
     ∷ (homeAndStep (pos 0) (minus 1000000) gives homedAndStepped (pos 0) (minus 1000000) (homedAt (pos 0) (minus 1000000)) (refusedField 33))
+    -- I* "empty log: 13 at 0": the list as it was; the line "refused 13 at 0"
+    ∷ (reading [] (heldList 2) gives read (asReading (refusedRead 13 0) (heldList 2)))
+    ∷ (walking [] gives commands (Cmd.Refused 13 0 ∷ []))
+    ∷ (printing [] gives text (114 ∷ 101 ∷ 102 ∷ 117 ∷ 115 ∷ 101 ∷ 100 ∷ 32 ∷ 49 ∷ 51 ∷ 32 ∷ 97 ∷ 116 ∷ 32 ∷ 48 ∷ 10 ∷ []))
     ∷ []
