@@ -10,10 +10,21 @@ ghost use Rattle.distortion.specs.Measured.{measured};
 ghost use Rattle.block.specs.Block.{blockFound};
 ghost use Rattle.field.specs.Field.{asFielded, fielded};
 ghost use Rattle.track.specs.Track.{newTrack, homed, asStepping, stepped};
+ghost use Prim.Native.Nat.{_≤_};
+ghost use Rattle.put.specs.Put.{over};
+ghost use Rattle.log_writing.specs.Writing.{asWriting, wrote};
+ghost use Rattle.log_reading.specs.Reading.{asReading, readInto};
+ghost use Rattle.log_text.specs.Text.{printed};
+ghost use Rattle.plain.specs.Plain.{walkedFrom};
 use distortion::Measured;
 use field::FieldAnswer;
 use frame::Request;
 use frame::Sizes;
+use heads::Head;
+use log_reading::LogRead;
+use log_writing::Written;
+use plain::Place;
+use plain::Walked;
 use search::Found;
 use track::Homed;
 use track::Stepped;
@@ -114,4 +125,36 @@ pub extern "C" fn gauge_step(
     ensures { λ r. ⌜ asStepping r (now (list .exit)) (now (table .exit)) ≡ stepped track (now (older .entry)) (now (newer .entry)) request (now (list .entry)) (now (table .entry)) ⌝ }
 {
     track.step(older, newer, request, list, table)
+}
+
+// Writes the log of a field: head numbers and a list, as bytes in a buffer.
+#[no_mangle]
+pub extern "C" fn gauge_write_log(head: Head, list: &[i32], buffer: &mut [u8]) -> Written
+    ensures { λ r. ⌜ asWriting r (now (buffer .exit)) ≡ wrote head (now (list .entry)) (now (buffer .entry)) ⌝ }
+{
+    log_writing::write_log(head, list, buffer)
+}
+
+// Reads a whole log into a list, and answers with the head's numbers.
+#[no_mangle]
+pub extern "C" fn gauge_read_log(log: &[u8], list: &mut [i32]) -> LogRead
+    ensures { λ r. ⌜ asReading r (now (list .exit)) ≡ readInto (now (log .entry)) (now (list .entry)) ⌝ }
+{
+    log_reading::read_log(log, list)
+}
+
+// Prints a log: the text that the program writes, over the front of a buffer as far as it fits. Answers with the whole text's length.
+#[no_mangle]
+pub extern "C" fn gauge_print_log(log: &[u8], buffer: &mut [u8]) -> usize
+    ensures { λ r. ⌜ (now (buffer .exit) ≡ over (printed (now (log .entry))) (now (buffer .entry))) × (r ≡ length (printed (now (log .entry)))) × (r ≤ 393236) ⌝ }
+{
+    log_text::print_log(log, buffer)
+}
+
+// Walks a log: the command at a cursor, and the cursor to go on with.
+#[no_mangle]
+pub extern "C" fn gauge_walk(log: &[u8], cursor: Place) -> Walked
+    ensures { λ r. ⌜ r ≡ walkedFrom (now (log .entry)) cursor ⌝ }
+{
+    plain::walk_from(log, cursor)
 }
