@@ -1,6 +1,7 @@
 pub mod Sum
 pub mod Index
 pub mod Lists
+pub mod Fronts
 pub mod Rows
 pub mod Tests
 pub mod Least

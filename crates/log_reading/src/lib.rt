@@ -1,6 +1,16 @@
 // Reading a whole log of document 01 into a lent list, three numbers a block. Nothing is stored before the whole log is accepted.
 
+ghost use mathlib.Core.Path.{_≡_};
+ghost use mathlib.Core.List.{[], _∷_, _++_};
+ghost use Prim.Native.Nat.{_+_, _≤_};
+ghost use lib.IntN.{pos};
+ghost use lib.ListN.{length, drop};
+ghost use Rattle.log.specs.Commands.{blockValues};
+ghost use Rattle.log.specs.Walk.{walk, lastOf};
+ghost use Rattle.log_reading.specs.Reading.{fieldOf, refusedRead, refusedBy, logRead, asReading, readInto};
+ghost use Rattle.log_reading.specs.Storing.{Stored, distortionIn};
 use heads::Head;
+use log::Command;
 
 // What reading answers: the head's numbers, or a refusal with its place.
 #[repr(C)]
@@ -8,4 +18,135 @@ pub struct LogRead {
     pub refusal: u32,
     pub place: usize,
     pub head: Head,
+}
+
+fn refused_read(refusal: u32, place: usize) -> LogRead
+    ensures { λ r. ⌜ r ≡ refusedRead refusal place ⌝ }
+{
+    LogRead {
+        refusal,
+        place,
+        head: Head {
+            width: 0,
+            height: 0,
+            n: 0,
+            w: 0,
+            search: 0,
+        },
+    }
+}
+
+fn refused_by(command: Command) -> LogRead
+    ensures { λ r. ⌜ r ≡ refusedBy command ⌝ }
+{
+    refused_read(log::command_number(command), log::place_of(command))
+}
+
+// How a walk along the log ends.
+fn walk_end(log: &[u8]) -> Command
+    ensures { λ r. ⌜ r ≡ lastOf (walk (now (log .entry))) ⌝ }
+{
+    let mut cursor = log::start();
+    let mut last = Command::Refused {
+        number: 34,
+        place: 0,
+    };
+    let mut left = log.len() + 1;
+    while left > 0 {
+        let s = log::step_at(log, cursor);
+        let command = s.command;
+        let next = s.next;
+        if log::is_refused(command) {
+            return command;
+        }
+        last = command;
+        cursor = next;
+        left -= 1;
+    }
+    last
+}
+
+// The answer for a log and a list of so many places.
+fn log_read(log: &[u8], list: usize) -> LogRead
+    ensures { λ r. ⌜ r ≡ logRead (now (log .entry)) list ⌝ }
+{
+    let s = log::step_at(log, log::start());
+    let begun = s.command;
+    if log::is_refused(begun) {
+        return refused_by(begun);
+    }
+    let head = log::head_in(log, 0);
+    if list < 3 * heads::grid(head) {
+        return refused_read(10, 8);
+    }
+    let ended = walk_end(log);
+    if log::command_number(ended) == 34 {
+        return LogRead {
+            refusal: 0,
+            place: 0,
+            head,
+        };
+    }
+    refused_by(ended)
+}
+
+// A block's three numbers, from a place on. Answers with the next place.
+fn store_three(list: &mut [i32], at: usize, dy: i32, dx: i32, distortion: u32) -> usize
+    requires { ⌜ (at + 3 ≤ length (now list)) × (distortion ≤ 65280) ⌝ }
+    ensures { λ r. ⌜ Stored (now (list .entry)) at (dy ∷ dx ∷ pos distortion ∷ []) (now (list .exit)) r ⌝ }
+{
+    list[at] = dy;
+    list[at + 1] = dx;
+    list[at + 2] = distortion as i32;
+    at + 3
+}
+
+// The numbers of a command, if it is a block.
+fn store(list: &mut [i32], at: usize, command: Command) -> usize
+    requires { ⌜ (at + length (blockValues command) ≤ length (now list)) × (distortionIn command ≤ 65280) ⌝ }
+    ensures { λ r. ⌜ Stored (now (list .entry)) at (blockValues command) (now (list .exit)) r ⌝ }
+{
+    match command {
+        Command::Head(_) => at,
+        Command::Block { dy, dx, distortion } => store_three(list, at, dy, dx, distortion),
+        Command::Still => store_three(list, at, 0, 0, 0),
+        Command::End(_) => at,
+        Command::Refused {
+            number: _,
+            place: _,
+        } => at,
+    }
+}
+
+// All blocks of the log.
+fn fill(log: &[u8], list: &mut [i32])
+    requires { ⌜ length (fieldOf (walk (now log))) ≤ length (now list) ⌝ }
+    ensures { λ _. ⌜ now (list .exit) ≡ fieldOf (walk (now (log .entry))) ++ drop (length (fieldOf (walk (now (log .entry))))) (now (list .entry)) ⌝ }
+{
+    let mut cursor = log::start();
+    let mut at: usize = 0;
+    let mut left = log.len() + 1;
+    while left > 0 {
+        let s = log::step_at(log, cursor);
+        let command = s.command;
+        let next = s.next;
+        at = store(list, at, command);
+        if log::is_refused(command) {
+            return;
+        }
+        cursor = next;
+        left -= 1;
+    }
+}
+
+// Reads the whole log into the list.
+pub fn read_log(log: &[u8], list: &mut [i32]) -> LogRead
+    ensures { λ r. ⌜ asReading r (now (list .exit)) ≡ readInto (now (log .entry)) (now (list .entry)) ⌝ }
+{
+    let answer = log_read(log, list.len());
+    if answer.refusal != 0 {
+        return answer;
+    }
+    fill(log, list);
+    answer
 }

@@ -1,9 +1,233 @@
 // Writing a log of document 01: head numbers and a list of three numbers a block, as bytes in a lent buffer.
 
+ghost use mathlib.Core.Path.{_≡_};
+ghost use Prim.Native.Nat.{_+_, _*_, _≤_, _<_};
+ghost use lib.ListN.{length};
+ghost use Rattle.base.specs.Lists.{concatTo};
+ghost use Rattle.put.specs.Put.{Put};
+ghost use Rattle.log.specs.Numbers.{bytes2};
+ghost use Rattle.heads.specs.Heads.{headRefusal, gridOf, isStill};
+ghost use Rattle.log.specs.Logs.{valueOf, logOf};
+ghost use Rattle.log_writing.specs.Writing.{listRefusal, listedOk, firstWrong, asWriting, refusedWrite, wroteListed, wrote};
+ghost use Rattle.log_writing.specs.Parts.{headBytes, numbersBytes, endBytes, blockBytes, Listed, Small, Passed};
+use heads::Head;
+
 // What writing answers: the log's length, or a refusal with its place.
 #[repr(C)]
 pub struct Written {
     pub refusal: u32,
     pub place: usize,
     pub length: usize,
+}
+
+fn refused(refusal: u32, place: usize) -> Written
+    ensures { λ r. ⌜ r ≡ refusedWrite refusal place ⌝ }
+{
+    Written {
+        refusal,
+        place,
+        length: 0,
+    }
+}
+
+// The first of 1 3 4 5 10 that applies, or 0; the list by its length.
+fn list_refusal(head: Head, list: usize) -> u32
+    ensures { λ r. ⌜ r ≡ listRefusal head list ⌝ }
+{
+    let refusal = heads::head_refusal(head);
+    if refusal != 0 {
+        return refusal;
+    }
+    if list < 3 * heads::grid(head) {
+        return 10;
+    }
+    0
+}
+
+// The number at place i of block k's three.
+fn value(list: &[i32], k: usize, i: usize) -> i32
+    requires { ⌜ (3 * k + i < length (now list)) × (k < 1048576) × (i < 3) ⌝ }
+    ensures { λ r. ⌜ r ≡ valueOf (now (list .entry)) k i ⌝ }
+{
+    list[3 * k + i]
+}
+
+// 16 lets block k pass.
+fn listed_ok(head: Head, list: &[i32], k: usize) -> bool
+    requires { ⌜ Listed head (length (now list)) × (k < gridOf head) ⌝ }
+    ensures { λ r. ⌜ r ≡ listedOk head (now (list .entry)) k ⌝ }
+{
+    heads::entry_ok(
+        head,
+        k,
+        value(list, k, 0),
+        value(list, k, 1),
+        value(list, k, 2),
+    )
+}
+
+// The first block that 16 turns away, or the number of blocks.
+fn first_wrong(head: Head, list: &[i32]) -> usize
+    requires { ⌜ Listed head (length (now list)) ⌝ }
+    ensures { λ r. ⌜ r ≡ firstWrong (listedOk head (now (list .entry))) 0 (gridOf head) ⌝ }
+{
+    let n = heads::grid(head);
+    let mut k: usize = 0;
+    while k < n {
+        if !listed_ok(head, list, k) {
+            return k;
+        }
+        k += 1;
+    }
+    k
+}
+
+// Block k is a still block.
+fn still_at(list: &[i32], k: usize) -> bool
+    requires { ⌜ (3 * k + 3 ≤ length (now list)) × (k < 1048576) ⌝ }
+    ensures { λ r. ⌜ r ≡ isStill (valueOf (now (list .entry)) k 0) (valueOf (now (list .entry)) k 1) (valueOf (now (list .entry)) k 2) ⌝ }
+{
+    heads::is_still(value(list, k, 0), value(list, k, 1), value(list, k, 2))
+}
+
+// How many bytes block k takes.
+fn block_size(list: &[i32], k: usize) -> usize
+    requires { ⌜ (3 * k + 3 ≤ length (now list)) × (k < 1048576) ⌝ }
+    ensures { λ r. ⌜ (r ≡ length (blockBytes (now (list .entry)) k)) × (r ≤ 5) ⌝ }
+{
+    if still_at(list, k) {
+        return 1;
+    }
+    5
+}
+
+// How many bytes the log takes.
+fn log_size(head: Head, list: &[i32]) -> usize
+    requires { ⌜ Listed head (length (now list)) ⌝ }
+    ensures { λ r. ⌜ r ≡ length (logOf head (now (list .entry))) ⌝ }
+{
+    let n = heads::grid(head);
+    let mut size: usize = 13;
+    let mut k: usize = 0;
+    while k < n {
+        size += block_size(list, k);
+        k += 1;
+    }
+    size
+}
+
+// A number of two bytes, the higher first.
+fn put_two(out: &mut [u8], at: usize, n: usize) -> usize
+    requires { ⌜ (at < 1000000000000) × (n < 65536) ⌝ }
+    ensures { λ r. ⌜ Put (now (out .entry)) at (bytes2 n) (now (out .exit)) r ⌝ }
+{
+    let low = put::put_byte(out, at, (n / 256) as u8);
+    put::put_byte(out, low, (n % 256) as u8)
+}
+
+// The head, at the buffer's start.
+fn put_head(out: &mut [u8], h: Head) -> usize
+    requires { ⌜ headRefusal h ≡ 0 ⌝ }
+    ensures { λ r. ⌜ Put (now (out .entry)) 0 (headBytes h) (now (out .exit)) r ⌝ }
+{
+    let width = put::put_byte(out, 0, 1);
+    let height = put_two(out, width, h.width);
+    let n = put_two(out, height, h.height);
+    let w = put::put_byte(out, n, h.n as u8);
+    let search = put::put_byte(out, w, h.w as u8);
+    put::put_byte(out, search, h.search as u8)
+}
+
+// A block that is not still.
+fn put_numbers(out: &mut [u8], at: usize, dy: i32, dx: i32, distortion: i32) -> usize
+    requires { ⌜ (at < 100000000000) × Small dy dx distortion ⌝ }
+    ensures { λ r. ⌜ Put (now (out .entry)) at (numbersBytes dy dx distortion) (now (out .exit)) r ⌝ }
+{
+    let a = put::put_byte(out, at, 2);
+    let b = put::put_byte(out, a, signed::to_byte(dy));
+    let c = put::put_byte(out, b, signed::to_byte(dx));
+    put_two(out, c, signed::magnitude(distortion) as usize)
+}
+
+// Block k.
+fn put_block(out: &mut [u8], at: usize, list: &[i32], k: usize) -> usize
+    requires { ⌜ (at < 100000000000) × (3 * k + 3 ≤ length (now list)) × (k < 1048576) ⌝ }
+    requires { ⌜ Small (valueOf (now list) k 0) (valueOf (now list) k 1) (valueOf (now list) k 2) ⌝ }
+    ensures { λ r. ⌜ Put (now (out .entry)) at (blockBytes (now (list .entry)) k) (now (out .exit)) r × (r ≤ at + 5) ⌝ }
+{
+    if still_at(list, k) {
+        return put::put_byte(out, at, 3);
+    }
+    put_numbers(
+        out,
+        at,
+        value(list, k, 0),
+        value(list, k, 1),
+        value(list, k, 2),
+    )
+}
+
+// All blocks.
+fn put_blocks(out: &mut [u8], at: usize, head: Head, list: &[i32]) -> usize
+    requires { ⌜ (at ≤ 8) × Passed head (now list) ⌝ }
+    ensures { λ r. ⌜ Put (now (out .entry)) at (concatTo (blockBytes (now (list .entry))) (gridOf head)) (now (out .exit)) r × (r ≤ 10000000) ⌝ }
+{
+    let n = heads::grid(head);
+    let mut next = at;
+    let mut k: usize = 0;
+    while k < n {
+        next = put_block(out, next, list, k);
+        k += 1;
+    }
+    next
+}
+
+// The end, with the number of blocks.
+fn put_end(out: &mut [u8], at: usize, n: usize) -> usize
+    requires { ⌜ (at ≤ 10000000) × (n ≤ 1048576) ⌝ }
+    ensures { λ r. ⌜ Put (now (out .entry)) at (endBytes n) (now (out .exit)) r ⌝ }
+{
+    let high = put::put_byte(out, at, 4);
+    let low = put_two(out, high, n / 65536);
+    put_two(out, low, n % 65536)
+}
+
+// The log, at the buffer's start. Answers with its length.
+fn put_log(out: &mut [u8], head: Head, list: &[i32]) -> usize
+    requires { ⌜ Passed head (now list) ⌝ }
+    ensures { λ r. ⌜ Put (now (out .entry)) 0 (logOf head (now (list .entry))) (now (out .exit)) r ⌝ }
+{
+    let blocks = put_head(out, head);
+    let end = put_blocks(out, blocks, head, list);
+    put_end(out, end, heads::grid(head))
+}
+
+// Writing once 1 3 4 5 10 are passed.
+fn write_listed(head: Head, list: &[i32], buffer: &mut [u8]) -> Written
+    requires { ⌜ Listed head (length (now list)) ⌝ }
+    ensures { λ r. ⌜ asWriting r (now (buffer .exit)) ≡ wroteListed head (now (list .entry)) (now (buffer .entry)) ⌝ }
+{
+    let wrong = first_wrong(head, list);
+    if wrong < heads::grid(head) {
+        return refused(16, wrong);
+    }
+    if buffer.len() < log_size(head, list) {
+        return refused(19, 0);
+    }
+    Written {
+        refusal: 0,
+        place: 0,
+        length: put_log(buffer, head, list),
+    }
+}
+
+// Writes the log of these head numbers and this list over the front of the buffer.
+pub fn write_log(head: Head, list: &[i32], buffer: &mut [u8]) -> Written
+    ensures { λ r. ⌜ asWriting r (now (buffer .exit)) ≡ wrote head (now (list .entry)) (now (buffer .entry)) ⌝ }
+{
+    let refusal = list_refusal(head, list.len());
+    if refusal != 0 {
+        return refused(refusal, 0);
+    }
+    write_listed(head, list, buffer)
 }

@@ -20,7 +20,7 @@ use Rattle.log.specs.Logs.{valueOf, blockCommand, logCommands, logOf}
 use Rattle.log.specs.Walk.{lastOf}
 use Rattle.log_writing.specs.Writing.{listedOk}
 use Rattle.log_reading.specs.Reading.{fieldOf}
-use Rattle.walks.specs.Fronts.{drop-front, flatMap-append}
+use Rattle.base.specs.Fronts.{drop-front, flatMap-append}
 use Rattle.walks.proofs.Made.{Made, as-still, as-block, made}
 use Rattle.walks.proofs.Steps.{entry}
 

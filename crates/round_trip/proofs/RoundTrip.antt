@@ -18,7 +18,7 @@ use Rattle.log.specs.Step.{headIn}
 use Rattle.log.specs.Walk.{walk, lastOf}
 use Rattle.log_writing.specs.Writing.{asWriting, wrote}
 use Rattle.log_reading.specs.Reading.{fieldOf, acceptedRead, asReading, readInto}
-use Rattle.walks.specs.Fronts.{flatMap-append}
+use Rattle.base.specs.Fronts.{flatMap-append}
 use Rattle.walks.proofs.Ends.{ends-from, over-stays}
 use Rattle.walks.proofs.Accepted.{accepted, field-length}
 use Rattle.walks.proofs.Sound.{sound}

@@ -17,7 +17,7 @@ use Rattle.heads.specs.Heads.{headRefusal, gridOf, entryOk}
 use Rattle.log.specs.Logs.{valueOf, blockCommand, logCommands, logOf}
 use Rattle.log.specs.Step.{handedOut, turnedAway, stepAt, startCursor}
 use Rattle.log.specs.Walk.{commandsFrom, walk}
-use Rattle.walks.specs.Fronts.{listFrom, listTo-from}
+use Rattle.base.specs.Fronts.{listFrom, listTo-from}
 use Rattle.walks.proofs.Made.{Made, as-still, as-block, made}
 use Rattle.walks.proofs.Steps.{room, behind, block-step, still-step, end-step, ended-step, head-step}
 

@@ -16,7 +16,7 @@ use Rattle.heads.specs.Heads.{gridOf}
 use Rattle.log.specs.Step.{headIn}
 use Rattle.log.specs.Walk.{walk, lastOf}
 use Rattle.walks.specs.Cases.{dyAt, dxAt, distortionAt}
-use Rattle.walks.specs.Fronts.{drop-front}
+use Rattle.base.specs.Fronts.{drop-front}
 use Rattle.walks.proofs.Bytes.{Bytes, byte-at, bytes-be2, bytes-be4}
 use Rattle.walks.proofs.Accepted.{Rest, last, block, still, accepted}
 

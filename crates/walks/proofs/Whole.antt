@@ -15,7 +15,7 @@ use Rattle.log.specs.Logs.{valueOf, blockCommand, logCommands}
 use Rattle.log.specs.Step.{headIn}
 use Rattle.log.specs.Walk.{walk, lastOf}
 use Rattle.walks.specs.Cases.{dyAt, dxAt, distortionAt}
-use Rattle.walks.specs.Fronts.{listTo-front}
+use Rattle.base.specs.Fronts.{listTo-front}
 use Rattle.walks.proofs.Accepted.{Rest, last, block, still, accepted}
 
 -- behind the first block's three numbers

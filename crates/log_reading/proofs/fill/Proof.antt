@@ -1,0 +1,99 @@
+-- `fill`: what is left of the walk, stored from here on, makes the whole.
+use Prim.Native.Nat.{_+_, _≤_, _<_}
+use mathlib.Core.Path.{_≡_, _∙_}
+use native.Mathlib.Omega.{arith}
+use borrow.Author.Needs.{needs}
+use mathlib.Core.List.{flatMap}
+use Rattle.log_reading.proofs.Turns.{store-room}
+use Rattle.log.specs.Walk.{commandsFrom, walk}
+use Rattle.log_reading.specs.Reading.{fieldOf}
+use Rattle.log_reading.specs.Storing.{Left}
+use Rattle.log_reading.proofs.Storing.{left-first, left-last}
+use Rattle.log_reading.proofs.Turns.{store-turn, step-fits}
+use lib.ListN.{length}
+use Rattle.log_reading.proofs.fill.Statement.{statement}
+use Rattle.log_reading.proofs.fill.Tie as tie
+
+abbrev Inv-loop : tie.InvT-loop
+Inv-loop log list₀ cursor₀ at₀ left₀ list cursor at left = (left ≤ length log + 1) × Left list at (fieldOf (commandsFrom left log cursor)) list₀ (fieldOf (walk log))
+
+abbrev μ-loop : tie.MeasureT-loop
+μ-loop log list₀ cursor₀ at₀ left₀ list cursor at left = left
+
+start-requires : tie.Need-start-requires Inv-loop μ-loop
+start-requires c κs = search needs
+
+add-left : tie.Need-add-left Inv-loop μ-loop
+add-left c = search needs
+
+loop-holds : tie.Need-loop-holds Inv-loop μ-loop
+unfolding walk
+loop-holds c = (omega arith, rw (c .start .ensures) (left-first _ _))
+
+step-at-requires : tie.Need-step-at-requires Inv-loop μ-loop
+step-at-requires c κs = search needs
+
+store-requires : tie.Need-store-requires Inv-loop μ-loop
+store-requires c κs =
+    let l = c .before .before .before .before .loop in
+    let s = c .before .before .step-at in
+    let some : 0 < l .left = omega arith in
+    (omega (arith, store-room (l .left) _ (l .cursor) (s .result) some (s .ensures), l .inv .1, c .before .before .before .before .before .before .before .pre), rw (s .ensures) (step-fits _ (l .cursor)))
+
+is-refused-requires : tie.Need-is-refused-requires Inv-loop μ-loop
+is-refused-requires c κs = search needs
+
+same-length : tie.Need-same-length Inv-loop μ-loop
+same-length c = c .before .before .before .store .kept .0 ∙ c .before .before .before .before .before .before .before .before .loop .inv .1 .long
+
+returns : tie.Need-returns Inv-loop μ-loop
+unfolding fieldOf flatMap
+returns c =
+    let l = c .before .before .before .before .before .before .before .before .loop in
+    let s = c .before .before .before .before .before .before .step-at in
+    let r = c .before .is-refused in
+    let some : 0 < l .left = omega arith in
+    left-last (rw (c .if1 .taken) at (store-turn (l .left) _ (l .cursor) (s .result) (r .result) some (s .ensures) (r .ensures) (l .inv .1) (c .before .before .before .store .ensures))) (c .before .before .before .before .before .before .before .before .before .before .before .pre)
+
+sub-left : tie.Need-sub-left Inv-loop μ-loop
+sub-left c = search needs
+
+loop-less : tie.Need-loop-less Inv-loop μ-loop
+loop-less c = search needs
+
+loop-again : tie.Need-loop-again Inv-loop μ-loop
+loop-again c =
+    let l = c .before .before .before .before .before .before .before .before .loop in
+    let s = c .before .before .before .before .before .before .step-at in
+    let r = c .before .is-refused in
+    let some : 0 < l .left = omega arith in
+    (omega arith, rw (c .if1 .left) at (store-turn (l .left) _ (l .cursor) (s .result) (r .result) some (s .ensures) (r .ensures) (l .inv .1) (c .before .before .before .store .ensures)))
+
+same-length-2 : tie.Need-same-length-2 Inv-loop μ-loop
+same-length-2 c = c .before .loop .inv .1 .long
+
+returns-2 : tie.Need-returns-2 Inv-loop μ-loop
+unfolding commandsFrom fieldOf flatMap
+returns-2 c =
+    let e : c .before .loop .left ≡ 0 = omega arith in
+    left-last (rw e at (c .before .loop .inv .1)) (c .before .before .before .before .pre)
+
+pub fill-spec : {M : Type 1} → statement M
+fill-spec =
+    tie.close
+    (tie.spec
+    Inv-loop
+    μ-loop
+    start-requires
+    add-left
+    loop-holds
+    step-at-requires
+    store-requires
+    is-refused-requires
+    same-length
+    returns
+    sub-left
+    loop-less
+    loop-again
+    same-length-2
+    returns-2)

@@ -1,0 +1,110 @@
+-- `log_read`: the first call, then 10, then the end of the walk.
+use Prim.Native.Nat.{_≤_}
+use mathlib.Core.Path.{_≡_, refl, ap, sym, _∙_}
+use native.Mathlib.Omega.{arith}
+use borrow.Author.Needs.{needs}
+use borrow.Author.Tests.{lt-ltb, le-ltb, eq-eqb, ne-eqb}
+use denote.Ref.{now}
+use mathlib.Core.Bool.{false}
+use Rattle.log.specs.Step.{headIn, stepAt, startCursor}
+use Rattle.log.specs.Commands.{commandNumber, isRefused}
+use Rattle.heads.specs.Heads.{headRefusal}
+use Rattle.walks.proofs.Accepted.{begun}
+use Rattle.log_reading.specs.Reading.{logRead}
+use lib.ListN.{length}
+use Rattle.log_reading.proofs.log_read.Statement.{statement}
+use Rattle.log_reading.proofs.log_read.Tie as tie
+
+-- the first call
+first : (c : tie.After-step-at) → c .step-at .result ≡ stepAt (now (c .before .before .before .args .log)) startCursor
+first c = c .step-at .ensures ∙ ap (stepAt _) (c .before .start .ensures)
+
+-- it is not refused
+goes-on : (c : tie.Else1) → isRefused (stepAt (now (c .before .before .before .before .before .args .log)) startCursor .command) ≡ false
+goes-on c = ap (λ s. isRefused (s .command)) (sym (first (c .before .before))) ∙ sym (c .before .is-refused .ensures) ∙ c .if1 .left
+
+head-there : (c : tie.Else1) → let log = now (c .before .before .before .before .before .args .log) in (8 ≤ length log) × (headRefusal (headIn log 0) ≡ 0)
+head-there c = begun _ (goes-on c)
+
+start-requires : tie.Need-start-requires
+start-requires c κs = search needs
+
+step-at-requires : tie.Need-step-at-requires
+step-at-requires c κs = search needs
+
+is-refused-requires : tie.Need-is-refused-requires
+is-refused-requires c κs = search needs
+
+refused-by-requires : tie.Need-refused-by-requires
+refused-by-requires c κs = search needs
+
+returns : tie.Need-returns
+unfolding logRead
+returns c =
+    let s = c .before .before .before in
+    rw (← first s, ← c .before .before .is-refused .ensures, c .before .if1 .taken) (c .refused-by .ensures)
+
+head-in-requires : tie.Need-head-in-requires
+head-in-requires c κs = head-there c .0
+
+grid-requires : tie.Need-grid-requires
+grid-requires c κs = ap headRefusal (c .head-in .ensures) ∙ head-there (c .before) .1
+
+mul-if2 : tie.Need-mul-if2
+mul-if2 c = omega (arith, c .grid .ensures .1)
+
+refused-read-requires : tie.Need-refused-read-requires
+refused-read-requires c κs = search needs
+
+returns-2 : tie.Need-returns-2
+unfolding logRead
+returns-2 c =
+    let d = c .before .before in
+    let h = d .before .before in
+    rw (goes-on h, ← d .before .head-in .ensures, ← d .grid .ensures .0, lt-ltb _ _ (c .before .if2 .taken)) (c .refused-read .ensures)
+
+walk-end-requires : tie.Need-walk-end-requires
+walk-end-requires c κs = search needs
+
+command-number-requires : tie.Need-command-number-requires
+command-number-requires c κs = search needs
+
+returns-3 : tie.Need-returns-3
+unfolding logRead
+returns-3 c =
+    let d = c .before in
+    let g = d .before .before .before in
+    let h = g .before .before in
+    rw (goes-on h, ← g .before .head-in .ensures, ← g .grid .ensures .0, le-ltb _ _ (d .before .before .if2 .left), ← d .before .walk-end .ensures, ← d .command-number .ensures, eq-eqb _ 34 (c .if3 .taken)) refl
+
+refused-by-requires-2 : tie.Need-refused-by-requires-2
+refused-by-requires-2 c κs = search needs
+
+returns-4 : tie.Need-returns-4
+unfolding logRead
+returns-4 c =
+    let d = c .before .before in
+    let g = d .before .before .before in
+    let h = g .before .before in
+    let other = ne-eqb (commandNumber (d .before .walk-end .result)) 34 (λ e. c .before .if3 .left (d .command-number .ensures ∙ e)) in
+    rw (goes-on h, ← g .before .head-in .ensures, ← g .grid .ensures .0, le-ltb _ _ (d .before .before .if2 .left), ← d .before .walk-end .ensures, other) (c .refused-by2 .ensures)
+
+pub log-read-spec : {M : Type 1} → statement M
+log-read-spec =
+    tie.close
+    (tie.spec
+    start-requires
+    step-at-requires
+    is-refused-requires
+    refused-by-requires
+    returns
+    head-in-requires
+    grid-requires
+    mul-if2
+    refused-read-requires
+    returns-2
+    walk-end-requires
+    command-number-requires
+    returns-3
+    refused-by-requires-2
+    returns-4)

@@ -1,0 +1,67 @@
+-- A log is the head's bytes, the blocks' bytes one behind the other, and the end's: so it is put, and so its length is summed.
+use Prim.Native.Nat.{ℕ, zero, suc, _+_, _≤_}
+use mathlib.Core.Path.{_≡_, refl, sym, ap, _∙_}
+use mathlib.Core.List.{List, [], _∷_, _++_, flatMap, append-assoc, append-nil}
+use mathlib.Core.Bool.{true, false}
+use native.Mathlib.Omega.{arith}
+use lib.IntN.{ℤ}
+use lib.ListN.{length, drop, length-append}
+use Rattle.base.specs.Lists.{listTo, concatTo, concatTo-more}
+use Rattle.put.specs.Put.{Put, put-over, over-fits}
+use Rattle.heads.specs.declared.Head.{Head}
+use Rattle.log.specs.Commands.{commandBytes}
+use Rattle.heads.specs.Heads.{gridOf, isStill}
+use Rattle.log.specs.Logs.{valueOf, blockCommand, logCommands, logOf}
+use Rattle.log_writing.specs.Writing.{asWriting}
+use Rattle.log_writing.specs.Parts.{headBytes, numbersBytes, endBytes, blockBytes}
+
+module _ {A B : Type 0} (f : A → List B) where
+  flatMap-append : (xs ys : List A) → flatMap f (xs ++ ys) ≡ flatMap f xs ++ flatMap f ys
+  unfolding flatMap
+  flatMap-append [] ys = refl
+  flatMap-append (x ∷ xs) ys = ap (_++_ (f x)) (flatMap-append xs ys) ∙ sym (append-assoc (f x) (flatMap f xs) (flatMap f ys))
+
+  flatMap-listTo : (g : ℕ → A) (n : ℕ) → flatMap f (listTo g n) ≡ concatTo (λ k. f (g k)) n
+  unfolding flatMap listTo concatTo
+  flatMap-listTo g zero = refl
+  flatMap-listTo g (suc n) = flatMap-append (listTo g n) (g n ∷ []) ∙ rw (flatMap-listTo g n, append-nil (f (g n)))
+
+module _ (list : List ℤ) where
+  pub log-parts : (h : Head) → logOf h list ≡ headBytes h ++ (concatTo (blockBytes list) (gridOf h) ++ endBytes (gridOf h))
+  unfolding logOf logCommands headBytes blockBytes endBytes flatMap
+  log-parts h =
+      ap (_++_ (headBytes h))
+      (flatMap-append commandBytes (listTo (blockCommand list) (gridOf h)) _ ∙ rw (flatMap-listTo commandBytes (blockCommand list) (gridOf h)))
+
+  module _ (k : ℕ) where
+    pub block-still : isStill (valueOf list k 0) (valueOf list k 1) (valueOf list k 2) ≡ true → blockBytes list k ≡ 3 ∷ []
+    unfolding blockBytes blockCommand
+    block-still e = rw e refl
+
+    pub block-moved : isStill (valueOf list k 0) (valueOf list k 1) (valueOf list k 2) ≡ false
+        → blockBytes list k ≡ numbersBytes (valueOf list k 0) (valueOf list k 1) (valueOf list k 2)
+    unfolding blockBytes blockCommand numbersBytes
+    block-moved e = rw e refl
+
+  -- the length, block by block
+  pub sized-none : 13 ≡ 13 + length (concatTo (blockBytes list) 0)
+  unfolding concatTo
+  sized-none = refl
+
+  pub sized-more : (size k more : ℕ) → size ≡ 13 + length (concatTo (blockBytes list) k) → more ≡ length (blockBytes list k)
+      → size + more ≡ 13 + length (concatTo (blockBytes list) (k + 1))
+  sized-more size k more e m =
+      omega (arith, ap length (concatTo-more (blockBytes list) k), length-append (concatTo (blockBytes list) k) (blockBytes list k))
+
+  pub sized-all : (h : Head) (size : ℕ) → size ≡ 13 + length (concatTo (blockBytes list) (gridOf h)) → size ≡ length (logOf h list)
+  unfolding headBytes endBytes
+  sized-all h size e =
+      let blocks = concatTo (blockBytes list) (gridOf h) in
+      omega (arith, ap length (log-parts h), length-append (headBytes h) (blocks ++ endBytes (gridOf h)), length-append blocks (endBytes (gridOf h)))
+
+-- a log put from the start of a buffer that it fits
+pub log-put : {log before after : List ℕ} {next size : ℕ} → Put before 0 log after next → size ≡ length log → size ≤ length before
+    → asWriting (record { refusal = 0; place = 0; length = next }) after ≡ asWriting (record { refusal = 0; place = 0; length = size }) (log ++ drop size before)
+log-put {log} {before} p e fits =
+    let o = put-over p in
+    rw (o .0, o .1, e, over-fits log before (omega arith))

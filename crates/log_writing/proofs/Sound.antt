@@ -1,0 +1,101 @@
+-- What the tests leave: past 1 3 4 5 10 the list has room for every block, and past 16 every block's numbers fit their bytes.
+use Prim.Native.Nat.{ℕ, zero, suc, _+_, _-_, _*_, _^_, _≤_, _<_}
+use mathlib.Core.Path.{_≡_, refl, sym, ap, _∙_}
+use mathlib.Core.Logic.{⊎-elim}
+use mathlib.Core.Bool.{Bool, true, false, cond, _&&_}
+use mathlib.Core.List.{List}
+use native.Mathlib.Nat.{le-trans, eq-or-lt-of-le}
+use native.Mathlib.Omega.{arith}
+use borrow.Author.Needs.{sfits-of}
+use mir.Facts.{toZ-ofZ}
+use mir.Syntax.{w32}
+use mir.Val.{hbits, toZ, ofZ}
+use lib.Signed.{mag}
+use lib.Dec.{T, leb, leb→le}
+use lib.IntN.{ℤ, pos, negsuc}
+use lib.ListN.{length}
+use Rattle.base.specs.Tests.{and-left, and-right, true-T}
+use Rattle.signed.specs.Int.{up, dn}
+use Rattle.order.specs.Vectors.{vec}
+use Rattle.frame.specs.Grid.{blockRow, blockColumn, blocks-few}
+use Rattle.frame.specs.Candidates.{candidate, candidate-older}
+use Rattle.frame.specs.Refusals.{first-zero, unless-zero, listed-elim}
+use Rattle.heads.specs.declared.Head.{Head}
+use Rattle.heads.specs.Heads.{sizesIn, headRefusal, gridOf, distortionOk, entryOk, headed}
+use Rattle.log.specs.Logs.{valueOf}
+use Rattle.log_writing.specs.Writing.{listRefusal, listedOk, firstWrong}
+use Rattle.log_writing.specs.Parts.{Listed, Small, Passed}
+
+-- ---- 1 3 4 5 10
+
+pub listed : (h : Head) (list : ℕ) → listRefusal h list ≡ 0 → Listed h list
+unfolding listRefusal
+listed h list e =
+    let a = first-zero (headRefusal h) _ e in
+    let b = unless-zero (leb (3 * gridOf h) list) 9 0 (a .1) in
+    record { fine = a .0; few = blocks-few (sizesIn h) (headed h (a .0) .fitting); room = leb→le _ _ (b .0) }
+
+pub n-small : (h : Head) → headRefusal h ≡ 0 → h .n ≤ 16
+n-small h e = listed-elim (λ n. n ≤ 16) (omega arith) (omega arith) (omega arith) (h .n) (headed h e .allowed)
+
+-- ---- 16
+
+distortion-fits : (n : ℕ) (d : ℤ) → 255 * (n * n) ≤ 65280 → T (distortionOk n d) → (dn d ≡ 0) × (up d ≤ 65280)
+distortion-fits n (pos d) h t = (refl, le-trans (leb→le d (255 * (n * n)) t) h)
+distortion-fits n (negsuc d) h t = absurd t
+
+pub small : (h : Head) (list : List ℤ) (k : ℕ) → headRefusal h ≡ 0 → listedOk h list k ≡ true → Small (valueOf list k 0) (valueOf list k 1) (valueOf list k 2)
+unfolding entryOk
+small h list k e ok =
+    let hd = headed h e in
+    let s = sizesIn h in
+    let v = vec (valueOf list k 0) (valueOf list k 1) in
+    let d = valueOf list k 2 in
+    let t = true-T (candidate s (h .w) (blockRow s k) (blockColumn s k) v && distortionOk (h .n) d) ok in
+    let w = candidate-older s (h .w) (blockRow s k) (blockColumn s k) v (and-left (candidate s (h .w) (blockRow s k) (blockColumn s k) v) (distortionOk (h .n) d) t) .window in
+    let q : 255 * (h .n * h .n) ≤ 65280 = listed-elim (λ n. 255 * (n * n) ≤ 65280) (omega arith) (omega arith) (omega arith) (h .n) (hd .allowed) in
+    let f = distortion-fits (h .n) d q (and-right (candidate s (h .w) (blockRow s k) (blockColumn s k) v) (distortionOk (h .n) d) t) in
+    record { down = le-trans (w .down) (hd .window); across = le-trans (w .across) (hd .window); above = f .0; most = f .1 }
+
+-- ---- the first block that 16 turns away
+
+module _ (ok : ℕ → Bool) where
+  -- a block that passes
+  pub wrong-next : (k n : ℕ) → k < n → ok k ≡ true → firstWrong ok k (n - k) ≡ firstWrong ok (k + 1) (n - (k + 1))
+  unfolding firstWrong
+  wrong-next k n h e =
+      let q : n - k ≡ suc (n - (k + 1)) = omega arith in
+      rw (q, e)
+
+  -- one that does not
+  pub wrong-here : (k n : ℕ) → k < n → ok k ≡ false → firstWrong ok k (n - k) ≡ k
+  unfolding firstWrong
+  wrong-here k n h e =
+      let q : n - k ≡ suc (n - (k + 1)) = omega arith in
+      rw (q, e)
+
+  -- none is left
+  pub wrong-none : (k n : ℕ) → n ≤ k → firstWrong ok k (n - k) ≡ k
+  unfolding firstWrong
+  wrong-none k n h =
+      let q : n - k ≡ 0 = omega arith in
+      rw q
+
+  before-wrong : (left k i : ℕ) → k ≤ i → i < firstWrong ok k left → ok i ≡ true
+  unfolding firstWrong
+  before-wrong zero k i a b = absurd (omega arith)
+  before-wrong (suc left) k i a b = go (before-wrong left (k + 1) i) (ok k) refl b
+    where
+      go : (k + 1 ≤ i → i < firstWrong ok (k + 1) left → ok i ≡ true) → (t : Bool) → ok k ≡ t → i < cond t (firstWrong ok (k + 1) left) k → ok i ≡ true
+      go later true e b = ⊎-elim (λ (q : k ≡ i). sym (ap ok q) ∙ e) (λ (l : k < i). later (omega arith) b) (eq-or-lt-of-le a)
+      go later false e b = absurd (omega arith)
+
+-- none is turned away: all pass
+pub passed : (h : Head) (list : List ℤ) → Listed h (length list) → gridOf h ≤ firstWrong (listedOk h list) 0 (gridOf h) → Passed h list
+passed h list l n = record { listed = l; each = λ k i. before-wrong (listedOk h list) (gridOf h) 0 k (omega arith) (omega arith) }
+
+-- ---- a number of the list
+
+-- as it was read, and as it is passed on
+pub through : {z v : ℤ} → mag z < 2 ^ hbits w32 → z ≡ v → toZ w32 (ofZ w32 z) ≡ v
+through h e = toZ-ofZ (sfits-of h) ∙ e

@@ -1,0 +1,43 @@
+-- `put_log`: head, blocks and end, one after the other.
+use native.Mathlib.Omega.{arith}
+use borrow.Author.Needs.{needs}
+use Rattle.log_writing.specs.Parts.{headBytes}
+use Rattle.put.specs.Put.{put-then}
+use Rattle.log_writing.proofs.Bytes.{log-parts}
+use Rattle.log_writing.proofs.put_log.Statement.{statement}
+use Rattle.log_writing.proofs.put_log.Tie as tie
+
+put-head-requires : tie.Need-put-head-requires
+put-head-requires c κs = search needs
+
+put-blocks-requires : tie.Need-put-blocks-requires
+unfolding headBytes
+put-blocks-requires c κs = (omega (arith, c .before .before .before .put-head .ensures .place), c .before .before .before .before .before .before .pre)
+
+grid-requires : tie.Need-grid-requires
+grid-requires c κs = c .before .before .before .before .before .before .before .before .before .before .pre .listed .fine
+
+put-end-requires : tie.Need-put-end-requires
+put-end-requires c κs = search needs
+
+same-length : tie.Need-same-length
+same-length c = search needs
+
+returns : tie.Need-returns
+returns c =
+    let e = c .before .before in
+    let b = e .before .before .before .before .before in
+    rw (log-parts _ _)
+    (put-then (b .before .before .before .before .put-head .ensures)
+    (put-then (b .put-blocks .ensures .0) (rw (e .before .grid .ensures .0) at (e .put-end .ensures))))
+
+pub put-log-spec : {M : Type 1} → statement M
+put-log-spec =
+    tie.close
+    (tie.spec
+    put-head-requires
+    put-blocks-requires
+    grid-requires
+    put-end-requires
+    same-length
+    returns)
