@@ -1,4 +1,4 @@
-/* The C boundary, through include/gauge.h: document 01's worked pairs A to H and J, every refusal of each call at the edge of its range, with
+/* The C boundary, through include/gauge.h: document 01's worked pairs A to J, every refusal of each call at the edge of its range, with
  * the order in which they are tested, and what lent memory holds afterwards. */
 #include <stdio.h>
 #include <stdlib.h>
@@ -333,10 +333,15 @@ static const uint32_t TABLE_MARK = 3141592653u;
 static int32_t list[LIST];
 static uint32_t table[TABLE];
 
-static void mark_lent(void)
+static void mark_list(void)
 {
     for (size_t i = 0; i < LIST; i++)
         list[i] = LIST_MARK;
+}
+
+static void mark_lent(void)
+{
+    mark_list();
     for (size_t i = 0; i < TABLE; i++)
         table[i] = TABLE_MARK;
 }
@@ -672,6 +677,363 @@ static void stepping(void)
     step_refused("greatest y of its type", at(true, INT32_MAX, 0, 0), 33);
 }
 
+/* ---- logs */
+
+static const uint8_t b_log[18] = {1, 0, 5, 0, 4, 4, 1, 2, 2, 0, 1, 0, 0, 4, 0, 0, 0, 1};
+static const uint8_t c_log[17] = {1, 0, 8, 0, 8, 4, 1, 2, 3, 3, 3, 3, 4, 0, 0, 0, 4};
+static const gauge_head b_head = {5, 4, 4, 1, 2}, c_head = {8, 8, 4, 1, 2}, no_head;
+
+/* Bytes that a call fills. */
+enum { BUFFER = 200, MARK = 0xA5 };
+static uint8_t buffer[BUFFER];
+
+static void buffer_kept(const char *what, size_t from)
+{
+    size_t changed = 0;
+    for (size_t i = from; i < BUFFER; i++)
+        changed += buffer[i] != MARK;
+    same(what, changed, 0);
+}
+
+static void same_head(const char *what, gauge_head got, gauge_head wanted)
+{
+    same(what, got.width, wanted.width);
+    same(what, got.height, wanted.height);
+    same(what, got.n, wanted.n);
+    same(what, got.w, wanted.w);
+    same(what, got.search, wanted.search);
+}
+
+/* Writes the log of a list into a buffer of just its length, and into a longer one. */
+static void log_written(const char *what, gauge_head head, const int32_t *from, size_t from_length, const uint8_t *log, size_t length)
+{
+    for (int longer = 0; longer < 2; longer++) {
+        memset(buffer, MARK, BUFFER);
+        gauge_written w = gauge_write_log(head, from, from_length, buffer, longer ? BUFFER : length);
+        same(what, w.refusal, 0);
+        same(what, w.place, 0);
+        same(what, w.length, length);
+        same(what, (uint64_t)memcmp(buffer, log, length), 0);
+        buffer_kept(what, length);
+    }
+}
+
+static void writing_refused(const char *what, gauge_head head, const int32_t *from, size_t from_length, size_t buffer_length, uint32_t refusal, size_t place)
+{
+    memset(buffer, MARK, BUFFER);
+    gauge_written w = gauge_write_log(head, from, from_length, buffer, buffer_length);
+    same(what, w.refusal, refusal);
+    same(what, w.place, place);
+    same(what, w.length, 0);
+    buffer_kept(what, 0);
+}
+
+/* Reads a log that is accepted: its head, and so many list entries. */
+static void log_read(const char *what, const uint8_t *log, size_t length, size_t list_length, gauge_head head, const int32_t *wanted, size_t entries)
+{
+    mark_list();
+    gauge_log_read r = gauge_read_log(log, length, list, list_length);
+    same(what, r.refusal, 0);
+    same(what, r.place, 0);
+    same_head(what, r.head, head);
+    listed(what, wanted, entries);
+}
+
+static void reading_refused(const char *what, const uint8_t *log, size_t length, size_t list_length, uint32_t refusal, size_t place)
+{
+    mark_list();
+    gauge_log_read r = gauge_read_log(log, length, list, list_length);
+    same(what, r.refusal, refusal);
+    same(what, r.place, place);
+    same_head(what, r.head, no_head);
+    list_kept(what, 0);
+}
+
+/* Prints a log into buffers of no byte to more than enough: the front of the text that fits, and the length of all of it. */
+static void printed(const char *what, const uint8_t *log, size_t length, const char *text)
+{
+    const size_t all = strlen(text);
+    for (size_t lent = 0; lent <= all + 5 && lent <= BUFFER; lent++) {
+        size_t put = lent < all ? lent : all;
+        memset(buffer, MARK, BUFFER);
+        same(what, gauge_print_log(log, length, buffer, lent), all);
+        same(what, (uint64_t)memcmp(buffer, text, put), 0);
+        buffer_kept(what, put);
+    }
+}
+
+/* One call of a walk that hands a command out: all that it does not name is 0. The cursor then stands behind it. */
+static void handed_out(const char *what, const uint8_t *log, size_t length, gauge_cursor *cursor, gauge_walked wanted)
+{
+    gauge_walked w = gauge_walk(log, length, *cursor);
+    same(what, w.refusal, 0);
+    same(what, w.place, 0);
+    same(what, w.command, wanted.command);
+    same_head(what, w.head, wanted.head);
+    same(what, (uint32_t)w.dy, (uint32_t)wanted.dy);
+    same(what, (uint32_t)w.dx, (uint32_t)wanted.dx);
+    same(what, w.distortion, wanted.distortion);
+    same(what, w.blocks, wanted.blocks);
+    same(what, w.next.at, wanted.next.at);
+    same(what, w.next.phase, wanted.next.phase);
+    if (w.next.phase == 1) {
+        same_head(what, w.next.head, wanted.next.head);
+        same(what, w.next.blocks, wanted.next.blocks);
+    }
+    *cursor = w.next;
+}
+
+/* One that is refused: zeros elsewhere, and 34 from then on. */
+static void walk_refused(const char *what, const uint8_t *log, size_t length, gauge_cursor cursor, uint32_t refusal, size_t place)
+{
+    for (int call = 0; call < 3; call++) {
+        gauge_walked w = gauge_walk(log, length, cursor);
+        same(what, w.refusal, call == 0 ? refusal : 34);
+        same(what, w.place, call == 0 ? place : 0);
+        same(what, w.command, 0);
+        same_head(what, w.head, no_head);
+        same(what, (uint32_t)w.dy, 0);
+        same(what, (uint32_t)w.dx, 0);
+        same(what, w.distortion, 0);
+        same(what, w.blocks, 0);
+        same(what, w.next.phase > 2, 1);
+        cursor = w.next;
+    }
+}
+
+static gauge_cursor among(size_t at, gauge_head head, size_t blocks)
+{
+    return (gauge_cursor){at, 1, head, blocks};
+}
+
+static void worked_logs(void)
+{
+    static const int32_t b_list[3] = {0, 1, 0}, c_list[12];
+    log_written("B, log", b_head, b_list, 3, b_log, sizeof b_log);
+    log_read("B, log", b_log, sizeof b_log, 3, b_head, b_list, 1);
+    log_read("B, log, a longer list", b_log, sizeof b_log, LIST, b_head, b_list, 1);
+    printed("B, text", b_log, sizeof b_log, "5 4 4 1 2\n0 1 0\nend 1\n");
+    log_written("C, log", c_head, c_list, 12, c_log, sizeof c_log);
+    log_read("C, log", c_log, sizeof c_log, 12, c_head, c_list, 4);
+    printed("C, text", c_log, sizeof c_log, "8 8 4 1 2\n0 0 0\n0 0 0\n0 0 0\n0 0 0\nend 4\n");
+
+    /* The log of B as the field call lists it. */
+    mark_lent();
+    same("B, field", field(pair_b(), 2, 1, 0, LIST, TABLE).refusal, 0);
+    log_written("B, from its field", b_head, list, LIST, b_log, sizeof b_log);
+
+    gauge_cursor cursor = {0};
+    handed_out("B, head", b_log, sizeof b_log, &cursor, (gauge_walked){.command = 1, .head = b_head, .next = among(8, b_head, 0)});
+    handed_out("B, block", b_log, sizeof b_log, &cursor, (gauge_walked){.command = 2, .dx = 1, .next = among(13, b_head, 1)});
+    handed_out("B, end", b_log, sizeof b_log, &cursor, (gauge_walked){.command = 4, .blocks = 1, .next = {.at = 18, .phase = 2}});
+    walk_refused("B, after its end", b_log, sizeof b_log, cursor, 34, 0);
+    cursor = (gauge_cursor){0};
+    handed_out("C, head", c_log, sizeof c_log, &cursor, (gauge_walked){.command = 1, .head = c_head, .next = among(8, c_head, 0)});
+    for (size_t k = 0; k < 4; k++)
+        handed_out("C, still block", c_log, sizeof c_log, &cursor, (gauge_walked){.command = 3, .next = among(9 + k, c_head, k + 1)});
+    handed_out("C, end", c_log, sizeof c_log, &cursor, (gauge_walked){.command = 4, .blocks = 4, .next = {.at = 17, .phase = 2}});
+
+    static const uint8_t empty[1];
+    reading_refused("I", empty, 0, LIST, 13, 0);
+    printed("I", empty, 0, "refused 13 at 0\n");
+    walk_refused("I", empty, 0, (gauge_cursor){0}, 13, 0);
+
+    /* The greatest numbers: a column of three blocks with N 16 and w 16, and the head of the largest frame. (0,0) is no still block where it has a
+     * distortion. */
+    static const gauge_head far_head = {16, 48, 16, 16, 1};
+    static const int32_t far[9] = {16, 0, 65280, -16, 0, 0, 0, 0, 1};
+    static const uint8_t far_log[28] = {1, 0, 16, 0, 48, 16, 16, 1, 2, 16, 0, 255, 0, 2, 240, 0, 0, 0, 2, 0, 0, 0, 1, 4, 0, 0, 0, 3};
+    log_written("the greatest numbers", far_head, far, 9, far_log, sizeof far_log);
+    log_read("the greatest numbers", far_log, sizeof far_log, 9, far_head, far, 3);
+    printed("the greatest numbers", far_log, sizeof far_log, "16 48 16 16 1\n16 0 65280\n-16 0 0\n0 0 1\nend 3\n");
+    static const uint8_t large[9] = {1, 4, 0, 4, 0, 4, 16, 2, 3};
+    printed("1,024 x 1,024", large, sizeof large, "1024 1024 4 16 2\n0 0 0\nrefused 13 at 9\n");
+}
+
+static void writing_refusals(void)
+{
+    static const int32_t still[12];
+    gauge_head h = c_head;
+    h.width = 3;
+    writing_refused("width 3", h, still, 12, BUFFER, 1, 0);
+    h.width = 1025;
+    writing_refused("width 1,025", h, still, 12, BUFFER, 1, 0);
+    h.width = SIZE_MAX;
+    writing_refused("width at the top of its type", h, still, 12, BUFFER, 1, 0);
+    h.width = ((size_t)1 << 32) + 8;
+    writing_refused("width of 33 bits", h, still, 12, BUFFER, 1, 0);
+    h = c_head;
+    h.height = 1025;
+    writing_refused("height 1,025", h, still, 12, BUFFER, 1, 0);
+    h = c_head;
+    h.n = 5;
+    writing_refused("N 5", h, still, 12, BUFFER, 3, 0);
+    h.n = 16;
+    writing_refused("N over the width", h, still, 12, BUFFER, 3, 0);
+    h.n = 0;
+    writing_refused("N 0", h, still, 12, BUFFER, 3, 0);
+    h = c_head;
+    h.search = 5;
+    writing_refused("search 5", h, still, 12, BUFFER, 4, 0);
+    h.search = 258;
+    writing_refused("search 258", h, still, 12, BUFFER, 4, 0);
+    h.search = 3;
+    writing_refused("four-step, w 1", h, still, 12, BUFFER, 5, 0);
+    h.search = 2;
+    h.w = 257;
+    writing_refused("w 257", h, still, 12, BUFFER, 5, 0);
+    writing_refused("N over the height", (gauge_head){8, 7, 8, 1, 2}, still, 12, BUFFER, 3, 0);
+    for (size_t w = 0; w <= 40; w++) {
+        same("full's window", gauge_write_log((gauge_head){4, 4, 4, w, 1}, still, 12, buffer, BUFFER).refusal, w <= 16 ? 0 : 5);
+        same("pruned's window", gauge_write_log((gauge_head){4, 4, 4, w, 2}, still, 12, buffer, BUFFER).refusal, w <= 16 ? 0 : 5);
+        same("four-step's window", gauge_write_log((gauge_head){4, 4, 4, w, 3}, still, 12, buffer, BUFFER).refusal, w == 7 ? 0 : 5);
+        same("cross's window", gauge_write_log((gauge_head){4, 4, 4, w, 4}, still, 12, buffer, BUFFER).refusal,
+             w == 2 || w == 4 || w == 8 || w == 16 ? 0 : 5);
+    }
+    writing_refused("list one short", c_head, still, 11, BUFFER, 10, 0);
+    writing_refused("no list", c_head, still, 0, BUFFER, 10, 0);
+
+    /* Each block of C in turn, wrong in one number. w is 1. */
+    static const int32_t wrong[][4] = {
+        {0, -1, 0, 5},    {0, 0, -1, 5},     {3, 1, 0, 5},         {3, 0, 1, 5},         {1, 2, 0, 5},         {2, -2, 0, 5},
+        {2, 0, 2, 5},     {1, 0, -2, 5},     {0, 0, 0, -1},        {1, 0, 0, 4081},      {2, 256, 0, 5},       {3, 0, -256, 5},
+        {3, 0, 0, 65536}, {0, 0, 0, -65536}, {2, INT32_MIN, 0, 5}, {1, 0, INT32_MAX, 5}, {2, 0, 0, INT32_MIN}, {3, 0, 0, INT32_MAX},
+    };
+    for (size_t i = 0; i < sizeof wrong / sizeof *wrong; i++) {
+        int32_t entries[12] = {0};
+        memcpy(entries + 3 * wrong[i][0], wrong[i] + 1, 3 * sizeof *entries);
+        writing_refused("16 with the block's number", c_head, entries, 12, BUFFER, 16, (size_t)wrong[i][0]);
+        writing_refused("16 before 19", c_head, entries, 12, 0, 16, (size_t)wrong[i][0]);
+        writing_refused("10 before 16", c_head, entries, 11, BUFFER, 10, 0);
+    }
+    int32_t two[12] = {0};
+    two[3] = 2;
+    two[9] = 2;
+    writing_refused("the first of two", c_head, two, 12, BUFFER, 16, 1);
+    writing_refused("5 before 10", h, still, 11, BUFFER, 5, 0);
+
+    writing_refused("buffer one short", c_head, still, 12, sizeof c_log - 1, 19, 0);
+    writing_refused("no buffer", c_head, still, 12, 0, 19, 0);
+    int32_t most[12] = {1, 0, 4080};
+    memset(buffer, MARK, BUFFER);
+    same("distortion 4,080", gauge_write_log(c_head, most, 12, buffer, 21).length, 21);
+    writing_refused("a block is four bytes more", c_head, most, 12, 20, 19, 0);
+}
+
+/* A log that is turned away behind so many commands, by every call alike. `text` is what they and the refusal print. */
+static void turned_away(const char *what, const uint8_t *log, size_t length, size_t commands, uint32_t refusal, size_t place, const char *text)
+{
+    reading_refused(what, log, length, LIST, refusal, place);
+    printed(what, log, length, text);
+    gauge_cursor cursor = {0};
+    for (size_t i = 0; i < commands; i++) {
+        gauge_walked w = gauge_walk(log, length, cursor);
+        same(what, w.refusal, 0);
+        cursor = w.next;
+    }
+    walk_refused(what, log, length, cursor, refusal, place);
+}
+
+/* B's log with one byte changed. */
+static const uint8_t *b_with(size_t at, uint8_t byte)
+{
+    static uint8_t log[sizeof b_log + 1];
+    memcpy(log, b_log, sizeof b_log);
+    log[at] = byte;
+    return log;
+}
+
+static void log_refusals(void)
+{
+    turned_away("the head cut off", b_log, 7, 0, 13, 0, "refused 13 at 0\n");
+    turned_away("nothing behind the head", b_log, 8, 1, 13, 8, "5 4 4 1 2\nrefused 13 at 8\n");
+    turned_away("the block cut off", b_log, 12, 1, 13, 8, "5 4 4 1 2\nrefused 13 at 8\n");
+    turned_away("no end", b_log, 13, 2, 13, 13, "5 4 4 1 2\n0 1 0\nrefused 13 at 13\n");
+    turned_away("the end cut off", b_log, 17, 2, 13, 13, "5 4 4 1 2\n0 1 0\nrefused 13 at 13\n");
+    static const uint8_t unknown[] = {0, 5, 6, 128, 255};
+    for (size_t i = 0; i < sizeof unknown; i++) {
+        turned_away("unknown first", b_with(0, unknown[i]), 18, 0, 14, 0, "refused 14 at 0\n");
+        turned_away("unknown for a block", b_with(8, unknown[i]), 18, 1, 14, 8, "5 4 4 1 2\nrefused 14 at 8\n");
+        turned_away("unknown for the end", b_with(13, unknown[i]), 18, 2, 14, 13, "5 4 4 1 2\n0 1 0\nrefused 14 at 13\n");
+    }
+    turned_away("a block first", b_with(0, 2), 18, 0, 14, 0, "refused 14 at 0\n");
+    turned_away("14 before 13", b_with(0, 4), 1, 0, 14, 0, "refused 14 at 0\n");
+    turned_away("a second head", b_with(8, 1), 18, 1, 14, 8, "5 4 4 1 2\nrefused 14 at 8\n");
+    turned_away("the end too early", b_with(8, 4), 18, 1, 14, 8, "5 4 4 1 2\nrefused 14 at 8\n");
+    turned_away("a block too many", b_with(13, 3), 18, 2, 14, 13, "5 4 4 1 2\n0 1 0\nrefused 14 at 13\n");
+    turned_away("width 3", b_with(2, 3), 18, 0, 15, 0, "refused 15 at 0\n");
+    turned_away("height 1,028", b_with(3, 4), 18, 0, 15, 0, "refused 15 at 0\n");
+    turned_away("N 8", b_with(5, 8), 18, 0, 15, 0, "refused 15 at 0\n");
+    turned_away("w 17", b_with(6, 17), 18, 0, 15, 0, "refused 15 at 0\n");
+    turned_away("search 0", b_with(7, 0), 18, 0, 15, 0, "refused 15 at 0\n");
+    turned_away("four-step, w 1", b_with(7, 3), 18, 0, 15, 0, "refused 15 at 0\n");
+    turned_away("13 before 15", b_with(7, 0), 7, 0, 13, 0, "refused 13 at 0\n");
+    turned_away("dx 2", b_with(10, 2), 18, 1, 16, 8, "5 4 4 1 2\nrefused 16 at 8\n");
+    turned_away("dx -1", b_with(10, 255), 18, 1, 16, 8, "5 4 4 1 2\nrefused 16 at 8\n");
+    turned_away("dy 1", b_with(9, 1), 18, 1, 16, 8, "5 4 4 1 2\nrefused 16 at 8\n");
+    turned_away("distortion 4,096", b_with(11, 16), 18, 1, 16, 8, "5 4 4 1 2\nrefused 16 at 8\n");
+    turned_away("a still block as command 2", b_with(10, 0), 18, 1, 16, 8, "5 4 4 1 2\nrefused 16 at 8\n");
+    turned_away("13 before 16", b_with(10, 2), 12, 1, 13, 8, "5 4 4 1 2\nrefused 13 at 8\n");
+    turned_away("end 0", b_with(17, 0), 18, 2, 17, 13, "5 4 4 1 2\n0 1 0\nrefused 17 at 13\n");
+    turned_away("end 16,777,217", b_with(14, 1), 18, 2, 17, 13, "5 4 4 1 2\n0 1 0\nrefused 17 at 13\n");
+    turned_away("a byte behind the end", b_with(18, 0), 19, 3, 18, 18, "5 4 4 1 2\n0 1 0\nend 1\nrefused 18 at 18\n");
+    turned_away("17 before 18", b_with(17, 2), 19, 2, 17, 13, "5 4 4 1 2\n0 1 0\nrefused 17 at 13\n");
+
+    reading_refused("list one short", b_log, 18, 2, 10, 8);
+    reading_refused("no list", b_log, 18, 0, 10, 8);
+    reading_refused("10 before all behind the head", b_with(8, 9), 18, 2, 10, 8);
+    reading_refused("10 before 13 behind the head", b_log, 8, 2, 10, 8);
+    reading_refused("13 before 10", b_log, 7, 2, 13, 0);
+    reading_refused("15 before 10", b_with(2, 3), 18, 2, 15, 0);
+
+    static uint8_t zeros[65537];
+    printed("65,536 bytes", zeros, 65536, "refused 14 at 0\n");
+    printed("65,537 bytes", zeros, 65537, "refused 20 at 65536\n");
+    memcpy(zeros, b_log, sizeof b_log);
+    printed("65,536 bytes", zeros, 65536, "5 4 4 1 2\n0 1 0\nend 1\nrefused 18 at 18\n");
+    printed("65,537 bytes", zeros, 65537, "refused 20 at 65536\n");
+    reading_refused("65,537 bytes, read", zeros, 65537, LIST, 18, 18);
+}
+
+/* Cursors built by hand. */
+static void cursors(void)
+{
+    const size_t end = sizeof b_log;
+    walk_refused("place past the log", b_log, end, (gauge_cursor){.at = end + 1}, 34, 0);
+    walk_refused("place at the top of its type", b_log, end, (gauge_cursor){.at = SIZE_MAX}, 34, 0);
+    walk_refused("place past the log, among blocks", b_log, end, among(SIZE_MAX - 4, b_head, 0), 34, 0);
+    walk_refused("place past the log, after the end", b_log, end, (gauge_cursor){.at = end + 1, .phase = 2}, 34, 0);
+    walk_refused("place at the log's end", b_log, end, (gauge_cursor){.at = end}, 13, end);
+    walk_refused("place at the log's end, among blocks", b_log, end, among(end, b_head, 0), 13, end);
+    walk_refused("place at the log's end, after the end", b_log, end, (gauge_cursor){.at = end, .phase = 2}, 34, 0);
+    walk_refused("bytes after the end", b_log, end, (gauge_cursor){.at = 7, .phase = 2}, 18, 7);
+    walk_refused("after a refusal", b_log, end, (gauge_cursor){.phase = 3}, 34, 0);
+    walk_refused("after a refusal, phase at the top of its type", b_log, end, (gauge_cursor){.phase = UINT32_MAX}, 34, 0);
+    walk_refused("phase 257", b_log, end, (gauge_cursor){8, 257, b_head, 0}, 34, 0);
+    walk_refused("more blocks than the grid has", b_log, end, among(8, b_head, 2), 34, 0);
+    walk_refused("blocks at the top of their type", b_log, end, among(8, b_head, SIZE_MAX), 34, 0);
+    static const gauge_head wrong[] = {
+        {3, 4, 4, 1, 2}, {5, 1025, 4, 1, 2}, {5, 4, 8, 1, 2},        {5, 4, 0, 1, 2},                     {5, 4, 4, 17, 2},  {5, 4, 4, 1, 5},
+        {5, 4, 4, 1, 3}, {5, 4, 4, 1, 258},  {SIZE_MAX, 4, 4, 1, 2}, {((size_t)1 << 32) + 5, 4, 4, 1, 2}, {5, 4, 4, 257, 2},
+    };
+    for (size_t i = 0; i < sizeof wrong / sizeof *wrong; i++) {
+        walk_refused("a head that 15 turns away", b_log, end, among(8, wrong[i], 0), 34, 0);
+        walk_refused("34 before 13", b_log, end, among(end, wrong[i], 0), 34, 0);
+    }
+    walk_refused("the end is due", b_log, end, among(8, b_head, 1), 14, 8);
+    walk_refused("a block is due", b_log, end, among(13, b_head, 0), 14, 13);
+
+    /* Before its head a cursor's other numbers are not looked at, and one in the middle goes on from there. */
+    gauge_cursor cursor = {0, 0, wrong[0], SIZE_MAX};
+    handed_out("head", b_log, end, &cursor, (gauge_walked){.command = 1, .head = b_head, .next = among(8, b_head, 0)});
+    cursor = among(8, c_head, 2);
+    handed_out("another head's block", b_log, end, &cursor, (gauge_walked){.command = 2, .dx = 1, .next = among(13, c_head, 3)});
+    walk_refused("another head's last block has no room", b_log, end, among(8, c_head, 3), 16, 8);
+    cursor = among(13, b_head, 1);
+    handed_out("end", b_log, end, &cursor, (gauge_walked){.command = 4, .blocks = 1, .next = {.at = 18, .phase = 2}});
+    walk_refused("another head's end", b_log, end, among(13, c_head, 4), 17, 13);
+}
+
 int main(void)
 {
     worked_pairs();
@@ -690,6 +1052,10 @@ int main(void)
     request_refusals("gauge_step", step_homed);
     request_refusals("gauge_step, not homed", step_new);
     stepping();
+    worked_logs();
+    writing_refusals();
+    log_refusals();
+    cursors();
     printf("gauge.h: %d checks, %d failed\n", checks, failures);
     return failures != 0;
 }

@@ -1,8 +1,8 @@
 //! The archive under test, as include/gauge.h declares it, with its answers turned into the forms that the rival uses.
 
 use crate::question::{
-    Answer, FieldAnswer, FieldRequest, Lent, Measured, Measuring, Pair, Request, Track, Viewed,
-    Viewing,
+    Answer, Cursor, FieldAnswer, FieldRequest, Head, Lent, LogRead, Measured, Measuring, Pair,
+    Request, Track, Viewed, Viewing, Walked, Written,
 };
 
 #[repr(C)]
@@ -58,6 +58,33 @@ struct GaugeHomed {
 struct GaugeStepped {
     answer: GaugeFieldAnswer,
     track: Track,
+}
+
+#[repr(C)]
+struct GaugeWritten {
+    refusal: u32,
+    place: usize,
+    length: usize,
+}
+
+#[repr(C)]
+struct GaugeLogRead {
+    refusal: u32,
+    place: usize,
+    head: Head,
+}
+
+#[repr(C)]
+struct GaugeWalked {
+    refusal: u32,
+    place: usize,
+    command: u32,
+    head: Head,
+    dy: i32,
+    dx: i32,
+    distortion: u32,
+    blocks: usize,
+    next: Cursor,
 }
 
 extern "C" {
@@ -126,6 +153,35 @@ extern "C" {
         table: *mut u32,
         table_length: usize,
     ) -> GaugeStepped;
+
+    fn gauge_write_log(
+        head: Head,
+        list: *const i32,
+        list_length: usize,
+        buffer: *mut u8,
+        buffer_length: usize,
+    ) -> GaugeWritten;
+
+    fn gauge_read_log(
+        log: *const u8,
+        log_length: usize,
+        list: *mut i32,
+        list_length: usize,
+    ) -> GaugeLogRead;
+
+    fn gauge_print_log(
+        log: *const u8,
+        log_length: usize,
+        buffer: *mut u8,
+        buffer_length: usize,
+    ) -> usize;
+
+    fn gauge_walk(log: *const u8, log_length: usize, cursor: Cursor) -> GaugeWalked;
+}
+
+/// A place or length of an answer. One that i64 cannot hold stays wrong: it becomes -1.
+fn plain(value: usize) -> i64 {
+    i64::try_from(value).unwrap_or(-1)
 }
 
 /// A request as the header has it.
@@ -189,7 +245,7 @@ pub fn measure(pair: &Pair, asked: &Measuring) -> Measured {
     }
 }
 
-/// The row view. A place or length that i64 cannot hold stays wrong: it becomes -1.
+/// The row view.
 pub fn row_view(pair: &Pair, asked: &Viewing) -> Viewed {
     // As above.
     let row = unsafe {
@@ -208,8 +264,8 @@ pub fn row_view(pair: &Pair, asked: &Viewing) -> Viewed {
     };
     Viewed {
         refusal: row.refusal as i64,
-        place: i64::try_from(row.place).unwrap_or(-1),
-        length: i64::try_from(row.length).unwrap_or(-1),
+        place: plain(row.place),
+        length: plain(row.length),
     }
 }
 
@@ -281,4 +337,62 @@ pub fn step(
         )
     };
     (field_answer(stepped.answer), stepped.track)
+}
+
+/// Writing a log. It is lent the first places of the buffer alone.
+pub fn write_log(head: &Head, list: &[i32], buffer: &mut [u8], buffer_length: usize) -> Written {
+    // As above; the buffer is exclusive.
+    assert!(buffer_length <= buffer.len());
+    let written = unsafe {
+        gauge_write_log(
+            *head,
+            list.as_ptr(),
+            list.len(),
+            buffer.as_mut_ptr(),
+            buffer_length,
+        )
+    };
+    Written {
+        refusal: written.refusal as i64,
+        place: plain(written.place),
+        length: plain(written.length),
+    }
+}
+
+/// Reading a whole log. It is lent the first places of the list alone.
+pub fn read_log(log: &[u8], list: &mut [i32], list_length: usize) -> LogRead {
+    // As above; the list is exclusive.
+    assert!(list_length <= list.len());
+    let read = unsafe { gauge_read_log(log.as_ptr(), log.len(), list.as_mut_ptr(), list_length) };
+    LogRead {
+        refusal: read.refusal as i64,
+        place: plain(read.place),
+        head: read.head,
+    }
+}
+
+/// Printing a log: the length of the whole text. It is lent the first places of the buffer alone.
+pub fn print_log(log: &[u8], buffer: &mut [u8], buffer_length: usize) -> i64 {
+    // As above; the buffer is exclusive.
+    assert!(buffer_length <= buffer.len());
+    let length =
+        unsafe { gauge_print_log(log.as_ptr(), log.len(), buffer.as_mut_ptr(), buffer_length) };
+    plain(length)
+}
+
+/// One call of a walk.
+pub fn walk(log: &[u8], cursor: Cursor) -> Walked {
+    // As above.
+    let walked = unsafe { gauge_walk(log.as_ptr(), log.len(), cursor) };
+    Walked {
+        refusal: walked.refusal as i64,
+        place: plain(walked.place),
+        command: walked.command as i64,
+        head: walked.head,
+        dy: walked.dy as i64,
+        dx: walked.dx as i64,
+        distortion: walked.distortion as i64,
+        blocks: plain(walked.blocks),
+        next: walked.next,
+    }
 }

@@ -322,7 +322,7 @@ fn broken_pair(rules: &[i64]) -> Pair {
 }
 
 /// Every choice of rules out of those that a call tests, in its order.
-fn choices(order: &[i64]) -> Vec<Vec<i64>> {
+pub fn choices(order: &[i64]) -> Vec<Vec<i64>> {
     let chosen = |bits: usize| {
         let rules = order.iter().enumerate();
         let kept = rules.filter(|(k, _)| bits >> k & 1 == 1);

@@ -8,7 +8,7 @@ use crate::question::{FieldRequest, Lent, Pair};
 use crate::reckoning;
 
 /// So many places stand behind what is lent.
-const BEHIND: usize = 5;
+pub const BEHIND: usize = 5;
 
 /// Lent memory of these lengths, filled by chance.
 pub fn lend(chance: &mut Chance, list_length: usize, table_length: usize) -> Lent {
@@ -24,7 +24,7 @@ pub fn lend(chance: &mut Chance, list_length: usize, table_length: usize) -> Len
 }
 
 /// A length around the one that is needed: mostly that or more, sometimes one short, sometimes nothing.
-fn length(chance: &mut Chance, needed: usize) -> usize {
+pub fn length_around(chance: &mut Chance, needed: usize) -> usize {
     match chance.between(0, 19) {
         0 => 0,
         1 => needed.saturating_sub(1),
@@ -36,10 +36,10 @@ fn length(chance: &mut Chance, needed: usize) -> usize {
 /// Lent memory for a field of this pair, mostly enough. Searches 1, 3 and 4 may be lent any table.
 pub fn lend_for(chance: &mut Chance, pair: &Pair, request: &FieldRequest) -> Lent {
     let blocks = (pair.width / request.n.max(1)) * (pair.height / request.n.max(1));
-    let list_length = length(chance, 3 * blocks.min(4096));
+    let list_length = length_around(chance, 3 * blocks.min(4096));
     let needed = (pair.width.min(1024) + 1) * (pair.height.min(1024) + 1);
     let table_length = if request.search == 2 {
-        length(chance, needed)
+        length_around(chance, needed)
     } else {
         chance.one_of(&[0, 1, needed])
     };

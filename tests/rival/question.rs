@@ -93,6 +93,73 @@ pub struct Track {
     pub steps: u32,
 }
 
+/// A log's head: "width and height (2 bytes each), N, w, search (1 each)". Laid out as the header's gauge_head.
+#[derive(Clone, Copy, PartialEq, Eq, Debug, Default)]
+#[repr(C)]
+pub struct Head {
+    pub width: usize,
+    pub height: usize,
+    pub n: usize,
+    pub w: usize,
+    pub search: u32,
+}
+
+/// "Writing answers with the log's length"; a refused call with "the number, its place where named, and zeros elsewhere".
+#[derive(Clone, Copy, PartialEq, Eq, Debug, Default)]
+pub struct Written {
+    pub refusal: i64,
+    pub place: i64,
+    pub length: i64,
+}
+
+/// "Another call reads a whole log into a list and answers with the head's numbers."
+#[derive(Clone, Copy, PartialEq, Eq, Debug, Default)]
+pub struct LogRead {
+    pub refusal: i64,
+    pub place: i64,
+    pub head: Head,
+}
+
+/// Where a walker stands, as the header's gauge_cursor: phase 0 before the head, 1 among the blocks, 2 after the end, any other
+/// number after a refusal.
+#[derive(Clone, Copy, PartialEq, Eq, Debug, Default)]
+#[repr(C)]
+pub struct Cursor {
+    pub at: usize,
+    pub phase: u32,
+    pub head: Head,
+    pub blocks: usize,
+}
+
+impl Cursor {
+    /// What the header says that a cursor means, and zeros for the rest: the head's numbers and the blocks count among the blocks
+    /// alone, and after a refusal it does not matter where it stands.
+    pub fn meaning(self) -> Cursor {
+        let none = Cursor::default();
+        let Cursor { at, phase, .. } = self;
+        match phase {
+            0 | 2 => Cursor { at, phase, ..none },
+            1 => self,
+            _ => Cursor { phase: 3, ..none },
+        }
+    }
+}
+
+/// "A walker over a lent log hands out one command a call": 1 head, 2 block, 3 still block, 4 end, with its values; 0 with a
+/// refusal.
+#[derive(Clone, Copy, PartialEq, Eq, Debug, Default)]
+pub struct Walked {
+    pub refusal: i64,
+    pub place: i64,
+    pub command: i64,
+    pub head: Head,
+    pub dy: i64,
+    pub dx: i64,
+    pub distortion: i64,
+    pub blocks: i64,
+    pub next: Cursor,
+}
+
 /// "The measuring call [...] answers with the distortion."
 #[derive(Clone, Copy, PartialEq, Eq, Debug, Default)]
 pub struct Measured {

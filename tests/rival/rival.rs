@@ -7,7 +7,7 @@ use crate::question::{Answer, Measured, Measuring, Pair, Request, Viewed, Viewin
 pub type Vector = (i64, i64);
 
 /// A size, row or column as i64. What i64 cannot hold is far beyond every limit of 01 and stays so.
-fn plain(value: usize) -> i64 {
+pub fn plain(value: usize) -> i64 {
     i64::try_from(value).unwrap_or(i64::MAX)
 }
 
@@ -324,19 +324,45 @@ fn cross(block: &Block, w: i64, t: i64) -> Answer {
     walk.answer()
 }
 
-/// Refusals 1, 2 and 3, which all calls test first.
+/// "1 width or height outside its range": "Width and height are 4 to 1,024".
+pub fn is_refused_size(width: i64, height: i64) -> bool {
+    width < 4 || width > 1024 || height < 4 || height > 1024
+}
+
+/// "3 N not allowed or too big": "Block size N is 4, 8 or 16, at most width and height".
+pub fn is_refused_n(width: i64, height: i64, n: i64) -> bool {
+    (n != 4 && n != 8 && n != 16) || n > width || n > height
+}
+
+/// Refusals 4 and 5.
+pub fn refused_window(search: i64, w: i64) -> i64 {
+    // "4 search not 1 to 4".
+    if search < 1 || search > 4 {
+        return 4;
+    }
+    // "5 w not allowed for the search".
+    let allowed = match search {
+        1 | 2 => (0..=16).contains(&w),
+        3 => w == 7,
+        _ => w == 2 || w == 4 || w == 8 || w == 16,
+    };
+    if !allowed {
+        return 5;
+    }
+    0
+}
+
+/// Refusals 1, 2 and 3, which all calls on a pair test first.
 fn refused_pair(pair: &Pair, n: usize) -> i64 {
     let (width, height, n) = (plain(pair.width), plain(pair.height), plain(n));
-    // "1 width or height outside its range": "Width and height are 4 to 1,024".
-    if width < 4 || width > 1024 || height < 4 || height > 1024 {
+    if is_refused_size(width, height) {
         return 1;
     }
     // "2 a frame of another length": "the lent slice has exactly width × height bytes".
     if plain(pair.older.len()) != width * height || plain(pair.newer.len()) != width * height {
         return 2;
     }
-    // "3 N not allowed or too big": "Block size N is 4, 8 or 16, at most width and height".
-    if (n != 4 && n != 8 && n != 16) || n > width || n > height {
+    if is_refused_n(width, height, n) {
         return 3;
     }
     0
@@ -359,18 +385,9 @@ pub fn refused_request(pair: &Pair, n: usize, search: u32, w: usize, t: u32) -> 
         return first;
     }
     let (search, w, t) = (search as i64, plain(w), t as i64);
-    // "4 search not 1 to 4".
-    if search < 1 || search > 4 {
-        return 4;
-    }
-    // "5 w not allowed for the search".
-    let allowed = match search {
-        1 | 2 => (0..=16).contains(&w),
-        3 => w == 7,
-        _ => w == 2 || w == 4 || w == 8 || w == 16,
-    };
-    if !allowed {
-        return 5;
+    let window = refused_window(search, w);
+    if window != 0 {
+        return window;
     }
     // "6 T over 65,280, or not 0 with search 1, 2 or 3".
     if t > 65280 || (t != 0 && search != 4) {

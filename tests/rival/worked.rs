@@ -1,10 +1,12 @@
-//! Document 01's worked pairs A to H and J, with its numbers typed in, against the archive and against the rival; and what 01
-//! writes down of the preference order, against the rival.
+//! Document 01's worked pairs A to J, with its numbers typed in, against the archive and against the rival; and what 01 writes
+//! down of the preference order, against the rival.
 
 use crate::archive;
 use crate::group::Group;
+use crate::logs;
 use crate::question::{
-    Answer, FieldAnswer, FieldRequest, Lent, Measured, Measuring, Pair, Request, Track,
+    Answer, Cursor, FieldAnswer, FieldRequest, Head, Lent, LogRead, Measured, Measuring, Pair,
+    Request, Track, Walked, Written,
 };
 use crate::reckoning;
 use crate::rival;
@@ -248,6 +250,98 @@ fn pairs_g_and_h(group: &mut Group) {
     }
 }
 
+/// A log, what it prints, and what reading it answers and lists; both sides must say so.
+fn logged(group: &mut Group, what: &str, log: &[u8], text: &str, wanted: LogRead, list: &[i32]) {
+    let inputs = format!("log of pair {what}");
+    let kept = [list, &vec![5; 14 - list.len()]].concat();
+    let (mut here, mut there) = (vec![5; 14], vec![5; 14]);
+    group.same(&inputs, archive::read_log(log, &mut here, 14), wanted);
+    group.same(&inputs, logs::read_log(log, &mut there), wanted);
+    group.same(&inputs, (&here, &there), (&kept, &kept));
+
+    let mut buffer = vec![b'*'; 100];
+    let length = archive::print_log(log, &mut buffer, 100);
+    let printed = [text, &"*".repeat(100 - text.len())].concat();
+    group.same(&inputs, length, text.len() as i64);
+    group.same(&inputs, buffer, printed.into_bytes());
+    group.same(&inputs, &logs::print_log(log)[..], text);
+}
+
+/// "B [...] search 2's log above" with its text, "C [...] log `01 00 08 00 08 04 01 02 03 03 03 03 04 00 00 00 04`" and "I* empty
+/// log: 13 at 0".
+fn logs_of_b_c_and_i(group: &mut Group) {
+    let head = |width, height| Head {
+        width,
+        height,
+        n: 4,
+        w: 1,
+        search: 2,
+    };
+    let b = b"\x01\x00\x05\x00\x04\x04\x01\x02\x02\x00\x01\x00\x00\x04\x00\x00\x00\x01";
+    let c = b"\x01\x00\x08\x00\x08\x04\x01\x02\x03\x03\x03\x03\x04\x00\x00\x00\x04";
+    let still = [0, 0, 0].repeat(4);
+    let text_of_b = "5 4 4 1 2\n0 1 0\nend 1\n";
+    let text_of_c = "8 8 4 1 2\n0 0 0\n0 0 0\n0 0 0\n0 0 0\nend 4\n";
+    for (what, head, log, text, list) in [
+        ("B", head(5, 4), &b[..], text_of_b, &[0, 1, 0][..]),
+        ("C", head(8, 8), &c[..], text_of_c, &still[..]),
+    ] {
+        let read = LogRead {
+            head,
+            ..LogRead::default()
+        };
+        logged(group, what, log, text, read, list);
+        let written = Written {
+            length: log.len() as i64,
+            ..Written::default()
+        };
+        let kept = [log, b"***"].concat();
+        let (mut here, mut there) = (vec![b'*'; kept.len()], vec![b'*'; kept.len()]);
+        let answer = archive::write_log(&head, list, &mut here, kept.len());
+        group.same(what, answer, written);
+        group.same(what, logs::write_log(&head, list, &mut there), written);
+        group.same(what, (&here, &there), (&kept, &kept));
+    }
+    let read = LogRead {
+        refusal: 13,
+        ..LogRead::default()
+    };
+    logged(group, "I", b"", "refused 13 at 0\n", read, &[]);
+
+    // B, walked: the commands, then 34 for ever.
+    let (mut here, mut there) = (Cursor::default(), Cursor::default());
+    let none = Walked::default();
+    let over = Walked {
+        refusal: 34,
+        ..none
+    };
+    for wanted in [
+        Walked {
+            command: 1,
+            head: head(5, 4),
+            ..none
+        },
+        Walked {
+            command: 2,
+            dx: 1,
+            ..none
+        },
+        Walked {
+            command: 4,
+            blocks: 1,
+            ..none
+        },
+        over,
+        over,
+    ] {
+        let (answer, own) = (archive::walk(b, here), logs::walk(b, there));
+        (here, there) = (answer.next, own.next);
+        let next = Cursor::default();
+        group.same("B, walked", Walked { next, ..answer }, wanted);
+        group.same("B, walked", Walked { next, ..own }, wanted);
+    }
+}
+
 /// "J 16×16, 0 against 255: 65,280".
 fn pair_j(group: &mut Group) {
     for (older, newer) in [(0, 255), (255, 0)] {
@@ -308,6 +402,7 @@ pub fn run() -> u64 {
     pairs_e_and_f(&mut group);
     fields_of_b_and_c(&mut group);
     pairs_g_and_h(&mut group);
+    logs_of_b_c_and_i(&mut group);
     pair_j(&mut group);
     preference_order(&mut group);
     group.end()

@@ -2,15 +2,15 @@
 --   listTo-front     g 0, then the others
 --   listFrom         g k, g (k + 1), .. of n places; listTo-from: listTo is that from 0
 --   drop-front       from a place on: n elements, then what lies behind them
---   flatMap-append   the lists of two lists' elements, one behind the other
+--   flatMap-append   the lists of two lists' elements, one behind the other; flatMap-listTo: of a list by a rule
 use Prim.Native.Nat.{ℕ, zero, suc, _+_, _≤_}
 use mathlib.Core.Path.{_≡_, refl, sym, ap, ap₂, _∙_}
-use mathlib.Core.List.{List, [], _∷_, _++_, flatMap, append-assoc}
+use mathlib.Core.List.{List, [], _∷_, _++_, flatMap, append-assoc, append-nil}
 use native.Mathlib.Nat.{add-zero, add-suc}
 use native.Mathlib.Omega.{arith}
 use lib.ListN.{length, getD, drop}
 use lib.Seq.{drop-cons, append-snoc}
-use Rattle.base.specs.Lists.{listTo, listTo-ext}
+use Rattle.base.specs.Lists.{listTo, listTo-ext, concatTo}
 
 module _ {A : Type 0} where
   pub listTo-front : (g : ℕ → A) (n : ℕ) → listTo g (suc n) ≡ g 0 ∷ listTo (λ i. g (suc i)) n
@@ -45,3 +45,8 @@ module _ {A B : Type 0} where
   unfolding flatMap
   flatMap-append f [] ys = refl
   flatMap-append f (x ∷ xs) ys = rw (flatMap-append f xs ys, append-assoc)
+
+  pub flatMap-listTo : (f : A → List B) (g : ℕ → A) (n : ℕ) → flatMap f (listTo g n) ≡ concatTo (λ k. f (g k)) n
+  unfolding flatMap listTo concatTo
+  flatMap-listTo f g zero = refl
+  flatMap-listTo f g (suc n) = flatMap-append f (listTo g n) (g n ∷ []) ∙ rw (flatMap-listTo f g n, append-nil (f (g n)))

@@ -8,12 +8,13 @@
 use Prim.Native.Nat.{ℕ, suc, _+_, _*_, _≤_, _<_}
 use mathlib.Core.Path.{_≡_, refl, sym}
 use mathlib.Core.Logic.{_⊎_, ⊎-elim}
+use native.Mathlib.Nat.{le-trans}
 use native.Mathlib.Omega.{arith}
 use borrow.Author.Tests.{le-leb, lt-leb, ne-eqb}
 use mathlib.Core.Bool.{Bool, true, false, _&&_}
-use lib.Dec.{T, leb, eqb}
+use lib.Dec.{T, leb, eqb, leb→le}
 use lib.IntN.{ℤ, pos, negsuc, natAbs}
-use Rattle.base.specs.Tests.{and-left, le-both}
+use Rattle.base.specs.Tests.{and-left, and-right, le-both, true-T}
 use Rattle.signed.specs.declared.Shifted.the-variants.{At, Outside}
 use Rattle.signed.specs.Int.{eqZ, up, dn}
 use Rattle.signed.specs.Values.{shiftedBy, shifted-is, shifted-not}
@@ -21,8 +22,8 @@ use Rattle.order.specs.Vectors.{vec}
 use Rattle.frame.specs.declared.Sizes.{Sizes}
 use Rattle.frame.specs.Pictures.{sizes, Fitting}
 use Rattle.frame.specs.Grid.{blocks, blockRow, blockColumn}
-use Rattle.frame.specs.Candidates.{candidate}
-use Rattle.frame.specs.Refusals.{unless, sideOk, listed, blockOk, searchOk, windowOk, unless-zero, fitting, window-small}
+use Rattle.frame.specs.Candidates.{candidate, candidate-yes}
+use Rattle.frame.specs.Refusals.{unless, sideOk, listed, blockOk, searchOk, windowOk, unless-zero, listed-elim, fitting, window-small}
 use Rattle.heads.specs.declared.Head.{Head}
 
 abbrev pub sizesIn : Head → Sizes
@@ -55,10 +56,11 @@ isStill dy dx distortion = eqZ dy (pos 0) && (eqZ dx (pos 0) && eqZ distortion (
 
 -- ---- what an accepted head may go by
 
--- its sizes fit, N is listed, the search and its window are small
+-- its sizes fit, and all its numbers are small
 pub record Headed (h : Head) : Type 0 where
   pub fitting : Fitting (sizesIn h)
-  pub allowed : T (listed (h .n))
+  pub size : h .n ≤ 16
+  pub distortion : 255 * (h .n * h .n) ≤ 65280
   pub searching : h .search ≤ 4
   pub window : h .w ≤ 16
 
@@ -69,12 +71,41 @@ headed h e =
     let b = unless-zero (blockOk (sizesIn h)) 2 _ (a .1) in
     let c = unless-zero (searchOk (h .search)) 3 _ (b .1) in
     let d = unless-zero (windowOk (h .search) (h .w)) 4 0 (c .1) in
+    let l = and-left (listed (h .n)) (leb (h .n) (h .width) && leb (h .n) (h .height)) (b .0) in
     record {
       fitting = fitting (sizesIn h) (a .0) (b .0);
-      allowed = and-left (listed (h .n)) (leb (h .n) (h .width) && leb (h .n) (h .height)) (b .0);
+      size = listed-elim (λ n. n ≤ 16) (omega arith) (omega arith) (omega arith) (h .n) l;
+      distortion = listed-elim (λ n. 255 * (n * n) ≤ 65280) (omega arith) (omega arith) (omega arith) (h .n) l;
       searching = le-both 1 (h .search) (h .search) 4 (c .0) .1;
       window = window-small (h .search) (h .w) (d .0);
     }
+
+-- what an accepted block's numbers are
+pub record Entry (dy dx distortion : ℤ) : Type 0 where
+  pub down : natAbs dy ≤ 16
+  pub across : natAbs dx ≤ 16
+  pub above : dn distortion ≡ 0
+  pub most : up distortion ≤ 65280
+
+pub entry : (h : Head) → headRefusal h ≡ 0 → (k : ℕ) (dy dx distortion : ℤ) → entryOk h k dy dx distortion ≡ true → Entry dy dx distortion
+unfolding entryOk
+entry h e k dy dx distortion ok =
+    let s = sizesIn h in
+    let g = headed h e in
+    let test = candidate s (h .w) (blockRow s k) (blockColumn s k) (vec dy dx) in
+    let t = true-T (test && distortionOk (h .n) distortion) ok in
+    let c = candidate-yes s (h .w) (blockRow s k) (blockColumn s k) (vec dy dx) (and-left test (distortionOk (h .n) distortion) t) in
+    let d = within distortion (and-right test (distortionOk (h .n) distortion) t) in
+    record {
+      down = le-trans (c .window .down) (g .window);
+      across = le-trans (c .window .across) (g .window);
+      above = d .0;
+      most = le-trans (d .1) (g .distortion);
+    }
+  where
+    within : (z : ℤ) → T (distortionOk (h .n) z) → (dn z ≡ 0) × (up z ≤ 255 * (h .n * h .n))
+    within (pos d) t = (refl, leb→le d (255 * (h .n * h .n)) t)
+    within (negsuc d) t = absurd t
 
 pub zero-is : (z : ℤ) → eqZ z (pos 0) ≡ eqb (natAbs z) 0
 zero-is (pos n) = refl

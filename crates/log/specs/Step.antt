@@ -5,12 +5,12 @@
 -- place is the command's offset (the log's length if none begins, the first extra byte for 18)."
 --   turnedAway, handedOut   a refusal; a command, and where the walker then stands
 --   judged       "at one command 14, then 13, then the rest"
---   headAt, blockAt, stillAt, endAt   a command of that kind at an offset, in any phase
+--   headAt, blockAt, stillAt, endAt   a command of that kind at an offset, in any phase; headIn, dyAt, dxAt, distortionAt: its operands
 --   byCommand    "The command byte decides"
 --   stepAt       one call of the walker, 34 included
 --   startCursor  where a walk begins
 use Prim.Native.Nat.{ℕ, _+_, _≤_, _<_}
-use mathlib.Core.Path.{_≡_}
+use mathlib.Core.Path.{_≡_, refl}
 use mathlib.Core.List.{List}
 use mathlib.Core.Bool.{Bool, true, false, cond, not, _&&_}
 use lib.ListN.{length, getD}
@@ -27,6 +27,7 @@ use Rattle.log.specs.declared.Command.{Command}
 use Rattle.log.specs.declared.Command.the-variants as Cmd
 use Rattle.log.specs.declared.Stepped.{Stepped}
 use Rattle.log.specs.Numbers.{be2, be4}
+use Rattle.log.specs.Commands.{isRefused}
 use Rattle.heads.specs.Heads.{headRefusal, headOk, gridOf, entryOk, isStill}
 
 -- refused with a number and a place; the walker keeps its place and is over
@@ -57,14 +58,26 @@ headAt log at (Body h k) = turnedAway at 14 at
 headAt log at Ended = turnedAway at 14 at
 headAt log at Over = turnedAway at 14 at
 
+-- the operands of a block command at `at`
+abbrev pub dyAt : List ℕ → ℕ → ℤ
+dyAt log at = signedByte (getD log (at + 1) 0)
+
+abbrev pub dxAt : List ℕ → ℕ → ℤ
+dxAt log at = signedByte (getD log (at + 2) 0)
+
+abbrev pub distortionAt : List ℕ → ℕ → ℕ
+distortionAt log at = be2 log (at + 3)
+
+-- 16 lets them pass as block k
+abbrev pub blockPasses : List ℕ → ℕ → Head → ℕ → Bool
+blockPasses log at h k =
+    entryOk h k (dyAt log at) (dxAt log at) (pos (distortionAt log at)) && not (isStill (dyAt log at) (dxAt log at) (pos (distortionAt log at)))
+
 -- a block: 5 bytes, due until the grid is full
 unfoldable pub blockTaken : List ℕ → ℕ → Head → ℕ → Stepped
 blockTaken log at h k =
-    let dy = signedByte (getD log (at + 1) 0) in
-    let dx = signedByte (getD log (at + 2) 0) in
-    let distortion = be2 log (at + 3) in
-    cond (entryOk h k dy dx (pos distortion) && not (isStill dy dx (pos distortion)))
-    (handedOut (Cmd.Block dy dx distortion) (at + 5) (Body h (k + 1)))
+    cond (blockPasses log at h k)
+    (handedOut (Cmd.Block (dyAt log at) (dxAt log at) (distortionAt log at)) (at + 5) (Body h (k + 1)))
     (turnedAway at 16 at)
 
 abbrev pub blockAt : List ℕ → ℕ → Phase → Stepped
@@ -173,7 +186,7 @@ module _ (log : List ℕ) (at : ℕ) where
   unfolding endTaken
   end-taken h e = rw (eq-eqb (be4 log (at + 1)) (gridOf h) e)
 
-  module _ (h : Head) (k : ℕ) {dy dx : ℤ} {distortion : ℕ} (ey : dy ≡ signedByte (getD log (at + 1) 0)) (ex : dx ≡ signedByte (getD log (at + 2) 0)) (ed : distortion ≡ be2 log (at + 3)) where
+  module _ (h : Head) (k : ℕ) {dy dx : ℤ} {distortion : ℕ} (ey : dy ≡ dyAt log at) (ex : dx ≡ dxAt log at) (ed : distortion ≡ distortionAt log at) where
     pub block-not : entryOk h k dy dx (pos distortion) ≡ false → blockTaken log at h k ≡ turnedAway at 16 at
     unfolding blockTaken
     block-not e = rw (← ey, ← ex, ← ed, e)
@@ -186,3 +199,26 @@ module _ (log : List ℕ) (at : ℕ) where
         → blockTaken log at h k ≡ handedOut (Cmd.Block dy dx distortion) (at + 5) (Body h (k + 1))
     unfolding blockTaken
     block-taken e f = rw (← ey, ← ex, ← ed, e, f)
+
+  -- a whole block command that is due: its command says all of it
+  module _ (h : Head) (k : ℕ) where
+    abbrev taken : Bool → ℤ → ℤ → ℕ → Stepped
+    taken t dy dx distortion = cond t (handedOut (Cmd.Block dy dx distortion) (at + 5) (Body h (k + 1))) (turnedAway at 16 at)
+
+    refused-so : (t : Bool) (dy dx : ℤ) (distortion : ℕ) → isRefused (taken t dy dx distortion .command) ≡ true → taken t dy dx distortion ≡ turnedAway at 16 at
+    refused-so true dy dx distortion e = cc
+    refused-so false dy dx distortion e = refl
+
+    taken-so : (t : Bool) (dy dx : ℤ) (distortion : ℕ) → isRefused (taken t dy dx distortion .command) ≡ false
+        → taken t dy dx distortion ≡ handedOut (Cmd.Block dy dx distortion) (at + 5) (Body h (k + 1))
+    taken-so true dy dx distortion e = refl
+    taken-so false dy dx distortion e = cc
+
+    pub block-refused : isRefused (blockTaken log at h k .command) ≡ true → blockTaken log at h k ≡ turnedAway at 16 at
+    unfolding blockTaken
+    block-refused e = refused-so (blockPasses log at h k) (dyAt log at) (dxAt log at) (distortionAt log at) e
+
+    pub block-handed : isRefused (blockTaken log at h k .command) ≡ false
+        → blockTaken log at h k ≡ handedOut (Cmd.Block (dyAt log at) (dxAt log at) (distortionAt log at)) (at + 5) (Body h (k + 1))
+    unfolding blockTaken
+    block-handed e = taken-so (blockPasses log at h k) (dyAt log at) (dxAt log at) (distortionAt log at) e

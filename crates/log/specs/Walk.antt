@@ -2,11 +2,14 @@
 --   commandsFrom   in so many calls at most
 --   walk           from the start of a log. A call that is not refused goes on by a byte at least, so length + 1 calls always do
 --   lastOf         the last command of a walk: how it ended
-use Prim.Native.Nat.{ℕ, zero, suc, _+_}
+use Prim.Native.Nat.{ℕ, zero, suc, _+_, _-_, _<_}
+use mathlib.Core.Path.{_≡_}
 use mathlib.Core.List.{List, [], _∷_}
-use mathlib.Core.Bool.{cond}
+use mathlib.Core.Bool.{Bool, cond}
+use native.Mathlib.Omega.{arith}
 use lib.ListN.{length}
 use Rattle.log.specs.declared.Cursor.{Cursor}
+use Rattle.log.specs.declared.Stepped.{Stepped}
 use Rattle.log.specs.declared.Command.{Command}
 use Rattle.log.specs.declared.Command.the-variants as Cmd
 use Rattle.log.specs.Commands.{isRefused}
@@ -25,3 +28,12 @@ unfoldable pub lastOf : List Command → Command
 lastOf [] = Cmd.Refused 34 0
 lastOf (c ∷ []) = c
 lastOf (c ∷ d ∷ ds) = lastOf (d ∷ ds)
+
+-- one call, as a loop over a walk makes it
+pub commands-next : (calls : ℕ) (log : List ℕ) (c : Cursor) (s : Stepped) (t : Bool) → 0 < calls → s ≡ stepAt log c → t ≡ isRefused (s .command)
+    → commandsFrom calls log c ≡ s .command ∷ cond t [] (commandsFrom (calls - 1) log (s .next))
+unfolding commandsFrom
+commands-next zero log c s t p e f = absurd (omega arith)
+commands-next (suc calls) log c s t p e f =
+    let q : suc calls - 1 ≡ calls = omega arith in
+    rw (f, e, q)

@@ -8,7 +8,7 @@ ghost use lib.ListN.{length};
 ghost use lib.Dec.{leb, ltb};
 ghost use Rattle.log.specs.declared.Phase.the-variants.{Body};
 ghost use Rattle.log.specs.Numbers.{be2, be4};
-ghost use Rattle.log.specs.Commands.{commandNumber, placeOf, isRefused};
+ghost use Rattle.log.specs.Commands.{commandNumber, commandBytes, placeOf, isRefused};
 ghost use Rattle.heads.specs.Heads.{headRefusal, gridOf};
 ghost use Rattle.log.specs.Step.{turnedAway, judged, headIn, headTaken, headAt, blockTaken, blockAt, stillAt, endTaken, endAt, commandAt, afterEnd, standingOk, phaseOk, stepAt, startCursor};
 use heads::Head;
@@ -76,6 +76,26 @@ pub fn place_of(command: Command) -> usize
         Command::Still => 0,
         Command::End(_) => 0,
         Command::Refused { number: _, place } => place,
+    }
+}
+
+// How many bytes a command takes.
+pub fn command_size(command: Command) -> usize
+    ensures { λ r. ⌜ r ≡ length (commandBytes command) ⌝ }
+{
+    match command {
+        Command::Head(_) => 8,
+        Command::Block {
+            dy: _,
+            dx: _,
+            distortion: _,
+        } => 5,
+        Command::Still => 1,
+        Command::End(_) => 5,
+        Command::Refused {
+            number: _,
+            place: _,
+        } => 0,
     }
 }
 
@@ -200,27 +220,45 @@ fn block_due(log: &[u8], at: usize, head: Head, blocks: usize) -> Stepped
     block_taken(log, at, head, blocks)
 }
 
-// A whole block command that is due.
-fn block_taken(log: &[u8], at: usize, head: Head, blocks: usize) -> Stepped
+// What a whole block command that is due hands out: the block, or 16.
+pub fn block_in(log: &[u8], at: usize, head: Head, blocks: usize) -> Command
     requires { ⌜ (at + 5 ≤ length (now log)) × (headRefusal head ≡ 0) × (blocks < gridOf head) ⌝ }
-    ensures { λ r. ⌜ r ≡ blockTaken (now (log .entry)) at head blocks ⌝ }
+    ensures { λ r. ⌜ r ≡ blockTaken (now (log .entry)) at head blocks .command ⌝ }
 {
     let dy = signed::from_byte(log[at + 1]);
     let dx = signed::from_byte(log[at + 2]);
     let distortion = two(log, at + 3);
     let d = distortion as i32;
     if !heads::entry_ok(head, blocks, dy, dx, d) {
-        return turned_away(at, 16, at);
+        return Command::Refused {
+            number: 16,
+            place: at,
+        };
     }
     if heads::is_still(dy, dx, d) {
+        return Command::Refused {
+            number: 16,
+            place: at,
+        };
+    }
+    Command::Block {
+        dy,
+        dx,
+        distortion: distortion as u32,
+    }
+}
+
+// A whole block command that is due.
+fn block_taken(log: &[u8], at: usize, head: Head, blocks: usize) -> Stepped
+    requires { ⌜ (at + 5 ≤ length (now log)) × (headRefusal head ≡ 0) × (blocks < gridOf head) ⌝ }
+    ensures { λ r. ⌜ r ≡ blockTaken (now (log .entry)) at head blocks ⌝ }
+{
+    let command = block_in(log, at, head, blocks);
+    if is_refused(command) {
         return turned_away(at, 16, at);
     }
     Stepped {
-        command: Command::Block {
-            dy,
-            dx,
-            distortion: distortion as u32,
-        },
+        command,
         next: Cursor {
             at: at + 5,
             phase: Phase::Body {

@@ -1,15 +1,15 @@
 -- A call of the walker is the first command of what is left of the walk. So how the rest ends is how the whole ends, and the blocks of the rest are
 -- those still to be stored.
 use Prim.Native.Nat.{ℕ, zero, suc, _+_, _-_, _*_, _≤_, _<_}
-use mathlib.Core.Path.{_≡_, refl}
-use mathlib.Core.List.{List, [], _∷_, flatMap}
+use mathlib.Core.Path.{_≡_, refl, _∙_}
+use mathlib.Core.List.{List, [], _∷_, _++_, flatMap}
 use mathlib.Core.Bool.{Bool, true, false, cond, _&&_}
 use native.Mathlib.Nat.{le-trans}
 use native.Mathlib.Omega.{arith}
 use borrow.Author.Tests.{eqb-true, ltb-false}
 use lib.Dec.{leb→le, ltb, eqb}
 use lib.IntN.{ℤ, pos}
-use lib.ListN.{length, length-append}
+use lib.ListN.{length, drop, length-append}
 use Rattle.base.specs.Tests.{and-right, true-T}
 use Rattle.order.specs.Vectors.{vec}
 use Rattle.frame.specs.Grid.{blockRow, blockColumn}
@@ -21,37 +21,26 @@ use Rattle.log.specs.declared.Command.{Command}
 use Rattle.log.specs.declared.Command.the-variants as Cmd
 use Rattle.log.specs.declared.Stepped.{Stepped}
 use Rattle.log.specs.Commands.{commandNumber, isRefused, blockValues}
-use Rattle.heads.specs.Heads.{sizesIn, headRefusal, gridOf, entryOk, distortionOk, headed}
+use Rattle.heads.specs.Heads.{gridOf, entry}
+use Rattle.put.specs.Put.{Rest, rest-last, put-over, over-fits}
 use Rattle.log.specs.Step.{headIn, stepAt, startCursor}
-use Rattle.log.specs.Walk.{commandsFrom, walk, lastOf}
+use Rattle.log.specs.Walk.{commandsFrom, commands-next, walk, lastOf}
 use Rattle.walks.specs.Cases.{Kind, kinds}
 use Rattle.walks.specs.Cases as Cases
 use Rattle.walks.proofs.Ends.{last-after, refused-number, ends}
 use Rattle.walks.proofs.Accepted.{field-length}
 use Rattle.log_reading.specs.Reading.{fieldOf, refusedRead, refusedBy, acceptedRead, logRead}
-use Rattle.log_reading.specs.Storing.{Stored, Left, distortionIn}
-use Rattle.log_reading.proofs.Storing.{left-more}
-
--- one call
-call : (left : ℕ) (log : List ℕ) (c : Cursor) (s : Stepped) (t : Bool) → 0 < left → s ≡ stepAt log c → t ≡ isRefused (s .command)
-    → commandsFrom left log c ≡ s .command ∷ cond t [] (commandsFrom (left - 1) log (s .next))
-unfolding commandsFrom
-call zero log c s t p e f = absurd (omega arith)
-call (suc left) log c s t p e f =
-    let q : suc left - 1 ≡ left = omega arith in
-    rw (f, e, q)
+use Rattle.log_reading.specs.Storing.{distortionIn}
 
 module _ (left : ℕ) (log : List ℕ) (c : Cursor) (s : Stepped) (t : Bool) (some : 0 < left) (e : s ≡ stepAt log c) (f : t ≡ isRefused (s .command)) where
   -- how it ends
   pub end-turn : (x whole : Command) → lastOf (x ∷ commandsFrom left log c) ≡ whole → lastOf (s .command ∷ cond t [] (commandsFrom (left - 1) log (s .next))) ≡ whole
   unfolding lastOf
-  end-turn x whole h = rw (call left log c s t some e f) at h
+  end-turn x whole h = rw (commands-next left log c s t some e f) at h
 
-  -- what is stored
-  pub store-turn : {list m before whole : List ℤ} {at k : ℕ} → Left list at (fieldOf (commandsFrom left log c)) before whole → Stored list at (blockValues (s .command)) m k
-      → Left m k (fieldOf (cond t [] (commandsFrom (left - 1) log (s .next)))) before whole
-  unfolding fieldOf flatMap
-  store-turn l w = left-more (rw (call left log c s t some e f) at l) w
+-- all is stored
+pub stored : {list before whole : List ℤ} {at : ℕ} → Rest list at [] before 0 whole → length whole ≤ length before → list ≡ whole ++ drop (length whole) before
+stored {before} {whole} r fits = put-over (rest-last r) .0 ∙ over-fits whole before fits
 
 -- the numbers of a call's command are among those of the rest
 pub store-room : (left : ℕ) (log : List ℕ) (c : Cursor) (s : Stepped) → 0 < left → s ≡ stepAt log c
@@ -59,7 +48,7 @@ pub store-room : (left : ℕ) (log : List ℕ) (c : Cursor) (s : Stepped) → 0 
 unfolding fieldOf flatMap
 store-room left log c s some e =
     let rest = cond (isRefused (s .command)) [] (commandsFrom (left - 1) log (s .next)) in
-    rw (call left log c s (isRefused (s .command)) some e refl)
+    rw (commands-next left log c s (isRefused (s .command)) some e refl)
     (omega (arith, length-append (blockValues (s .command)) (flatMap blockValues rest)))
 
 -- before the first call
@@ -69,22 +58,13 @@ end-first x log = last-after x (length log + 1) log startCursor (omega arith)
 
 -- ---- a command's distortion
 
-distortion-fits : (h : Head) (k : ℕ) (dy dx : ℤ) (d : ℕ) → headRefusal h ≡ 0 → entryOk h k dy dx (pos d) ≡ true → d ≤ 65280
-unfolding entryOk
-distortion-fits h k dy dx d e ok =
-    let s = sizesIn h in
-    let a = candidate s (h .w) (blockRow s k) (blockColumn s k) (vec dy dx) in
-    let t = and-right a (distortionOk (h .n) (pos d)) (true-T (a && distortionOk (h .n) (pos d)) ok) in
-    le-trans (leb→le d (255 * (h .n * h .n)) t)
-    (listed-elim (λ n. 255 * (n * n) ≤ 65280) (omega arith) (omega arith) (omega arith) (h .n) (headed h e .allowed))
-
 pub step-fits : (log : List ℕ) (c : Cursor) → distortionIn (stepAt log c .command) ≤ 65280
 step-fits log c = go (stepAt log c) (kinds log c)
   where
     go : (s : Stepped) → Kind log c s → distortionIn (s .command) ≤ 65280
     go s (Cases.refused number place a b w) = omega arith
     go s (Cases.head q b f r) = omega arith
-    go s (Cases.block h k q r g b f o t) = distortion-fits h k _ _ _ r o
+    go s (Cases.block h k q r g b f o t) = entry h r k _ _ _ o .most
     go s (Cases.still h k q r g b f) = omega arith
     go s (Cases.end h k q r g b f n) = omega arith
 

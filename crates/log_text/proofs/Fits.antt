@@ -25,13 +25,12 @@ use Rattle.log.specs.declared.Cursor.{Cursor}
 use Rattle.log.specs.declared.Command.the-variants as Cmd
 use Rattle.log.specs.declared.Stepped.{Stepped}
 use Rattle.log.specs.Commands.{isRefused}
-use Rattle.heads.specs.Heads.{sizesIn, Headed, headed, distortionOk, entryOk}
+use Rattle.heads.specs.Heads.{Headed, headed, Entry, entry}
 use Rattle.log.specs.Step.{stepAt, startCursor}
-use Rattle.log.specs.Walk.{walk}
+use Rattle.log.specs.Walk.{commandsFrom, walk}
 use Rattle.walks.specs.Cases.{Kind, kinds}
 use Rattle.log_text.specs.Text.{digits, decimal, number, spaced, endWord, refusedWord, atWord, worded, lineOf, printed}
 use Rattle.log_text.proofs.Texts.{digits-one, cond-length, digits-length}
-use Rattle.log_text.proofs.Turns.{textFrom, text-none, text-more}
 
 record Short (text : List ℕ) (n : ℕ) : Type 0 where
   pub most : length text ≤ n
@@ -75,19 +74,14 @@ unfolding worded spaced limit
 head-line h a =
     both (few-digits 3 (h .width) 32 (omega (arith, a .fitting .wide)))
     (both (few-digits 3 (h .height) 32 (omega (arith, a .fitting .high)))
-    (both (few-digits 1 (h .n) 32 (listed-elim (λ n. n < 100) (omega arith) (omega arith) (omega arith) (h .n) (a .allowed)))
+    (both (few-digits 1 (h .n) 32 (omega (arith, a .size)))
     (both (few-digits 1 (h .w) 32 (omega (arith, a .window)))
     (any-number (h .search) 10))))
 
-block-line : (h : Head) (k : ℕ) (dy dx : ℤ) (distortion : ℕ) → Headed h → entryOk h k dy dx (pos distortion) ≡ true → Short (lineOf (Cmd.Block dy dx distortion)) 29
-unfolding worded spaced limit entryOk
-block-line h k dy dx distortion a e =
-    let s = sizesIn h in
-    let c = candidate-yes s (h .w) (blockRow s k) (blockColumn s k) (vec dy dx)
-    (and-left (candidate s (h .w) (blockRow s k) (blockColumn s k) (vec dy dx)) (distortionOk (h .n) (pos distortion)) (true-T _ e)) in
-    both (few-signed 1 dy 32 (omega (arith, a .window, c .window .down)))
-    (both (few-signed 1 dx 32 (omega (arith, a .window, c .window .across)))
-    (any-number distortion 10))
+block-line : (dy dx : ℤ) (distortion : ℕ) → Entry dy dx (pos distortion) → Short (lineOf (Cmd.Block dy dx distortion)) 29
+unfolding worded spaced limit
+block-line dy dx distortion a =
+    both (few-signed 1 dy 32 (omega (arith, a .down))) (both (few-signed 1 dx 32 (omega (arith, a .across))) (any-number distortion 10))
 
 end-word : Short endWord 4
 unfolding endWord
@@ -119,14 +113,17 @@ still-line = record { most = omega arith }
 
 -- ---- the text
 
--- what so many calls from a cursor on print has at most 6 bytes for each byte left, and a refusal's 20
+-- what so many calls from a cursor on print
+abbrev textFrom : ℕ → List ℕ → Cursor → List ℕ
+textFrom calls log c = flatMap lineOf (commandsFrom calls log c)
+
+-- it has at most 6 bytes for each byte left, and a refusal's 20
 abbrev Fitted : ℕ → List ℕ → Cursor → Type 0
 Fitted calls log c = length (textFrom calls log c) + 6 * c .at ≤ 6 * length log + 20
 
 one-more : (calls : ℕ) (log : List ℕ) (c : Cursor) → length log ≤ 65536 → ((next : Cursor) → next .at ≤ length log → Fitted calls log next) → c .at ≤ length log → Fitted (suc calls) log c
-one-more calls log c small after h =
-    let e : suc calls - 1 ≡ calls = omega arith in
-    rw (text-more (suc calls) log c (stepAt log c) (isRefused (stepAt log c .command)) (omega arith) refl refl, e) (go (stepAt log c) (kinds log c))
+unfolding commandsFrom flatMap
+one-more calls log c small after h = go (stepAt log c) (kinds log c)
   where
     -- a line, and what follows it
     more : (line : List ℕ) (next : Cursor) (m : ℕ) → Short line m → next .at ≤ length log → m + 6 * c .at ≤ 6 * next .at
@@ -134,15 +131,16 @@ one-more calls log c small after h =
     more line next m s l g = omega (arith, length-append line (textFrom calls log next), s .most, after next l)
 
     go : (s : Stepped) → Kind log c s
-        → length (lineOf (s .command) ++ cond (isRefused (s .command)) [] (textFrom calls log (s .next))) + 6 * c .at ≤ 6 * length log + 20
+        → length (lineOf (s .command) ++ flatMap lineOf (cond (isRefused (s .command)) [] (commandsFrom calls log (s .next)))) + 6 * c .at ≤ 6 * length log + 20
     go s (Kind.refused n place a b none) = omega (arith, length-append (lineOf (Cmd.Refused n place)) [], refused-line n place a (omega arith) .most)
     go s (Kind.head phase byte whole ok) = more _ _ _ (head-line _ (headed _ ok)) whole (omega arith)
-    go s (Kind.block g k phase ok due byte whole entry still) = more _ _ _ (block-line g k _ _ _ (headed g ok) entry) whole (omega arith)
+    go s (Kind.block g k phase ok due byte whole passed still) = more _ _ _ (block-line _ _ _ (entry g ok k _ _ _ passed)) whole (omega arith)
     go s (Kind.still g k phase ok due byte whole) = more _ _ _ still-line whole (omega arith)
     go s (Kind.end g k phase ok full byte whole blocks) = more _ _ _ (end-line _) whole (omega arith)
 
 from-here : (calls : ℕ) (log : List ℕ) (c : Cursor) → length log ≤ 65536 → c .at ≤ length log → Fitted calls log c
-from-here zero log c small h = rw (text-none log c) (omega arith)
+unfolding commandsFrom flatMap
+from-here zero log c small h = omega arith
 from-here (suc calls) log c small h = one-more calls log c small (λ next l. from-here calls log next small l) h
 
 pub printed-long : (log : List ℕ) → 65536 < length log → printed log ≡ worded (Cmd.Refused 20 65536)
@@ -154,7 +152,7 @@ unfolding printed
 printed-walk log h = rw (le-ltb 65536 (length log) h)
 
 pub fits : (log : List ℕ) → length (printed log) ≤ 393236
-unfolding textFrom walk
+unfolding walk
 fits log = go (decLt 65536 (length log))
   where
     go : Dec (65536 < length log) → length (printed log) ≤ 393236

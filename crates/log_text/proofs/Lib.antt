@@ -1,3 +1,3 @@
 pub mod Texts
-pub mod Turns
+pub mod Blocks
 pub mod Fits

@@ -1,16 +1,22 @@
 // The text of a log: all that the program prints, put into a lent buffer. A byte past the buffer's end is counted and not put.
 
 ghost use mathlib.Core.Path.{_≡_};
+ghost use mathlib.Core.Bool.{false};
 ghost use mathlib.Core.List.{flatMap};
-ghost use Prim.Native.Nat.{_+_, _≤_, _<_};
+ghost use Prim.Native.Nat.{_+_, _*_, _≤_, _<_};
 ghost use lib.ListN.{length};
 ghost use lib.IntN.{pos};
 ghost use Rattle.put.specs.Put.{Put, over};
 ghost use Rattle.log.specs.declared.Command.the-variants as Cmd;
-ghost use Rattle.log.specs.Walk.{walk};
+ghost use Rattle.log.specs.Commands.{isRefused};
+ghost use Rattle.log.specs.Walk.{commandsFrom, walk};
+ghost use Rattle.heads.specs.Heads.{headRefusal, gridOf};
+ghost use Rattle.log_text.specs.Quick.{among, Quick};
 ghost use Rattle.log_text.specs.Text.{digits, decimal, number, worded, lineOf, printed};
 use heads::Head;
 use log::Command;
+use log::Cursor;
+use log::Phase;
 
 // The byte of a digit.
 fn digit(n: usize) -> u8
@@ -140,14 +146,14 @@ fn put_line(out: &mut [u8], at: usize, command: Command) -> usize
     }
 }
 
-// The lines of a walk, from the buffer's start.
-fn put_walk(log: &[u8], out: &mut [u8]) -> usize
-    requires { ⌜ length (now log) ≤ 65536 ⌝ }
-    ensures { λ r. ⌜ Put (now (out .entry)) 0 (flatMap lineOf (walk (now (log .entry)))) (now (out .exit)) r ⌝ }
+// The lines of so many calls from a cursor on.
+fn put_from(log: &[u8], out: &mut [u8], from: usize, start: Cursor, most: usize) -> usize
+    requires { ⌜ from + 128 * most ≤ 16777216 ⌝ }
+    ensures { λ r. ⌜ Put (now (out .entry)) from (flatMap lineOf (commandsFrom most (now (log .entry)) start)) (now (out .exit)) r ⌝ }
 {
-    let mut cursor = log::start();
-    let mut at = 0;
-    let mut calls = log.len() + 1;
+    let mut cursor = start;
+    let mut at = from;
+    let mut calls = most;
     while calls > 0 {
         let s = log::step_at(log, cursor);
         let command = s.command;
@@ -160,6 +166,78 @@ fn put_walk(log: &[u8], out: &mut [u8]) -> usize
         calls -= 1;
     }
     at
+}
+
+// Block k, where a block stands there that passes; a refusal says nothing.
+fn block_here(log: &[u8], at: usize, head: Head, all: usize, k: usize) -> Command
+    requires { ⌜ (at ≤ length (now log)) × (headRefusal head ≡ 0) × (all ≡ gridOf head) ⌝ }
+    ensures { λ r. ⌜ Quick (now (log .entry)) at head k r ⌝ }
+{
+    if k < all {
+        if at < log.len() {
+            let command = log[at];
+            if command == 3 {
+                return Command::Still;
+            }
+            if command == 2 {
+                if log.len() - at >= 5 {
+                    return log::block_in(log, at, head, k);
+                }
+            }
+        }
+    }
+    Command::Refused {
+        number: 0,
+        place: 0,
+    }
+}
+
+// The line of a block; a still block's is at hand, for a log may have thousands of them.
+fn put_block_line(out: &mut [u8], at: usize, command: Command) -> usize
+    requires { ⌜ (at ≤ 1000000000) × (isRefused command ≡ false) ⌝ }
+    ensures { λ r. ⌜ (Put (now (out .entry)) at (lineOf command) (now (out .exit)) r) × (r ≤ at + 128) ⌝ }
+{
+    if log::command_number(command) == 3 {
+        return put_word(out, at, b"0 0 0\n");
+    }
+    put_line(out, at, command)
+}
+
+// The lines after the head's: blocks that pass one after the other, the head judged once; whatever comes then by `put_from`.
+fn put_body(log: &[u8], out: &mut [u8], from: usize, head: Head) -> usize
+    requires { ⌜ (8 ≤ length (now log)) × (length (now log) ≤ 65536) × (from ≤ 128) × (headRefusal head ≡ 0) ⌝ }
+    ensures { λ r. ⌜ Put (now (out .entry)) from (flatMap lineOf (commandsFrom (length (now (log .entry))) (now (log .entry)) (among head 8 0))) (now (out .exit)) r ⌝ }
+{
+    let all = heads::grid(head);
+    let mut next: usize = 8;
+    let mut k: usize = 0;
+    let mut at = from;
+    let mut command = block_here(log, next, head, all, k);
+    while !log::is_refused(command) {
+        at = put_block_line(out, at, command);
+        next += log::command_size(command);
+        k += 1;
+        command = block_here(log, next, head, all, k);
+    }
+    let rest = Cursor {
+        at: next,
+        phase: Phase::Body { head, blocks: k },
+    };
+    put_from(log, out, at, rest, log.len() - k)
+}
+
+// The lines of a walk, from the buffer's start.
+fn put_walk(log: &[u8], out: &mut [u8]) -> usize
+    requires { ⌜ length (now log) ≤ 65536 ⌝ }
+    ensures { λ r. ⌜ Put (now (out .entry)) 0 (flatMap lineOf (walk (now (log .entry)))) (now (out .exit)) r ⌝ }
+{
+    let s = log::step_at(log, log::start());
+    let first = s.command;
+    let at = put_line(out, 0, first);
+    if log::is_refused(first) {
+        return at;
+    }
+    put_body(log, out, at, log::head_in(log, 0))
 }
 
 // All that the program prints for the bytes of a log, over the front of the buffer as far as it fits. Answers with the text's length.

@@ -7,6 +7,7 @@ use native.Mathlib.Omega.{arith}
 use lib.IntN.{ℤ}
 use lib.ListN.{length, drop, length-append}
 use Rattle.base.specs.Lists.{listTo, concatTo, concatTo-more}
+use Rattle.base.specs.Fronts.{flatMap-append, flatMap-listTo}
 use Rattle.put.specs.Put.{Put, put-over, over-fits}
 use Rattle.heads.specs.declared.Head.{Head}
 use Rattle.log.specs.Commands.{commandBytes}
@@ -14,17 +15,6 @@ use Rattle.heads.specs.Heads.{gridOf, isStill}
 use Rattle.log.specs.Logs.{valueOf, blockCommand, logCommands, logOf}
 use Rattle.log_writing.specs.Writing.{asWriting}
 use Rattle.log_writing.specs.Parts.{headBytes, numbersBytes, endBytes, blockBytes}
-
-module _ {A B : Type 0} (f : A → List B) where
-  flatMap-append : (xs ys : List A) → flatMap f (xs ++ ys) ≡ flatMap f xs ++ flatMap f ys
-  unfolding flatMap
-  flatMap-append [] ys = refl
-  flatMap-append (x ∷ xs) ys = ap (_++_ (f x)) (flatMap-append xs ys) ∙ sym (append-assoc (f x) (flatMap f xs) (flatMap f ys))
-
-  flatMap-listTo : (g : ℕ → A) (n : ℕ) → flatMap f (listTo g n) ≡ concatTo (λ k. f (g k)) n
-  unfolding flatMap listTo concatTo
-  flatMap-listTo g zero = refl
-  flatMap-listTo g (suc n) = flatMap-append (listTo g n) (g n ∷ []) ∙ rw (flatMap-listTo g n, append-nil (f (g n)))
 
 module _ (list : List ℤ) where
   pub log-parts : (h : Head) → logOf h list ≡ headBytes h ++ (concatTo (blockBytes list) (gridOf h) ++ endBytes (gridOf h))

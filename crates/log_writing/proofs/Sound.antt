@@ -24,7 +24,7 @@ use Rattle.heads.specs.declared.Head.{Head}
 use Rattle.heads.specs.Heads.{sizesIn, headRefusal, gridOf, distortionOk, entryOk, headed}
 use Rattle.log.specs.Logs.{valueOf}
 use Rattle.log_writing.specs.Writing.{listRefusal, listedOk, firstWrong}
-use Rattle.log_writing.specs.Parts.{Listed, Small, Passed}
+use Rattle.log_writing.specs.Parts.{Listed, Passed}
 
 -- ---- 1 3 4 5 10
 
@@ -34,28 +34,6 @@ listed h list e =
     let a = first-zero (headRefusal h) _ e in
     let b = unless-zero (leb (3 * gridOf h) list) 9 0 (a .1) in
     record { fine = a .0; few = blocks-few (sizesIn h) (headed h (a .0) .fitting); room = leb→le _ _ (b .0) }
-
-pub n-small : (h : Head) → headRefusal h ≡ 0 → h .n ≤ 16
-n-small h e = listed-elim (λ n. n ≤ 16) (omega arith) (omega arith) (omega arith) (h .n) (headed h e .allowed)
-
--- ---- 16
-
-distortion-fits : (n : ℕ) (d : ℤ) → 255 * (n * n) ≤ 65280 → T (distortionOk n d) → (dn d ≡ 0) × (up d ≤ 65280)
-distortion-fits n (pos d) h t = (refl, le-trans (leb→le d (255 * (n * n)) t) h)
-distortion-fits n (negsuc d) h t = absurd t
-
-pub small : (h : Head) (list : List ℤ) (k : ℕ) → headRefusal h ≡ 0 → listedOk h list k ≡ true → Small (valueOf list k 0) (valueOf list k 1) (valueOf list k 2)
-unfolding entryOk
-small h list k e ok =
-    let hd = headed h e in
-    let s = sizesIn h in
-    let v = vec (valueOf list k 0) (valueOf list k 1) in
-    let d = valueOf list k 2 in
-    let t = true-T (candidate s (h .w) (blockRow s k) (blockColumn s k) v && distortionOk (h .n) d) ok in
-    let w = candidate-older s (h .w) (blockRow s k) (blockColumn s k) v (and-left (candidate s (h .w) (blockRow s k) (blockColumn s k) v) (distortionOk (h .n) d) t) .window in
-    let q : 255 * (h .n * h .n) ≤ 65280 = listed-elim (λ n. 255 * (n * n) ≤ 65280) (omega arith) (omega arith) (omega arith) (h .n) (hd .allowed) in
-    let f = distortion-fits (h .n) d q (and-right (candidate s (h .w) (blockRow s k) (blockColumn s k) v) (distortionOk (h .n) d) t) in
-    record { down = le-trans (w .down) (hd .window); across = le-trans (w .across) (hd .window); above = f .0; most = f .1 }
 
 -- ---- the first block that 16 turns away
 

@@ -2,7 +2,6 @@
 --   headBytes, numbersBytes, endBytes   the bytes of a head, of a block that is not still, and of the end
 --   blockBytes   the bytes of block k, still or not
 --   Listed       1 3 4 5 10 let head and list pass
---   Small        a block's numbers fit their bytes
 --   Passed       16 lets every block pass too
 use Prim.Native.Nat.{ℕ, _*_, _≤_, _<_}
 use mathlib.Core.Path.{_≡_}
@@ -34,12 +33,6 @@ pub record Listed (h : Head) (list : ℕ) : Type 0 where
   pub fine : headRefusal h ≡ 0
   pub few : gridOf h ≤ 1048576
   pub room : 3 * gridOf h ≤ list
-
-pub record Small (dy dx distortion : ℤ) : Type 0 where
-  pub down : natAbs dy ≤ 16
-  pub across : natAbs dx ≤ 16
-  pub above : dn distortion ≡ 0
-  pub most : up distortion ≤ 65280
 
 pub record Passed (h : Head) (list : List ℤ) : Type 0 where
   pub listed : Listed h (length list)

@@ -6,10 +6,10 @@ ghost use lib.ListN.{length};
 ghost use Rattle.base.specs.Lists.{concatTo};
 ghost use Rattle.put.specs.Put.{Put};
 ghost use Rattle.log.specs.Numbers.{bytes2};
-ghost use Rattle.heads.specs.Heads.{headRefusal, gridOf, isStill};
+ghost use Rattle.heads.specs.Heads.{headRefusal, gridOf, isStill, Entry};
 ghost use Rattle.log.specs.Logs.{valueOf, logOf};
 ghost use Rattle.log_writing.specs.Writing.{listRefusal, listedOk, firstWrong, asWriting, refusedWrite, wroteListed, wrote};
-ghost use Rattle.log_writing.specs.Parts.{headBytes, numbersBytes, endBytes, blockBytes, Listed, Small, Passed};
+ghost use Rattle.log_writing.specs.Parts.{headBytes, numbersBytes, endBytes, blockBytes, Listed, Passed};
 use heads::Head;
 
 // What writing answers: the log's length, or a refusal with its place.
@@ -140,7 +140,7 @@ fn put_head(out: &mut [u8], h: Head) -> usize
 
 // A block that is not still.
 fn put_numbers(out: &mut [u8], at: usize, dy: i32, dx: i32, distortion: i32) -> usize
-    requires { ⌜ (at < 100000000000) × Small dy dx distortion ⌝ }
+    requires { ⌜ (at < 100000000000) × Entry dy dx distortion ⌝ }
     ensures { λ r. ⌜ Put (now (out .entry)) at (numbersBytes dy dx distortion) (now (out .exit)) r ⌝ }
 {
     let a = put::put_byte(out, at, 2);
@@ -152,7 +152,7 @@ fn put_numbers(out: &mut [u8], at: usize, dy: i32, dx: i32, distortion: i32) -> 
 // Block k.
 fn put_block(out: &mut [u8], at: usize, list: &[i32], k: usize) -> usize
     requires { ⌜ (at < 100000000000) × (3 * k + 3 ≤ length (now list)) × (k < 1048576) ⌝ }
-    requires { ⌜ Small (valueOf (now list) k 0) (valueOf (now list) k 1) (valueOf (now list) k 2) ⌝ }
+    requires { ⌜ Entry (valueOf (now list) k 0) (valueOf (now list) k 1) (valueOf (now list) k 2) ⌝ }
     ensures { λ r. ⌜ Put (now (out .entry)) at (blockBytes (now (list .entry)) k) (now (out .exit)) r × (r ≤ at + 5) ⌝ }
 {
     if still_at(list, k) {

@@ -10,19 +10,18 @@ use lib.ListN.{length, take, List·getD-append}
 use lib.Seq.{take-add}
 use Rattle.base.specs.Lists.{listTo, listTo-ext}
 use Rattle.base.specs.Tests.{and-left, and-right, T-true, true-T}
-use Rattle.signed.specs.Int.{same, eqZ, eq-yes}
+use Rattle.signed.specs.Int.{up, same, eqZ, eq-yes}
 use Rattle.heads.specs.declared.Head.{Head}
 use Rattle.log.specs.declared.Command.{Command}
 use Rattle.log.specs.declared.Command.the-variants as Cmd
 use Rattle.log.specs.Commands.{commandBytes, blockValues}
-use Rattle.heads.specs.Heads.{headRefusal, gridOf, isStill}
+use Rattle.heads.specs.Heads.{headRefusal, gridOf, isStill, entry}
 use Rattle.log.specs.Logs.{valueOf, blockCommand, logCommands, logOf}
 use Rattle.log.specs.Walk.{lastOf}
 use Rattle.log_writing.specs.Writing.{listedOk}
 use Rattle.log_reading.specs.Reading.{fieldOf}
 use Rattle.base.specs.Fronts.{drop-front, flatMap-append}
 use Rattle.walks.proofs.Made.{Made, as-still, as-block, made}
-use Rattle.walks.proofs.Steps.{entry}
 
 -- a still block is (0,0) with distortion 0
 zero-is : (z : ℤ) → eqZ z (pos 0) ≡ true → z ≡ pos 0
@@ -42,7 +41,10 @@ module _ (h : Head) (list : List ℤ) (ok : headRefusal h ≡ 0) (entries : (k :
   block-values : (k : ℕ) → k < gridOf h → (x : Command) → Made (valueOf list k 0) (valueOf list k 1) (valueOf list k 2) x
       → blockValues x ≡ valueOf list k 0 ∷ valueOf list k 1 ∷ valueOf list k 2 ∷ []
   block-values k l x (as-still e) = let s = still-is (valueOf list k 0) (valueOf list k 1) (valueOf list k 2) e in rw (s .0, s .1, s .2)
-  block-values k l x (as-block e) = rw (entry h ok k (valueOf list k 0) (valueOf list k 1) (valueOf list k 2) (entries k l) .distortion)
+  block-values k l x (as-block e) =
+      let z = valueOf list k 2 in
+      let is = entry h ok k (valueOf list k 0) (valueOf list k 1) z (entries k l) in
+      rw (same (pos (up z)) z (omega (arith, is .above)))
 
   -- three more of a list
   take-three : (n : ℕ) → 3 * suc n ≤ length list → take (3 * suc n) list ≡ take (3 * n) list ++ (valueOf list n 0 ∷ valueOf list n 1 ∷ valueOf list n 2 ∷ [])

@@ -4,7 +4,7 @@
 --   Accepted   an accepted log with its walk
 --   accepted   a walk that ends with 34 is one
 use Prim.Native.Nat.{ℕ, zero, suc, _+_, _*_, _≤_, _<_}
-use mathlib.Core.Path.{_≡_, sym, ap, _∙_}
+use mathlib.Core.Path.{_≡_, refl, sym, ap, _∙_}
 use mathlib.Core.List.{List, [], _∷_, flatMap}
 use mathlib.Core.Bool.{true, false, cond}
 use native.Mathlib.Numerals.{add-one}
@@ -23,7 +23,8 @@ use Rattle.log.specs.Commands.{commandNumber, isRefused, blockValues}
 use Rattle.heads.specs.Heads.{headRefusal, gridOf, entryOk, isStill}
 use Rattle.log.specs.Step.{headIn, standingOk, stepAt, startCursor}
 use Rattle.log.specs.Walk.{commandsFrom, walk, lastOf}
-use Rattle.walks.specs.Cases.{dyAt, dxAt, distortionAt, NoMore, past, unsound, ended, over, Kind, kinds}
+use Rattle.log.specs.Step.{dyAt, dxAt, distortionAt}
+use Rattle.walks.specs.Cases.{NoMore, past, unsound, ended, over, Kind, kinds}
 use Rattle.walks.specs.Cases as Cases
 use Rattle.walks.proofs.Ends.{last-after}
 
@@ -145,12 +146,14 @@ unfolding walk commandsFrom
 walk-begins log = rw add-one
 
 -- a first call that is not refused hands out a head
-pub begun : (log : List ℕ) → isRefused (stepAt log startCursor .command) ≡ false → (8 ≤ length log) × (headRefusal (headIn log 0) ≡ 0)
+pub begun : (log : List ℕ) → isRefused (stepAt log startCursor .command) ≡ false
+    → (8 ≤ length log) × (headRefusal (headIn log 0) ≡ 0) × (stepAt log startCursor .next ≡ record { at = 8; phase = Body (headIn log 0) 0 })
 begun log = go (stepAt log startCursor) (kinds log startCursor)
   where
-    go : (s : Stepped) → Kind log startCursor s → isRefused (s .command) ≡ false → (8 ≤ length log) × (headRefusal (headIn log 0) ≡ 0)
+    go : (s : Stepped) → Kind log startCursor s → isRefused (s .command) ≡ false
+        → (8 ≤ length log) × (headRefusal (headIn log 0) ≡ 0) × (s .next ≡ record { at = 8; phase = Body (headIn log 0) 0 })
     go s (Cases.refused number place a b w) e = let z : _≡_ {A = ℕ} 0 1 = cc in absurd (omega arith)
-    go s (Cases.head q b f r) e = (f, r)
+    go s (Cases.head q b f r) e = (f, r, refl)
     go s (Cases.block h k q r g b f o t) e = let z : _≡_ {A = ℕ} 0 1 = cc in absurd (omega arith)
     go s (Cases.still h k q r g b f) e = let z : _≡_ {A = ℕ} 0 1 = cc in absurd (omega arith)
     go s (Cases.end h k q r g b f n) e = let z : _≡_ {A = ℕ} 0 1 = cc in absurd (omega arith)

@@ -7,3 +7,4 @@ pub mod Entries
 pub mod Steps
 pub mod Made
 pub mod Complete
+pub mod Turns

@@ -11,7 +11,7 @@ use lib.IntN.{ℤ, pos, negsuc, natAbs}
 use lib.ListN.{length, getD, drop, length-append, length-drop}
 use lib.Seq.{getD-drop, drop-drop, drop-append-seam}
 use Rattle.base.specs.Tests.{and-left, and-right, true-T}
-use Rattle.signed.specs.Int.{up}
+use Rattle.signed.specs.Int.{up, same}
 use Rattle.signed.specs.Values.{signed-byte-of}
 use Rattle.order.specs.Vectors.{vec}
 use Rattle.frame.specs.Grid.{blockRow, blockColumn}
@@ -22,7 +22,7 @@ use Rattle.log.specs.declared.Cursor.{Cursor}
 use Rattle.log.specs.declared.Command.the-variants as Cmd
 use Rattle.log.specs.Numbers.{be2, be4}
 use Rattle.log.specs.Commands.{commandBytes}
-use Rattle.heads.specs.Heads.{sizesIn, headRefusal, gridOf, distortionOk, entryOk, isStill, headed}
+use Rattle.heads.specs.Heads.{headRefusal, gridOf, entryOk, isStill, entry}
 use Rattle.log.specs.Step.{turnedAway, handedOut, judged, headIn, headTaken, blockTaken, endTaken, byCommand, commandAt, standingOk, stepAt, startCursor}
 
 -- ---- a log that goes on with some bytes at an offset
@@ -51,35 +51,12 @@ be4-there log i n e f = rw (e, f) (div-add-mod' n 65536)
 
 -- ---- among the blocks
 
--- what an allowed entry is
-pub record Entry (dy dx z : ℤ) : Type 0 where
-  pub down : natAbs dy < 128
-  pub across : natAbs dx < 128
-  pub distortion : pos (up z) ≡ z
-
-pub entry : (h : Head) → headRefusal h ≡ 0 → (k : ℕ) (dy dx z : ℤ) → entryOk h k dy dx z ≡ true → Entry dy dx z
-unfolding entryOk
-entry h ok k dy dx z e =
-    let s = sizesIn h in
-    let test = candidate s (h .w) (blockRow s k) (blockColumn s k) (vec dy dx) in
-    let t = true-T (test && distortionOk (h .n) z) e in
-    let c = candidate-yes s (h .w) (blockRow s k) (blockColumn s k) (vec dy dx) (and-left test (distortionOk (h .n) z) t) in
-    record {
-      down = omega (arith, c .window .down, headed h ok .window);
-      across = omega (arith, c .window .across, headed h ok .window);
-      distortion = above z (and-right test (distortionOk (h .n) z) t);
-    }
-  where
-    above : (z : ℤ) → T (distortionOk (h .n) z) → pos (up z) ≡ z
-    above (pos d) t = refl
-    above (negsuc d) t = absurd t
-
 module _ (log : List ℕ) (at : ℕ) (h : Head) (k : ℕ) (ok : headRefusal h ≡ 0) where
   abbrev here : Cursor
   here = record { at = at; phase = Body h k }
 
   -- the command byte decides
-  decides : k ≤ gridOf h → at < length log → stepAt log here ≡ byCommand (getD log at 0) log at (Body h k)
+  pub decides : k ≤ gridOf h → at < length log → stepAt log here ≡ byCommand (getD log at 0) log at (Body h k)
   unfolding stepAt standingOk commandAt
   decides l m =
       rw (le-ltb (length log) at (omega arith), eq-eqb (headRefusal h) 0 ok, le-leb k (gridOf h) l, lt-leb (length log) at m)
@@ -93,6 +70,7 @@ module _ (log : List ℕ) (at : ℕ) (h : Head) (k : ℕ) (ok : headRefusal h �
       let m : at + 5 ≤ length log = room log at (commandBytes (Cmd.Block dy dx (up z))) rest goes (omega arith) in
       let n : at + 3 + 1 ≡ at + 4 = omega arith in
       let is = entry h ok k dy dx z o in
+      let value : pos (up z) ≡ z = same (pos (up z)) z (omega (arith, is .above)) in
       let command : getD log at 0 ≡ 2 = first-there log at (commandBytes (Cmd.Block dy dx (up z))) rest goes in
       let d : be2 log (at + 3) ≡ up z = be2-there log (at + 3) (up z) (there 3) (rw n (there 4)) in
       decides (omega arith) (omega arith)
@@ -103,9 +81,9 @@ module _ (log : List ℕ) (at : ℕ) (h : Head) (k : ℕ) (ok : headRefusal h �
         there 1,
         there 2,
         d,
-        signed-byte-of dy (is .down),
-        signed-byte-of dx (is .across),
-        is .distortion,
+        signed-byte-of dy (omega (arith, is .down)),
+        signed-byte-of dx (omega (arith, is .across)),
+        value,
         o,
         s,
       )

@@ -1,5 +1,4 @@
 -- 01, "Log": "A walker over a lent log hands out one command a call." The outcomes of one call, from any cursor, each with all that it says.
---   dyAt, dxAt, distortionAt   the operands of a block command at an offset
 --   NoMore   what 34 is answered for
 --   Reason   what a refusal's number says: it is 13 or more, and 34 has place 0
 --   Kind     the outcomes: refused; a head, a block, a still block, the end
@@ -22,16 +21,7 @@ use Rattle.log.specs.declared.Command.the-variants as Cmd
 use Rattle.log.specs.declared.Stepped.{Stepped}
 use Rattle.log.specs.Numbers.{be2, be4}
 use Rattle.heads.specs.Heads.{headRefusal, headOk, gridOf, entryOk, isStill}
-use Rattle.log.specs.Step.{turnedAway, handedOut, judged, headIn, headTaken, headAt, blockTaken, blockAt, stillAt, endTaken, endAt, byCommand, commandAt, standingOk, phaseOk, byPhase, stepAt}
-
-abbrev pub dyAt : List ℕ → ℕ → ℤ
-dyAt log at = signedByte (getD log (at + 1) 0)
-
-abbrev pub dxAt : List ℕ → ℕ → ℤ
-dxAt log at = signedByte (getD log (at + 2) 0)
-
-abbrev pub distortionAt : List ℕ → ℕ → ℕ
-distortionAt log at = be2 log (at + 3)
+use Rattle.log.specs.Step.{turnedAway, handedOut, judged, headIn, dyAt, dxAt, distortionAt, headTaken, headAt, blockTaken, blockAt, stillAt, endTaken, endAt, byCommand, commandAt, standingOk, phaseOk, byPhase, stepAt}
 
 -- "34 walker called after a refusal, or after its end with no byte left, or one built by hand"
 pub data NoMore (log : List ℕ) (c : Cursor) : Type 0 where

@@ -7,15 +7,16 @@ use mathlib.Core.List.{flatMap}
 use Rattle.log_reading.proofs.Turns.{store-room}
 use Rattle.log.specs.Walk.{commandsFrom, walk}
 use Rattle.log_reading.specs.Reading.{fieldOf}
-use Rattle.log_reading.specs.Storing.{Left}
-use Rattle.log_reading.proofs.Storing.{left-first, left-last}
-use Rattle.log_reading.proofs.Turns.{store-turn, step-fits}
+use Rattle.put.specs.Put.{Rest, rest-first}
+use Rattle.walks.proofs.Turns.{turn}
+use Rattle.log.specs.Commands.{blockValues}
+use Rattle.log_reading.proofs.Turns.{stored, step-fits}
 use lib.ListN.{length}
 use Rattle.log_reading.proofs.fill.Statement.{statement}
 use Rattle.log_reading.proofs.fill.Tie as tie
 
 abbrev Inv-loop : tie.InvT-loop
-Inv-loop log list₀ cursor₀ at₀ left₀ list cursor at left = (left ≤ length log + 1) × Left list at (fieldOf (commandsFrom left log cursor)) list₀ (fieldOf (walk log))
+Inv-loop log list₀ cursor₀ at₀ left₀ list cursor at left = (left ≤ length log + 1) × Rest list at (fieldOf (commandsFrom left log cursor)) list₀ 0 (fieldOf (walk log))
 
 abbrev μ-loop : tie.MeasureT-loop
 μ-loop log list₀ cursor₀ at₀ left₀ list cursor at left = left
@@ -28,7 +29,7 @@ add-left c = search needs
 
 loop-holds : tie.Need-loop-holds Inv-loop μ-loop
 unfolding walk
-loop-holds c = (omega arith, rw (c .start .ensures) (left-first _ _))
+loop-holds c = (omega arith, rw (c .start .ensures) (rest-first _ _ _))
 
 step-at-requires : tie.Need-step-at-requires Inv-loop μ-loop
 step-at-requires c κs = search needs
@@ -53,7 +54,7 @@ returns c =
     let s = c .before .before .before .before .before .before .step-at in
     let r = c .before .is-refused in
     let some : 0 < l .left = omega arith in
-    left-last (rw (c .if1 .taken) at (store-turn (l .left) _ (l .cursor) (s .result) (r .result) some (s .ensures) (r .ensures) (l .inv .1) (c .before .before .before .store .ensures))) (c .before .before .before .before .before .before .before .before .before .before .before .pre)
+    stored (rw (c .if1 .taken) at (turn blockValues (l .left) _ (l .cursor) (s .result) (r .result) some (s .ensures) (r .ensures) (l .inv .1) (c .before .before .before .store .ensures))) (c .before .before .before .before .before .before .before .before .before .before .before .pre)
 
 sub-left : tie.Need-sub-left Inv-loop μ-loop
 sub-left c = search needs
@@ -62,12 +63,13 @@ loop-less : tie.Need-loop-less Inv-loop μ-loop
 loop-less c = search needs
 
 loop-again : tie.Need-loop-again Inv-loop μ-loop
+unfolding fieldOf
 loop-again c =
     let l = c .before .before .before .before .before .before .before .before .loop in
     let s = c .before .before .before .before .before .before .step-at in
     let r = c .before .is-refused in
     let some : 0 < l .left = omega arith in
-    (omega arith, rw (c .if1 .left) at (store-turn (l .left) _ (l .cursor) (s .result) (r .result) some (s .ensures) (r .ensures) (l .inv .1) (c .before .before .before .store .ensures)))
+    (omega arith, rw (c .if1 .left) at (turn blockValues (l .left) _ (l .cursor) (s .result) (r .result) some (s .ensures) (r .ensures) (l .inv .1) (c .before .before .before .store .ensures)))
 
 same-length-2 : tie.Need-same-length-2 Inv-loop μ-loop
 same-length-2 c = c .before .loop .inv .1 .long
@@ -76,7 +78,7 @@ returns-2 : tie.Need-returns-2 Inv-loop μ-loop
 unfolding commandsFrom fieldOf flatMap
 returns-2 c =
     let e : c .before .loop .left ≡ 0 = omega arith in
-    left-last (rw e at (c .before .loop .inv .1)) (c .before .before .before .before .pre)
+    stored (rw e at (c .before .loop .inv .1)) (c .before .before .before .before .pre)
 
 pub fill-spec : {M : Type 1} → statement M
 fill-spec =

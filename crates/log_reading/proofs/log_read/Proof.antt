@@ -24,7 +24,7 @@ goes-on : (c : tie.Else1) → isRefused (stepAt (now (c .before .before .before 
 goes-on c = ap (λ s. isRefused (s .command)) (sym (first (c .before .before))) ∙ sym (c .before .is-refused .ensures) ∙ c .if1 .left
 
 head-there : (c : tie.Else1) → let log = now (c .before .before .before .before .before .args .log) in (8 ≤ length log) × (headRefusal (headIn log 0) ≡ 0)
-head-there c = begun _ (goes-on c)
+head-there c = let b = begun _ (goes-on c) in (b .0, b .1)
 
 start-requires : tie.Need-start-requires
 start-requires c κs = search needs

@@ -6,7 +6,7 @@ use mir.Syntax.{w32}
 use mir.Val.{toZ, ofZ}
 use Rattle.log.specs.Commands.{blockValues}
 use Rattle.log_reading.specs.Storing.{distortionIn}
-use Rattle.log_reading.proofs.Storing.{stored-none}
+use Rattle.put.specs.Put.{put-none}
 use lib.ListN.{length}
 use Rattle.log_reading.proofs.store.Statement.{statement}
 use Rattle.log_reading.proofs.store.Tie as tie
@@ -38,7 +38,7 @@ enum-told-4 : tie.Need-enum-told-4
 enum-told-4 c = search needs
 
 returns : tie.Need-returns
-returns c = rw (c .enum-told .given .1) (stored-none _ _)
+returns c = rw (c .enum-told .given .1) (put-none _ _)
 
 same-length : tie.Need-same-length
 same-length c = search needs
@@ -57,10 +57,10 @@ returns-3 : tie.Need-returns-3
 returns-3 c = rw (c .before .before .before .enum-told2 .given .1) (c .before .store-three2 .ensures)
 
 returns-4 : tie.Need-returns-4
-returns-4 c = rw (c .enum-told3 .given .1) (stored-none _ _)
+returns-4 c = rw (c .enum-told3 .given .1) (put-none _ _)
 
 returns-5 : tie.Need-returns-5
-returns-5 c = rw (c .enum-told4 .given .1) (stored-none _ _)
+returns-5 c = rw (c .enum-told4 .given .1) (put-none _ _)
 
 pub store-spec : {M : Type 1} → statement M
 store-spec =

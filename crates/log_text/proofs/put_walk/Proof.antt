@@ -1,94 +1,88 @@
--- `put_walk`: what is still to be put, put from here on, makes the whole text; a turn puts a line of it.
-use Rattle.put.specs.Put.{Rest, rest-first, rest-last}
-use Rattle.log.specs.Walk.{walk}
-use mathlib.Core.List.{flatMap}
-use Rattle.log_text.specs.Text.{lineOf}
-use Rattle.log_text.proofs.Turns.{textFrom, text-none, turn}
-use Prim.Native.Nat.{_+_, _*_, _≤_, _<_}
-use mathlib.Core.Path.{_≡_, refl, _∙_}
+-- `put_walk`: the first command, then what follows an accepted head.
+use Prim.Native.Nat.{ℕ, zero, suc, _+_, _-_, _*_, _≤_, _<_}
+use mathlib.Core.Path.{_≡_, refl, ap, ap₂, sym, _∙_}
 use native.Mathlib.Omega.{arith}
+use native.Mathlib.Numerals.{add-one}
 use borrow.Author.Needs.{needs}
-use lib.ListN.{length}
+use lib.ListN.{length, getD, take, drop, set}
+use mathlib.Core.List.{flatMap}
+use Rattle.put.specs.Put.{put-then}
+use Rattle.log.specs.Walk.{commandsFrom, walk}
+use Rattle.log_text.specs.Text.{lineOf}
+use mathlib.Core.Bool.{false}
+use mathlib.Core.List.{_++_, append-nil}
+use Rattle.log.specs.declared.Stepped.{Stepped}
+use Rattle.log.specs.Commands.{isRefused}
+use Rattle.log.specs.Step.{stepAt, startCursor}
+use Rattle.log_text.proofs.Blocks.{first-line}
+use Rattle.walks.proofs.Accepted.{begun}
 use Rattle.log_text.proofs.put_walk.Statement.{statement}
 use Rattle.log_text.proofs.put_walk.Tie as tie
+use Rattle.log_text.proofs.put_walk.Reads as reads
+use Rattle.log_text.proofs.put_walk.Lts as lts
+use Rattle.log.proofs.head_in.Reads as head-in-reads
+use Rattle.log.proofs.is_refused.Reads as is-refused-reads
+use Rattle.log.proofs.start.Reads as start-reads
+use Rattle.log.proofs.step_at.Reads as step-at-reads
+use Rattle.log_text.proofs.put_body.Reads as put-body-reads
+use Rattle.log_text.proofs.put_line.Reads as put-line-reads
 
-abbrev Inv-loop : tie.InvT-loop
-Inv-loop log out₀ cursor₀ at₀ calls₀ out cursor at calls =
-    (calls ≤ length log + 1) × (at + 128 * calls ≤ 128 * (length log + 1)) × (length out ≡ length out₀) × Rest out at (textFrom calls log cursor) out₀ (flatMap lineOf (walk log))
+-- the first call
+first : (c : tie.After-step-at) → c .step-at .result ≡ stepAt (c .before .before .before .before .args .log .now) startCursor
+first c = c .step-at .ensures ∙ ap (stepAt _) (c .before .start .ensures)
 
-abbrev μ-loop : tie.MeasureT-loop
-μ-loop log out₀ cursor₀ at₀ calls₀ out cursor at calls = calls
+goes-on : (c : tie.Else1) → isRefused (stepAt (c .before .before .before .before .before .before .before .before .before .before .args .log .now) startCursor .command) ≡ false
+goes-on c = ap (λ (s : Stepped). isRefused (s .command)) (sym (first (c .before .before .before .before .before .before))) ∙ sym (c .before .is-refused .ensures) ∙ c .if1 .left
 
-start-requires : tie.Need-start-requires Inv-loop μ-loop
+start-requires : tie.Need-start-requires
 start-requires c κs = search needs
 
-add-calls : tie.Need-add-calls Inv-loop μ-loop
-add-calls c = search needs
-
-loop-holds : tie.Need-loop-holds Inv-loop μ-loop
-unfolding textFrom walk
-loop-holds c = (omega arith, omega arith, refl, rw (c .start .ensures) (rest-first _ _))
-
-step-at-requires : tie.Need-step-at-requires Inv-loop μ-loop
+step-at-requires : tie.Need-step-at-requires
 step-at-requires c κs = search needs
 
-put-line-requires : tie.Need-put-line-requires Inv-loop μ-loop
+put-line-requires : tie.Need-put-line-requires
 put-line-requires c κs = search needs
 
-is-refused-requires : tie.Need-is-refused-requires Inv-loop μ-loop
+is-refused-requires : tie.Need-is-refused-requires
 is-refused-requires c κs = search needs
 
-same-length : tie.Need-same-length Inv-loop μ-loop
-same-length c = c .before .before .before .before .put-line .kept .0 ∙ c .before .before .before .before .before .before .before .before .before .loop .inv .2
+same-length : tie.Need-same-length
+same-length c = search needs
 
-returns : tie.Need-returns Inv-loop μ-loop
-returns c =
-    let l = c .before .before .before .before .before .before .before .before .before .loop in
-    let s = c .before .before .before .before .before .before .before .step-at in
-    let t : 0 < l .calls = omega arith in
-    rest-last (rw (c .if1 .taken) at (turn (l .calls) _ (l .cursor) (s .result) (c .before .is-refused .result) t (s .ensures) (c .before .is-refused .ensures) (l .inv .3) (c .before .before .before .before .put-line .ensures .0)))
+returns : tie.Need-returns
+unfolding flatMap
+returns c = let s = c .before .before .before .before .before .before in
+    let t = ap (λ (x : Stepped). isRefused (x .command)) (sym (first s)) ∙ sym (c .before .is-refused .ensures) ∙ c .if1 .taken in
+    rw (first-line _, t, append-nil _) (rw (first s) at (c .before .before .before .before .put-line .ensures .0))
 
-sub-calls : tie.Need-sub-calls Inv-loop μ-loop
-sub-calls c = omega arith
+head-in-requires : tie.Need-head-in-requires
+head-in-requires c κs = begun _ (goes-on (c .before)) .0
 
-loop-less : tie.Need-loop-less Inv-loop μ-loop
-loop-less c = omega arith
+put-body-requires : tie.Need-put-body-requires
+put-body-requires c κs = let e = c .before .before in
+    let b = begun _ (goes-on e) in
+    (b .0, c .before .before .before .before .before .before .before .before .before .before .before .before .pre, omega (arith, e .before .before .before .before .put-line .ensures .1), rw (c .head-in .ensures) (b .1))
 
-loop-again : tie.Need-loop-again Inv-loop μ-loop
-loop-again c =
-    let l = c .before .before .before .before .before .before .before .before .before .loop in
-    let s = c .before .before .before .before .before .before .before .step-at in
-    let t : 0 < l .calls = omega arith in (
-      omega arith,
-      omega (arith, c .before .before .before .before .put-line .ensures .1, l .inv),
-      c .before .before .before .before .put-line .kept .0 ∙ l .inv .2,
-      rw (c .if1 .left) at (turn (l .calls) _ (l .cursor) (s .result) (c .before .is-refused .result) t (s .ensures) (c .before .is-refused .ensures) (l .inv .3) (c .before .before .before .before .put-line .ensures .0)),
-    )
+same-length-2 : tie.Need-same-length-2
+same-length-2 c = search needs
 
-same-length-2 : tie.Need-same-length-2 Inv-loop μ-loop
-same-length-2 c = c .before .loop .inv .2
-
-returns-2 : tie.Need-returns-2 Inv-loop μ-loop
-returns-2 c =
-    let e : c .before .loop .calls ≡ 0 = omega arith in
-    rest-last (rw (text-none _ (c .before .loop .cursor)) at (rw e at (c .before .loop .inv .3)))
+returns-2 : tie.Need-returns-2
+returns-2 c = let h = c .before .before .before in
+    let e = h .before .before in
+    let b = begun _ (goes-on e) in
+    rw (first-line _, goes-on e, b .2) (put-then (rw (first (e .before .before .before .before .before .before)) at (e .before .before .before .before .put-line .ensures .0)) (rw (h .head-in .ensures) at (c .before .before .put-body .ensures)))
 
 pub put-walk-spec : {M : Type 1} → statement M
 put-walk-spec =
     tie.close
     (tie.spec
-    Inv-loop
-    μ-loop
     start-requires
-    add-calls
-    loop-holds
     step-at-requires
     put-line-requires
     is-refused-requires
     same-length
     returns
-    sub-calls
-    loop-less
-    loop-again
+    head-in-requires
+    put-body-requires
     same-length-2
     returns-2)

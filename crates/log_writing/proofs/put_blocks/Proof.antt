@@ -8,7 +8,7 @@ use Rattle.put.specs.Put.{Put, put-none, put-then}
 use Rattle.base.specs.Lists.{concatTo, concatTo-more}
 use Rattle.heads.specs.Heads.{gridOf}
 use Rattle.log_writing.specs.Parts.{blockBytes}
-use Rattle.log_writing.proofs.Sound.{small}
+use Rattle.heads.specs.Heads.{entry}
 use lib.ListN.{length}
 use Rattle.log_writing.proofs.put_blocks.Statement.{statement}
 use Rattle.log_writing.proofs.put_blocks.Tie as tie
@@ -33,7 +33,7 @@ put-block-requires c κs =
     let p = s .pre .1 in
     let t : l .k < gridOf (s .args .head) = omega (arith, c .before .before .before .grid .ensures) in (
       (omega (arith, l .inv .1, c .before .before .before .grid .ensures), omega (arith, p .listed .room), omega (arith, p .listed .few)),
-      small _ (now (s .args .list)) _ (p .listed .fine) (p .each _ t),
+      entry _ (p .listed .fine) _ _ _ _ (p .each _ t),
     )
 
 add-k : tie.Need-add-k Inv-loop μ-loop

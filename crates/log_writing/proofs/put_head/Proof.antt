@@ -1,7 +1,6 @@
 -- `put_head`: each number of an accepted head fits its bytes, and they are put in order.
 use native.Mathlib.Omega.{arith}
 use borrow.Author.Needs.{needs}
-use Rattle.log_writing.proofs.Sound.{n-small}
 use Rattle.log_writing.specs.Parts.{headBytes}
 use Rattle.put.specs.Put.{put-then}
 use Rattle.heads.specs.Heads.{headed}
@@ -18,7 +17,7 @@ put-two-requires-2 : tie.Need-put-two-requires-2
 put-two-requires-2 c κs = (omega arith, omega (arith, headed _ (c .before .before .before .before .before .before .before .before .before .before .pre) .fitting .high))
 
 cast-put-byte : tie.Need-cast-put-byte
-cast-put-byte c = omega (arith, n-small _ (c .before .before .before .before .before .before .before .before .before .before .before .before .before .before .before .pre))
+cast-put-byte c = omega (arith, headed _ (c .before .before .before .before .before .before .before .before .before .before .before .before .before .before .before .pre) .size)
 
 put-byte-requires-2 : tie.Need-put-byte-requires-2
 put-byte-requires-2 c κs = search needs

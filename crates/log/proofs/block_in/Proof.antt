@@ -1,0 +1,141 @@
+-- `block_in`: the operands, then the rules of 16.
+use Prim.Native.Nat.{ℕ, zero, suc, _+_, _-_, _*_, _≤_, _<_}
+use mathlib.Core.Path.{_≡_, refl, ap, ap₂, sym, _∙_}
+use native.Mathlib.Omega.{arith}
+use native.Mathlib.Numerals.{add-one}
+use borrow.Author.Needs.{needs}
+use lib.ListN.{length, getD, take, drop, set}
+use native.Mathlib.Omega.{arith}
+use borrow.Author.Needs.{sfits-of}
+use mathlib.Core.Bool.{Bool, true, false}
+use lib.IntN.{ℤ, pos}
+use mir.Syntax.{w32}
+use mir.Val.{toZ}
+use mir.Facts.{toZ-ofZ, toZ-pos}
+use Rattle.base.specs.Tests.{passed, failed}
+use Rattle.heads.specs.Heads.{entryOk, isStill}
+use Rattle.log.specs.declared.Stepped.{Stepped}
+use Rattle.log.specs.declared.Command.{Command}
+use Rattle.log.specs.Step.{block-not, block-still, block-taken}
+use Rattle.log.proofs.block_in.Statement.{statement}
+use Rattle.log.proofs.block_in.Tie as tie
+use Rattle.log.proofs.block_in.Reads as reads
+use Rattle.log.proofs.block_in.Lts as lts
+use Rattle.heads.proofs.entry_ok.Reads as entry-ok-reads
+use Rattle.heads.proofs.is_still.Reads as is-still-reads
+use Rattle.log.proofs.two.Reads as two-reads
+use Rattle.signed.proofs.from_byte.Reads as from-byte-reads
+
+-- what the calls answered, in the definition's words
+still : (c : tie.After-is-still) →
+    let t = c .before .before .before in
+    let x = t .before in
+    let y = x .before .before in
+    c .is-still .result ≡ isStill (y .from-byte .result) (x .from-byte2 .result) (pos (t .two .result))
+still c =
+    let t = c .before .before .before in
+    let x = t .before in
+    let y = x .before .before in
+    let p : toZ w32 (t .two .result) ≡ pos (t .two .result) = toZ-pos w32 {n = t .two .result} (omega (arith, t .two .ensures .1)) in
+    rw (toZ-ofZ (sfits-of (y .from-byte .ok)), toZ-ofZ (sfits-of (x .from-byte2 .ok)), p) at (c .is-still .ensures)
+
+entry : (c : tie.After-entry-ok) →
+    let t = c .before in
+    let x = t .before in
+    let y = x .before .before in
+    let a = y .before .before .before .args in
+    c .entry-ok .result ≡ entryOk (a .head) (a .blocks) (y .from-byte .result) (x .from-byte2 .result) (pos (t .two .result))
+entry c =
+    let t = c .before in
+    let x = t .before in
+    let y = x .before .before in
+    let p : toZ w32 (t .two .result) ≡ pos (t .two .result) = toZ-pos w32 {n = t .two .result} (omega (arith, t .two .ensures .1)) in
+    rw (toZ-ofZ (sfits-of (y .from-byte .ok)), toZ-ofZ (sfits-of (x .from-byte2 .ok)), p) at (c .entry-ok .ensures)
+
+abbrev commandOf : Stepped → Command
+commandOf s = s .command
+
+add-from-byte : tie.Need-add-from-byte
+add-from-byte c = search needs
+
+shared-slice-read-from-byte : tie.Need-shared-slice-read-from-byte
+shared-slice-read-from-byte c = search needs
+
+from-byte-requires : tie.Need-from-byte-requires
+from-byte-requires c κs = search needs
+
+add-from-byte-2 : tie.Need-add-from-byte-2
+add-from-byte-2 c = search needs
+
+shared-slice-read-from-byte-2 : tie.Need-shared-slice-read-from-byte-2
+shared-slice-read-from-byte-2 c = search needs
+
+from-byte-requires-2 : tie.Need-from-byte-requires-2
+from-byte-requires-2 c κs = search needs
+
+add-two : tie.Need-add-two
+add-two c = search needs
+
+two-requires : tie.Need-two-requires
+two-requires c κs = search needs
+
+cast-d : tie.Need-cast-d
+cast-d c = search needs
+
+entry-ok-requires : tie.Need-entry-ok-requires
+entry-ok-requires c κs = search needs
+
+returns : tie.Need-returns
+returns c = let e = c .before in
+    let t = e .before in
+    let x = t .before in
+    let y = x .before .before in
+    let a = y .before .before .before .args in
+    ap commandOf (sym (block-not _ _ (a .head) (a .blocks) (y .from-byte .ensures) (x .from-byte2 .ensures) (t .two .ensures .0) (failed (entry e) (c .if1 .taken))))
+
+is-still-requires : tie.Need-is-still-requires
+is-still-requires c κs = search needs
+
+returns-2 : tie.Need-returns-2
+returns-2 c = let i = c .before in
+    let f = i .before in
+    let e = f .before in
+    let t = e .before in
+    let x = t .before in
+    let y = x .before .before in
+    let a = y .before .before .before .args in
+    ap commandOf (sym (block-still _ _ (a .head) (a .blocks) (y .from-byte .ensures) (x .from-byte2 .ensures) (t .two .ensures .0) (passed (entry e) (f .if1 .left)) (sym (still i) ∙ c .if2 .taken)))
+
+cast-t16 : tie.Need-cast-t16
+cast-t16 c = search needs
+
+returns-3 : tie.Need-returns-3
+returns-3 c = let i = c .before in
+    let f = i .before in
+    let e = f .before in
+    let t = e .before in
+    let x = t .before in
+    let y = x .before .before in
+    let a = y .before .before .before .args in
+    rw (toZ-ofZ (sfits-of (y .from-byte .ok)), toZ-ofZ (sfits-of (x .from-byte2 .ok)))
+    (ap commandOf (sym (block-taken _ _ (a .head) (a .blocks) (y .from-byte .ensures) (x .from-byte2 .ensures) (t .two .ensures .0) (passed (entry e) (f .if1 .left)) (sym (still i) ∙ c .if2 .left))))
+
+pub block-in-spec : {M : Type 1} → statement M
+block-in-spec =
+    tie.close
+    (tie.spec
+    add-from-byte
+    shared-slice-read-from-byte
+    from-byte-requires
+    add-from-byte-2
+    shared-slice-read-from-byte-2
+    from-byte-requires-2
+    add-two
+    two-requires
+    cast-d
+    entry-ok-requires
+    returns
+    is-still-requires
+    returns-2
+    cast-t16
+    returns-3)

@@ -1,0 +1,58 @@
+-- `put_block_line`: number 3 is a still block's, whose line is that word.
+use Prim.Native.Nat.{ℕ, zero, suc, _+_, _-_, _*_, _≤_, _<_}
+use mathlib.Core.Path.{_≡_, refl, ap, ap₂, sym, _∙_}
+use native.Mathlib.Omega.{arith}
+use native.Mathlib.Numerals.{add-one}
+use borrow.Author.Needs.{needs}
+use lib.ListN.{length, getD, take, drop, set}
+use Rattle.log_text.specs.Text.{number, digits, spaced, worded}
+use Rattle.log_text.proofs.Blocks.{still-number}
+use Rattle.log_text.proofs.put_block_line.Statement.{statement}
+use Rattle.log_text.proofs.put_block_line.Tie as tie
+use Rattle.log_text.proofs.put_block_line.Reads as reads
+use Rattle.log_text.proofs.put_block_line.Lts as lts
+use Rattle.log.proofs.command_number.Reads as command-number-reads
+use Rattle.log_text.proofs.put_line.Reads as put-line-reads
+use Rattle.log_text.proofs.put_word.Reads as put-word-reads
+
+command-number-requires : tie.Need-command-number-requires
+command-number-requires c κs = search needs
+
+slice-aggregate-put-word : tie.Need-slice-aggregate-put-word
+slice-aggregate-put-word c = search needs
+
+put-word-requires : tie.Need-put-word-requires
+put-word-requires c κs = search needs
+
+same-length : tie.Need-same-length
+same-length c = search needs
+
+returns : tie.Need-returns
+unfolding worded spaced number digits
+returns c = let w = c .before .before .put-word in
+    let n = c .before .before .before .before .before .before in
+    let a = n .before .before in
+    let e = still-number (a .args .command) (a .pre .1) (sym (n .command-number .ensures) ∙ c .before .before .before .before .before .if1 .taken) in
+    (rw e (w .ensures .0), omega (arith, w .ensures .1))
+
+put-line-requires : tie.Need-put-line-requires
+put-line-requires c κs = search needs
+
+same-length-2 : tie.Need-same-length-2
+same-length-2 c = search needs
+
+returns-2 : tie.Need-returns-2
+returns-2 c = search needs
+
+pub put-block-line-spec : {M : Type 1} → statement M
+put-block-line-spec =
+    tie.close
+    (tie.spec
+    command-number-requires
+    slice-aggregate-put-word
+    put-word-requires
+    same-length
+    returns
+    put-line-requires
+    same-length-2
+    returns-2)
