@@ -9,26 +9,16 @@
  * a final measurement N^2; the making of the sums and measurements only for E are not counted. The exhaustive search takes N^2 for each candidate.
  * So that paper's 0.0275, of a video sequence with p = 2, is (11,441,196 + 4 x 3,912,397 + 16 x 920,769 + 64 x 239,933 + 256 x 91,246) /
  * (256 x 11,441,196). */
+#include "common.h"
 #include "gauge.h"
 #include <emmintrin.h>
 #include <stdio.h>
 #include <stdlib.h>
 #include <string.h>
-#include <time.h>
 
 enum { N = 16, W = 16, SIDE = 1024, MARGIN = 32, SHEET = SIDE + 2 * MARGIN, BLOCKS = (SIDE / N) * (SIDE / N) };
 
 /* ---- paper */
-
-static uint64_t state = 88172645463325252u;
-
-static int random_below(uint32_t n)
-{
-    state ^= state << 13;
-    state ^= state >> 7;
-    state ^= state << 17;
-    return (int)((state >> 32) % n);
-}
 
 static int clip(int a)
 {
@@ -181,13 +171,6 @@ static void run(int r)
     gauge_request request = {(size_t)width, (size_t)height, N, (uint32_t)(r - FULL + 1), r == FOUR_STEP ? 7 : W, 0};
     size_t length = (size_t)(width * height);
     answer[r] = gauge_field(older, length, newer, length, request, &list[r][0].dy, 3 * BLOCKS, table, sizeof table / sizeof table[0]);
-}
-
-static double now(void)
-{
-    struct timespec t;
-    clock_gettime(CLOCK_PROCESS_CPUTIME_ID, &t);
-    return (double)t.tv_sec + 1e-9 * (double)t.tv_nsec;
 }
 
 /* Search 2's basic operations, as a part of the exhaustive search's. */

@@ -1,20 +1,14 @@
 -- A call of the walker is the first command of what is left of the walk. So how the rest ends is how the whole ends, and the blocks of the rest are
 -- those still to be stored.
-use Prim.Native.Nat.{ℕ, zero, suc, _+_, _-_, _*_, _≤_, _<_}
+use Prim.Native.Nat.{ℕ, _+_, _-_, _*_, _≤_, _<_}
 use mathlib.Core.Path.{_≡_, refl, _∙_}
 use mathlib.Core.List.{List, [], _∷_, _++_, flatMap}
-use mathlib.Core.Bool.{Bool, true, false, cond, _&&_}
-use native.Mathlib.Nat.{le-trans}
+use mathlib.Core.Bool.{Bool, true, false, cond}
 use native.Mathlib.Omega.{arith}
 use borrow.Author.Tests.{eqb-true, ltb-false}
-use lib.Dec.{leb→le, ltb, eqb}
-use lib.IntN.{ℤ, pos}
+use lib.Dec.{ltb, eqb}
+use lib.IntN.{ℤ}
 use lib.ListN.{length, drop, length-append}
-use Rattle.base.specs.Tests.{and-right, true-T}
-use Rattle.order.specs.Vectors.{vec}
-use Rattle.frame.specs.Grid.{blockRow, blockColumn}
-use Rattle.frame.specs.Candidates.{candidate}
-use Rattle.frame.specs.Refusals.{listed-elim}
 use Rattle.heads.specs.declared.Head.{Head}
 use Rattle.log.specs.declared.Cursor.{Cursor}
 use Rattle.log.specs.declared.Command.{Command}

@@ -4,21 +4,16 @@
 --   printed-long, printed-walk   what is printed for a log that is too long, and for another
 --   fits                         no log prints more than 6 × 65,536 + 20 bytes
 --   all-put                      what `print_log` promises of the whole text
-use Prim.Native.Nat.{ℕ, zero, suc, _+_, _-_, _*_, _/_, _%_, _≤_, _<_}
+use Prim.Native.Nat.{ℕ, zero, suc, _+_, _*_, _/_, _%_, _≤_, _<_}
 use native.Mathlib.Omega.{arith}
-use mathlib.Core.Path.{_≡_, refl}
+use mathlib.Core.Path.{_≡_}
 use mathlib.Core.List.{List, [], _∷_, _++_, flatMap}
-use mathlib.Core.Bool.{true, cond}
+use mathlib.Core.Bool.{cond}
 use native.Mathlib.Decide.{decLt}
 use borrow.Author.Tests.{lt-ltb, le-ltb}
 use lib.ListN.{length, length-append}
 use lib.Dec.{ltb, eqb}
 use lib.IntN.{ℤ, pos, negsuc, natAbs}
-use Rattle.base.specs.Tests.{true-T, and-left}
-use Rattle.order.specs.Vectors.{vec}
-use Rattle.frame.specs.Grid.{blockRow, blockColumn}
-use Rattle.frame.specs.Candidates.{candidate, candidate-yes}
-use Rattle.frame.specs.Refusals.{listed-elim}
 use Rattle.put.specs.Put.{Put, over, put-over}
 use Rattle.heads.specs.declared.Head.{Head}
 use Rattle.log.specs.declared.Cursor.{Cursor}

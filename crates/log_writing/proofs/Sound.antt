@@ -2,27 +2,22 @@
 use Prim.Native.Nat.{ℕ, zero, suc, _+_, _-_, _*_, _^_, _≤_, _<_}
 use mathlib.Core.Path.{_≡_, refl, sym, ap, _∙_}
 use mathlib.Core.Logic.{⊎-elim}
-use mathlib.Core.Bool.{Bool, true, false, cond, _&&_}
+use mathlib.Core.Bool.{Bool, true, false, cond}
 use mathlib.Core.List.{List}
-use native.Mathlib.Nat.{le-trans, eq-or-lt-of-le}
+use native.Mathlib.Nat.{eq-or-lt-of-le}
 use native.Mathlib.Omega.{arith}
 use borrow.Author.Needs.{sfits-of}
 use mir.Facts.{toZ-ofZ}
 use mir.Syntax.{w32}
 use mir.Val.{hbits, toZ, ofZ}
 use lib.Signed.{mag}
-use lib.Dec.{T, leb, leb→le}
-use lib.IntN.{ℤ, pos, negsuc}
+use lib.Dec.{leb, leb→le}
+use lib.IntN.{ℤ}
 use lib.ListN.{length}
-use Rattle.base.specs.Tests.{and-left, and-right, true-T}
-use Rattle.signed.specs.Int.{up, dn}
-use Rattle.order.specs.Vectors.{vec}
-use Rattle.frame.specs.Grid.{blockRow, blockColumn, blocks-few}
-use Rattle.frame.specs.Candidates.{candidate, candidate-older}
-use Rattle.frame.specs.Refusals.{first-zero, unless-zero, listed-elim}
+use Rattle.frame.specs.Grid.{blocks-few}
+use Rattle.frame.specs.Refusals.{first-zero, unless-zero}
 use Rattle.heads.specs.declared.Head.{Head}
-use Rattle.heads.specs.Heads.{sizesIn, headRefusal, gridOf, distortionOk, entryOk, headed}
-use Rattle.log.specs.Logs.{valueOf}
+use Rattle.heads.specs.Heads.{sizesIn, headRefusal, gridOf, headed}
 use Rattle.log_writing.specs.Writing.{listRefusal, listedOk, firstWrong}
 use Rattle.log_writing.specs.Parts.{Listed, Passed}
 

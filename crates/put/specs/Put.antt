@@ -2,7 +2,7 @@
 --   Put before at text after next   text put from place `at` on: what the buffer then holds, and the next place
 --   Rest out at text before from whole   what is still to be put: put from here on, it makes the whole text, from place `from` on, over `before`
 --   over text buffer                a text over the front of a buffer, as far as it fits; the rest is kept
-use Prim.Native.Nat.{ℕ, zero, suc, _+_, _≤_}
+use Prim.Native.Nat.{ℕ, suc, _+_, _≤_}
 use mathlib.Core.Path.{_≡_, refl, _∙_, ap, sym}
 use mathlib.Core.List.{List, [], _∷_, _++_}
 use native.Mathlib.Nat.{add-zero, zero-add}

@@ -21,9 +21,8 @@ use Rattle.log.specs.declared.Stepped.{Stepped}
 use Rattle.log.specs.Numbers.{be4}
 use Rattle.log.specs.Commands.{commandNumber, isRefused, blockValues}
 use Rattle.heads.specs.Heads.{headRefusal, gridOf, entryOk, isStill}
-use Rattle.log.specs.Step.{headIn, standingOk, stepAt, startCursor}
+use Rattle.log.specs.Step.{headIn, standingOk, stepAt, startCursor, dyAt, dxAt, distortionAt}
 use Rattle.log.specs.Walk.{commandsFrom, walk, lastOf}
-use Rattle.log.specs.Step.{dyAt, dxAt, distortionAt}
 use Rattle.walks.specs.Cases.{NoMore, past, unsound, ended, over, Kind, kinds}
 use Rattle.walks.specs.Cases as Cases
 use Rattle.walks.proofs.Ends.{last-after}

@@ -13,9 +13,8 @@ use Rattle.log.specs.declared.Command.the-variants as Cmd
 use Rattle.log.specs.Numbers.{be4}
 use Rattle.log.specs.Commands.{commandNumber, commandBytes}
 use Rattle.heads.specs.Heads.{gridOf}
-use Rattle.log.specs.Step.{headIn}
+use Rattle.log.specs.Step.{headIn, dyAt, dxAt, distortionAt}
 use Rattle.log.specs.Walk.{walk, lastOf}
-use Rattle.log.specs.Step.{dyAt, dxAt, distortionAt}
 use Rattle.base.specs.Fronts.{drop-front}
 use Rattle.walks.proofs.Bytes.{Bytes, byte-at, bytes-be2, bytes-be4}
 use Rattle.walks.proofs.Accepted.{Rest, last, block, still, accepted}

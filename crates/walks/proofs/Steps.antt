@@ -1,21 +1,16 @@
 -- A command's bytes, where it is due and allowed, make the walker hand it out: each number reads back as it was written.
 use Prim.Native.Nat.{ℕ, _+_, _/_, _%_, _≤_, _<_}
-use mathlib.Core.Path.{_≡_, refl, sym, ap, _∙_}
+use mathlib.Core.Path.{_≡_, sym, ap, _∙_}
 use mathlib.Core.List.{List, _++_}
-use mathlib.Core.Bool.{true, false, _&&_}
+use mathlib.Core.Bool.{true, false}
 use native.Mathlib.Nat.{add-zero, div-add-mod'}
 use native.Mathlib.Omega.{arith}
 use borrow.Author.Tests.{lt-ltb, le-ltb, le-leb, lt-leb, eq-eqb}
-use lib.Dec.{T}
-use lib.IntN.{ℤ, pos, negsuc, natAbs}
+use lib.IntN.{ℤ, pos}
 use lib.ListN.{length, getD, drop, length-append, length-drop}
 use lib.Seq.{getD-drop, drop-drop, drop-append-seam}
-use Rattle.base.specs.Tests.{and-left, and-right, true-T}
 use Rattle.signed.specs.Int.{up, same}
 use Rattle.signed.specs.Values.{signed-byte-of}
-use Rattle.order.specs.Vectors.{vec}
-use Rattle.frame.specs.Grid.{blockRow, blockColumn}
-use Rattle.frame.specs.Candidates.{candidate, candidate-yes}
 use Rattle.heads.specs.declared.Head.{Head}
 use Rattle.log.specs.declared.Phase.the-variants.{Body, Ended}
 use Rattle.log.specs.declared.Cursor.{Cursor}

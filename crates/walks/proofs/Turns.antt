@@ -1,7 +1,7 @@
 -- A turn of a loop over a walk that puts what f gives for each command: what f gives for this one, then what is left; nothing after a refusal.
 use Prim.Native.Nat.{ℕ, _-_, _<_}
 use mathlib.Core.Path.{_≡_}
-use mathlib.Core.List.{List, [], _∷_, flatMap}
+use mathlib.Core.List.{List, [], flatMap}
 use mathlib.Core.Bool.{Bool, cond}
 use Rattle.put.specs.Put.{Put, Rest, rest-more}
 use Rattle.log.specs.declared.Command.{Command}

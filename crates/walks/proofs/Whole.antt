@@ -12,9 +12,8 @@ use Rattle.log.specs.declared.Command.the-variants as Cmd
 use Rattle.log.specs.Commands.{commandNumber, blockValues}
 use Rattle.heads.specs.Heads.{gridOf, isStill}
 use Rattle.log.specs.Logs.{valueOf, blockCommand, logCommands}
-use Rattle.log.specs.Step.{headIn}
+use Rattle.log.specs.Step.{headIn, dyAt, dxAt, distortionAt}
 use Rattle.log.specs.Walk.{walk, lastOf}
-use Rattle.log.specs.Step.{dyAt, dxAt, distortionAt}
 use Rattle.base.specs.Fronts.{listTo-front}
 use Rattle.walks.proofs.Accepted.{Rest, last, block, still, accepted}
 

@@ -10,18 +10,17 @@ use mathlib.Core.Bool.{Bool, true, false, cond, not, _&&_}
 use native.Mathlib.Omega.{arith}
 use lib.ListN.{length, getD}
 use lib.Dec.{leb, ltb, eqb}
-use lib.IntN.{ℤ, pos}
+use lib.IntN.{pos}
 use borrow.Author.Tests.{ltb-true, ltb-false, leb-true, eqb-true}
-use Rattle.signed.specs.Values.{signedByte}
 use Rattle.heads.specs.declared.Head.{Head}
 use Rattle.log.specs.declared.Phase.{Phase}
 use Rattle.log.specs.declared.Phase.the-variants.{Start, Body, Ended, Over}
 use Rattle.log.specs.declared.Cursor.{Cursor}
 use Rattle.log.specs.declared.Command.the-variants as Cmd
 use Rattle.log.specs.declared.Stepped.{Stepped}
-use Rattle.log.specs.Numbers.{be2, be4}
+use Rattle.log.specs.Numbers.{be4}
 use Rattle.heads.specs.Heads.{headRefusal, headOk, gridOf, entryOk, isStill}
-use Rattle.log.specs.Step.{turnedAway, handedOut, judged, headIn, dyAt, dxAt, distortionAt, headTaken, headAt, blockTaken, blockAt, stillAt, endTaken, endAt, byCommand, commandAt, standingOk, phaseOk, byPhase, stepAt}
+use Rattle.log.specs.Step.{turnedAway, handedOut, judged, headIn, dyAt, dxAt, distortionAt, headTaken, headAt, blockTaken, blockAt, stillAt, endTaken, endAt, byCommand, commandAt, standingOk, phaseOk, byPhase, stepAt, standing-head, standing-blocks}
 
 -- "34 walker called after a refusal, or after its end with no byte left, or one built by hand"
 pub data NoMore (log : List ℕ) (c : Cursor) : Type 0 where
@@ -50,11 +49,6 @@ pub data Kind (log : List ℕ) (c : Cursor) : Stepped → Type 0 where
       → Kind log c (handedOut (Cmd.End (gridOf h)) (c .at + 5) Ended)
 
 -- ---- every call has one
-
--- both of two tests
-both-true : (a b : Bool) → (a && b) ≡ true → (a ≡ true) × (b ≡ true)
-both-true true b e = (refl, e)
-both-true false b e = (e, cc)
 
 module _ (log : List ℕ) (at : ℕ) (phase : Phase) (inside : at ≤ length log) where
   abbrev here : Cursor
@@ -91,7 +85,7 @@ module _ (log : List ℕ) (at : ℕ) (inside : at ≤ length log) where
   head-kind Over e = away log at Over inside 14 (omega arith) (omega arith)
 
   block-kind : (phase : Phase) → phaseOk phase ≡ true → getD log at 0 ≡ 2 → Kind log (at-phase phase) (blockAt log at phase)
-  unfolding blockTaken standingOk
+  unfolding blockTaken
   block-kind Start s e = away log at Start inside 14 (omega arith) (omega arith)
   block-kind (Body h k) s e =
       judged-kind log at (Body h k) inside (ltb k (gridOf h)) 5 (blockTaken log at h k)
@@ -105,27 +99,25 @@ module _ (log : List ℕ) (at : ℕ) (inside : at ≤ length log) where
           → Kind log (at-phase (Body h k))
           (cond (a && not b) (handedOut (Cmd.Block (dyAt log at) (dxAt log at) (distortionAt log at)) (at + 5) (Body h (k + 1))) (turnedAway at 16 at))
       go d f true g true j = away log at (Body h k) inside 16 (omega arith) (omega arith)
-      go d f true g false j = block h k refl (eqb-true _ _ (both-true (headOk h) (leb k (gridOf h)) s .0)) d e f g j
+      go d f true g false j = block h k refl (standing-head h k s) d e f g j
       go d f false g b j = away log at (Body h k) inside 16 (omega arith) (omega arith)
   block-kind Ended s e = away log at Ended inside 14 (omega arith) (omega arith)
   block-kind Over s e = away log at Over inside 14 (omega arith) (omega arith)
 
   still-kind : (phase : Phase) → phaseOk phase ≡ true → getD log at 0 ≡ 3 → Kind log (at-phase phase) (stillAt log at phase)
-  unfolding standingOk
   still-kind Start s e = away log at Start inside 14 (omega arith) (omega arith)
   still-kind (Body h k) s e =
       judged-kind log at (Body h k) inside (ltb k (gridOf h)) 1 _
-      (λ d f. still h k refl (eqb-true _ _ (both-true (headOk h) (leb k (gridOf h)) s .0)) (ltb-true _ _ d) e f)
+      (λ d f. still h k refl (standing-head h k s) (ltb-true _ _ d) e f)
   still-kind Ended s e = away log at Ended inside 14 (omega arith) (omega arith)
   still-kind Over s e = away log at Over inside 14 (omega arith) (omega arith)
 
   end-kind : (phase : Phase) → phaseOk phase ≡ true → getD log at 0 ≡ 4 → Kind log (at-phase phase) (endAt log at phase)
-  unfolding endTaken standingOk
+  unfolding endTaken
   end-kind Start s e = away log at Start inside 14 (omega arith) (omega arith)
   end-kind (Body h k) s e =
-      let t = both-true (headOk h) (leb k (gridOf h)) s in
       judged-kind log at (Body h k) inside (leb (gridOf h) k) 5 (endTaken log at h)
-      (λ d f. go (eqb-true _ _ (t .0)) (leb-true _ _ (t .1)) (leb-true _ _ d) f (eqb (be4 log (at + 1)) (gridOf h)) refl)
+      (λ d f. go (standing-head h k s) (standing-blocks h k s) (leb-true _ _ d) f (eqb (be4 log (at + 1)) (gridOf h)) refl)
     where
       go : headRefusal h ≡ 0 → k ≤ gridOf h → gridOf h ≤ k → at + 5 ≤ length log → (a : Bool) → eqb (be4 log (at + 1)) (gridOf h) ≡ a
           → Kind log (at-phase (Body h k)) (cond a (handedOut (Cmd.End (gridOf h)) (at + 5) Ended) (turnedAway at 17 at))

@@ -3,11 +3,10 @@ use mathlib.Core.Path.{_≡_}
 use native.Mathlib.Omega.{arith}
 use borrow.Author.Needs.{needs}
 use Rattle.base.specs.Tests.{passed, failed}
-use Rattle.heads.specs.Heads.{entryOk, headed}
+use Rattle.heads.specs.Heads.{entryOk, headed, sizesIn}
 use Rattle.order.specs.Vectors.{vec}
 use Rattle.frame.specs.Grid.{blockRow, blockColumn}
 use Rattle.frame.specs.Candidates.{candidate}
-use Rattle.heads.specs.Heads.{sizesIn}
 use mir.Facts.{toZ-ofZ}
 use Rattle.heads.proofs.entry_ok.Statement.{statement}
 use Rattle.heads.proofs.entry_ok.Tie as tie

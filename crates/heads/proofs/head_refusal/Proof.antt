@@ -3,9 +3,8 @@ use mathlib.Core.Path.{_≡_, ap, _∙_}
 use borrow.Author.Needs.{needs}
 use mathlib.Core.Bool.{true}
 use Rattle.base.specs.Tests.{passed, failed}
-use Rattle.heads.specs.Heads.{headRefusal}
+use Rattle.heads.specs.Heads.{headRefusal, sizesIn}
 use Rattle.frame.specs.Refusals.{sideOk, blockOk, searchOk}
-use Rattle.heads.specs.Heads.{sizesIn}
 use Rattle.heads.proofs.head_refusal.Statement.{statement}
 use Rattle.heads.proofs.head_refusal.Tie as tie
 

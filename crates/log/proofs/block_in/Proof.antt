@@ -1,14 +1,8 @@
 -- `block_in`: the operands, then the rules of 16.
-use Prim.Native.Nat.{ℕ, zero, suc, _+_, _-_, _*_, _≤_, _<_}
-use mathlib.Core.Path.{_≡_, refl, ap, ap₂, sym, _∙_}
+use mathlib.Core.Path.{_≡_, ap, sym, _∙_}
 use native.Mathlib.Omega.{arith}
-use native.Mathlib.Numerals.{add-one}
-use borrow.Author.Needs.{needs}
-use lib.ListN.{length, getD, take, drop, set}
-use native.Mathlib.Omega.{arith}
-use borrow.Author.Needs.{sfits-of}
-use mathlib.Core.Bool.{Bool, true, false}
-use lib.IntN.{ℤ, pos}
+use borrow.Author.Needs.{needs, sfits-of}
+use lib.IntN.{pos}
 use mir.Syntax.{w32}
 use mir.Val.{toZ}
 use mir.Facts.{toZ-ofZ, toZ-pos}
@@ -19,12 +13,6 @@ use Rattle.log.specs.declared.Command.{Command}
 use Rattle.log.specs.Step.{block-not, block-still, block-taken}
 use Rattle.log.proofs.block_in.Statement.{statement}
 use Rattle.log.proofs.block_in.Tie as tie
-use Rattle.log.proofs.block_in.Reads as reads
-use Rattle.log.proofs.block_in.Lts as lts
-use Rattle.heads.proofs.entry_ok.Reads as entry-ok-reads
-use Rattle.heads.proofs.is_still.Reads as is-still-reads
-use Rattle.log.proofs.two.Reads as two-reads
-use Rattle.signed.proofs.from_byte.Reads as from-byte-reads
 
 -- what the calls answered, in the definition's words
 still : (c : tie.After-is-still) →

@@ -1,22 +1,13 @@
 -- `block_taken`: the block's command says the step.
-use Prim.Native.Nat.{ℕ, zero, suc, _+_, _-_, _*_, _≤_, _<_}
-use mathlib.Core.Path.{_≡_, refl, ap, ap₂, sym, _∙_}
+use mathlib.Core.Path.{ap, sym, _∙_}
 use native.Mathlib.Omega.{arith}
-use native.Mathlib.Numerals.{add-one}
 use borrow.Author.Needs.{needs}
-use lib.ListN.{length, getD, take, drop, set}
-use native.Mathlib.Omega.{arith}
 use Rattle.frame.specs.Grid.{blocks-few}
 use Rattle.heads.specs.Heads.{sizesIn, headed}
 use Rattle.log.specs.Commands.{isRefused}
 use Rattle.log.specs.Step.{block-refused, block-handed}
 use Rattle.log.proofs.block_taken.Statement.{statement}
 use Rattle.log.proofs.block_taken.Tie as tie
-use Rattle.log.proofs.block_taken.Reads as reads
-use Rattle.log.proofs.block_taken.Lts as lts
-use Rattle.log.proofs.block_in.Reads as block-in-reads
-use Rattle.log.proofs.is_refused.Reads as is-refused-reads
-use Rattle.log.proofs.turned_away.Reads as turned-away-reads
 
 block-in-requires : tie.Need-block-in-requires
 block-in-requires c κs = search needs

@@ -3,8 +3,7 @@ use mathlib.Core.Path.{sym, _∙_}
 use native.Mathlib.Omega.{arith}
 use borrow.Author.Needs.{needs}
 use borrow.Author.Tests.{lt-leb, le-leb}
-use Rattle.log.specs.Step.{standing-head, judged-not, judged-short, judged-whole}
-use Rattle.log.specs.Step.{end-not, end-taken}
+use Rattle.log.specs.Step.{standing-head, judged-not, judged-short, judged-whole, end-not, end-taken}
 use Rattle.log.proofs.end_due.Statement.{statement}
 use Rattle.log.proofs.end_due.Tie as tie
 

@@ -2,9 +2,8 @@
 use mathlib.Core.Path.{_≡_, refl, sym, _∙_}
 use native.Mathlib.Omega.{arith}
 use borrow.Author.Needs.{needs}
-use Rattle.log.specs.Step.{judged-short, judged-whole}
+use Rattle.log.specs.Step.{judged-short, judged-whole, head-not, head-taken}
 use Rattle.heads.specs.Heads.{headRefusal}
-use Rattle.log.specs.Step.{head-not, head-taken}
 use Rattle.log.proofs.head_due.Statement.{statement}
 use Rattle.log.proofs.head_due.Tie as tie
 

@@ -4,13 +4,12 @@ use mathlib.Core.Path.{_≡_, _∙_}
 use native.Mathlib.Omega.{arith}
 use borrow.Author.Needs.{needs}
 use mathlib.Core.List.{flatMap}
-use Rattle.log_reading.proofs.Turns.{store-room}
+use Rattle.log_reading.proofs.Turns.{store-room, stored, step-fits}
 use Rattle.log.specs.Walk.{commandsFrom, walk}
 use Rattle.log_reading.specs.Reading.{fieldOf}
 use Rattle.put.specs.Put.{Rest, rest-first}
 use Rattle.walks.proofs.Turns.{turn}
 use Rattle.log.specs.Commands.{blockValues}
-use Rattle.log_reading.proofs.Turns.{stored, step-fits}
 use lib.ListN.{length}
 use Rattle.log_reading.proofs.fill.Statement.{statement}
 use Rattle.log_reading.proofs.fill.Tie as tie

@@ -1,18 +1,9 @@
 -- `block_here`: a command byte 3, or 2 with all its operands, where a block is due.
-use Prim.Native.Nat.{ℕ, zero, suc, _+_, _-_, _*_, _≤_, _<_}
-use mathlib.Core.Path.{_≡_, refl, ap, ap₂, sym, _∙_}
 use native.Mathlib.Omega.{arith}
-use native.Mathlib.Numerals.{add-one}
 use borrow.Author.Needs.{needs}
-use lib.ListN.{length, getD, take, drop, set}
-use mathlib.Core.Path.{_≡_, sym, _∙_}
-use native.Mathlib.Omega.{arith}
 use Rattle.log_text.proofs.Blocks.{quick-none, quick-still, quick-block}
 use Rattle.log_text.proofs.block_here.Statement.{statement}
 use Rattle.log_text.proofs.block_here.Tie as tie
-use Rattle.log_text.proofs.block_here.Reads as reads
-use Rattle.log_text.proofs.block_here.Lts as lts
-use Rattle.log.proofs.block_in.Reads as block-in-reads
 
 shared-slice-read-command : tie.Need-shared-slice-read-command
 shared-slice-read-command c = search needs

@@ -1,19 +1,11 @@
 -- `put_block_line`: number 3 is a still block's, whose line is that word.
-use Prim.Native.Nat.{ℕ, zero, suc, _+_, _-_, _*_, _≤_, _<_}
-use mathlib.Core.Path.{_≡_, refl, ap, ap₂, sym, _∙_}
+use mathlib.Core.Path.{sym, _∙_}
 use native.Mathlib.Omega.{arith}
-use native.Mathlib.Numerals.{add-one}
 use borrow.Author.Needs.{needs}
-use lib.ListN.{length, getD, take, drop, set}
 use Rattle.log_text.specs.Text.{number, digits, spaced, worded}
 use Rattle.log_text.proofs.Blocks.{still-number}
 use Rattle.log_text.proofs.put_block_line.Statement.{statement}
 use Rattle.log_text.proofs.put_block_line.Tie as tie
-use Rattle.log_text.proofs.put_block_line.Reads as reads
-use Rattle.log_text.proofs.put_block_line.Lts as lts
-use Rattle.log.proofs.command_number.Reads as command-number-reads
-use Rattle.log_text.proofs.put_line.Reads as put-line-reads
-use Rattle.log_text.proofs.put_word.Reads as put-word-reads
 
 command-number-requires : tie.Need-command-number-requires
 command-number-requires c κs = search needs

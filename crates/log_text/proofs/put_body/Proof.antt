@@ -1,30 +1,20 @@
 -- `put_body`: while blocks pass, a turn puts the line of the next; what is still to be put, put from here on, makes the whole.
-use Prim.Native.Nat.{ℕ, zero, suc, _+_, _-_, _*_, _≤_, _<_}
-use mathlib.Core.Path.{_≡_, refl, ap, ap₂, sym, _∙_}
+use Prim.Native.Nat.{_+_, _-_, _*_, _≤_, _<_}
+use mathlib.Core.Path.{_≡_, _∙_}
 use native.Mathlib.Omega.{arith}
-use native.Mathlib.Numerals.{add-one}
 use borrow.Author.Needs.{needs}
-use lib.ListN.{length, getD, take, drop, set}
+use lib.ListN.{length}
 use mathlib.Core.List.{flatMap}
-use Rattle.put.specs.Put.{Rest, rest-first, rest-last}
+use Rattle.put.specs.Put.{Rest, rest-first, rest-all}
 use Rattle.log.specs.Walk.{commandsFrom}
 use Rattle.log_text.specs.Text.{lineOf}
 use Rattle.log_text.specs.Quick.{among, Quick}
 use mathlib.Core.Bool.{false}
 use Rattle.base.specs.Tests.{failed}
-use Rattle.put.specs.Put.{rest-all}
 use Rattle.log.specs.Commands.{commandBytes, isRefused}
 use Rattle.log_text.proofs.Blocks.{quick-on, quick-turn}
 use Rattle.log_text.proofs.put_body.Statement.{statement}
 use Rattle.log_text.proofs.put_body.Tie as tie
-use Rattle.log_text.proofs.put_body.Reads as reads
-use Rattle.log_text.proofs.put_body.Lts as lts
-use Rattle.heads.proofs.grid.Reads as grid-reads
-use Rattle.log.proofs.command_size.Reads as command-size-reads
-use Rattle.log.proofs.is_refused.Reads as is-refused-reads
-use Rattle.log_text.proofs.block_here.Reads as block-here-reads
-use Rattle.log_text.proofs.put_block_line.Reads as put-block-line-reads
-use Rattle.log_text.proofs.put_from.Reads as put-from-reads
 
 abbrev Inv-loop : tie.InvT-loop
 Inv-loop log out₀ from head all next₀ k₀ at₀ command₀ out next k at command = (8 + k ≤ next) × (next ≤ length log) × (at ≤ from + 128 * k) × Quick log next head k command × Rest out at (flatMap lineOf (commandsFrom (length log - k) log (among head next k))) out₀ from (flatMap lineOf (commandsFrom (length log) log (among head 8 0)))

@@ -1,10 +1,8 @@
 -- `put_from`: what is still to be put, put from here on, makes the whole text; a turn puts a line of it.
-use Prim.Native.Nat.{ℕ, zero, suc, _+_, _-_, _*_, _≤_, _<_}
-use mathlib.Core.Path.{_≡_, refl, ap, ap₂, sym, _∙_}
+use Prim.Native.Nat.{_+_, _*_, _≤_, _<_}
+use mathlib.Core.Path.{_≡_, _∙_}
 use native.Mathlib.Omega.{arith}
-use native.Mathlib.Numerals.{add-one}
 use borrow.Author.Needs.{needs}
-use lib.ListN.{length, getD, take, drop, set}
 use mathlib.Core.List.{flatMap}
 use Rattle.put.specs.Put.{Rest, rest-first, rest-last}
 use Rattle.log.specs.Walk.{commandsFrom}
@@ -12,11 +10,6 @@ use Rattle.walks.proofs.Turns.{turn}
 use Rattle.log_text.specs.Text.{lineOf}
 use Rattle.log_text.proofs.put_from.Statement.{statement}
 use Rattle.log_text.proofs.put_from.Tie as tie
-use Rattle.log_text.proofs.put_from.Reads as reads
-use Rattle.log_text.proofs.put_from.Lts as lts
-use Rattle.log.proofs.is_refused.Reads as is-refused-reads
-use Rattle.log.proofs.step_at.Reads as step-at-reads
-use Rattle.log_text.proofs.put_line.Reads as put-line-reads
 
 abbrev Inv-loop : tie.InvT-loop
 Inv-loop log out₀ from most cursor₀ at₀ calls₀ out cursor at calls = (calls ≤ most) × (at + 128 * calls ≤ from + 128 * most) × Rest out at (flatMap lineOf (commandsFrom calls log cursor)) out₀ from (flatMap lineOf (commandsFrom most log cursor₀))

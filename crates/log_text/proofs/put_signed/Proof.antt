@@ -5,7 +5,6 @@ use lib.Signed.{ltZ}
 use mir.Facts.{toZ-ofZ}
 use Rattle.signed.specs.Int.{dn, ints, parts}
 use Rattle.put.specs.Put.{put-then}
-use Rattle.signed.specs.Int.{ints}
 use Rattle.log_text.proofs.Texts.{number-below, number-kept}
 use Prim.Native.Nat.{_<_}
 use mathlib.Core.Path.{_≡_, sym}

@@ -1,16 +1,10 @@
 -- `put_walk`: the first command, then what follows an accepted head.
-use Prim.Native.Nat.{ℕ, zero, suc, _+_, _-_, _*_, _≤_, _<_}
-use mathlib.Core.Path.{_≡_, refl, ap, ap₂, sym, _∙_}
+use mathlib.Core.Path.{_≡_, ap, sym, _∙_}
 use native.Mathlib.Omega.{arith}
-use native.Mathlib.Numerals.{add-one}
 use borrow.Author.Needs.{needs}
-use lib.ListN.{length, getD, take, drop, set}
-use mathlib.Core.List.{flatMap}
+use mathlib.Core.List.{flatMap, append-nil}
 use Rattle.put.specs.Put.{put-then}
-use Rattle.log.specs.Walk.{commandsFrom, walk}
-use Rattle.log_text.specs.Text.{lineOf}
 use mathlib.Core.Bool.{false}
-use mathlib.Core.List.{_++_, append-nil}
 use Rattle.log.specs.declared.Stepped.{Stepped}
 use Rattle.log.specs.Commands.{isRefused}
 use Rattle.log.specs.Step.{stepAt, startCursor}
@@ -18,14 +12,6 @@ use Rattle.log_text.proofs.Blocks.{first-line}
 use Rattle.walks.proofs.Accepted.{begun}
 use Rattle.log_text.proofs.put_walk.Statement.{statement}
 use Rattle.log_text.proofs.put_walk.Tie as tie
-use Rattle.log_text.proofs.put_walk.Reads as reads
-use Rattle.log_text.proofs.put_walk.Lts as lts
-use Rattle.log.proofs.head_in.Reads as head-in-reads
-use Rattle.log.proofs.is_refused.Reads as is-refused-reads
-use Rattle.log.proofs.start.Reads as start-reads
-use Rattle.log.proofs.step_at.Reads as step-at-reads
-use Rattle.log_text.proofs.put_body.Reads as put-body-reads
-use Rattle.log_text.proofs.put_line.Reads as put-line-reads
 
 -- the first call
 first : (c : tie.After-step-at) → c .step-at .result ≡ stepAt (c .before .before .before .before .args .log .now) startCursor

@@ -1,6 +1,5 @@
 -- `put_word`: byte by byte, the bytes before the next are put.
-use Prim.Native.Nat.{_<_}
-use Prim.Native.Nat.{_+_, _-_, _≤_}
+use Prim.Native.Nat.{_<_, _+_, _-_, _≤_}
 use mathlib.Core.Path.{_≡_, refl, _∙_}
 use native.Mathlib.Omega.{arith}
 use lib.ListN.{length, take}

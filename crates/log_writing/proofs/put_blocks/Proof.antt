@@ -3,12 +3,10 @@ use Prim.Native.Nat.{_+_, _-_, _*_, _≤_, _<_}
 use mathlib.Core.Path.{_≡_, refl, _∙_}
 use native.Mathlib.Omega.{arith}
 use borrow.Author.Needs.{needs}
-use denote.Ref.{now}
 use Rattle.put.specs.Put.{Put, put-none, put-then}
 use Rattle.base.specs.Lists.{concatTo, concatTo-more}
-use Rattle.heads.specs.Heads.{gridOf}
+use Rattle.heads.specs.Heads.{gridOf, entry}
 use Rattle.log_writing.specs.Parts.{blockBytes}
-use Rattle.heads.specs.Heads.{entry}
 use lib.ListN.{length}
 use Rattle.log_writing.proofs.put_blocks.Statement.{statement}
 use Rattle.log_writing.proofs.put_blocks.Tie as tie

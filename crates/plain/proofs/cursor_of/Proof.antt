@@ -1,16 +1,8 @@
 -- `cursor_of`: the match is the definition's chain of tests.
-use Prim.Native.Nat.{ℕ, zero, suc, _+_, _-_, _*_, _≤_, _<_}
-use mathlib.Core.Path.{_≡_, refl, ap, ap₂, sym, _∙_}
-use native.Mathlib.Omega.{arith}
-use native.Mathlib.Numerals.{add-one}
-use borrow.Author.Needs.{needs}
-use lib.ListN.{length, getD, take, drop, set}
 use borrow.Author.Tests.{ne-eqb}
 use Rattle.plain.specs.Plain.{phaseOf}
 use Rattle.plain.proofs.cursor_of.Statement.{statement}
 use Rattle.plain.proofs.cursor_of.Tie as tie
-use Rattle.plain.proofs.cursor_of.Reads as reads
-use Rattle.plain.proofs.cursor_of.Lts as lts
 
 returns : tie.Need-returns
 unfolding phaseOf

@@ -1,15 +1,7 @@
 -- `plain_of`: case by case.
-use Prim.Native.Nat.{ℕ, zero, suc, _+_, _-_, _*_, _≤_, _<_}
-use mathlib.Core.Path.{_≡_, refl, ap, ap₂, sym, _∙_}
-use native.Mathlib.Omega.{arith}
-use native.Mathlib.Numerals.{add-one}
 use borrow.Author.Needs.{needs}
-use lib.ListN.{length, getD, take, drop, set}
 use Rattle.plain.proofs.plain_of.Statement.{statement}
 use Rattle.plain.proofs.plain_of.Tie as tie
-use Rattle.plain.proofs.plain_of.Reads as reads
-use Rattle.plain.proofs.plain_of.Lts as lts
-use Rattle.plain.proofs.no_head.Reads as no-head-reads
 
 enum-told : tie.Need-enum-told
 enum-told c = search needs

@@ -1,20 +1,10 @@
 -- `told_of`: case by case.
-use Prim.Native.Nat.{ℕ, zero, suc, _+_, _-_, _*_, _≤_, _<_}
-use mathlib.Core.Path.{_≡_, refl, ap, ap₂, sym, _∙_}
-use native.Mathlib.Omega.{arith}
-use native.Mathlib.Numerals.{add-one}
+use mathlib.Core.Path.{_≡_}
 use borrow.Author.Needs.{needs}
-use lib.ListN.{length, getD, take, drop, set}
-use mir.Facts.{toZ-ofZ}
-use lib.IntN.{ℤ}
 use mir.Syntax.{w32}
 use mir.Val.{toZ, ofZ}
 use Rattle.plain.proofs.told_of.Statement.{statement}
 use Rattle.plain.proofs.told_of.Tie as tie
-use Rattle.plain.proofs.told_of.Reads as reads
-use Rattle.plain.proofs.told_of.Lts as lts
-use Rattle.plain.proofs.answer.Reads as answer-reads
-use Rattle.plain.proofs.no_head.Reads as no-head-reads
 
 enum-known-command : tie.Need-enum-known-command
 enum-known-command c = search needs

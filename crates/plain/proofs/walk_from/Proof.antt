@@ -1,23 +1,11 @@
 -- `walk_from`: the step from the cursor that the plain numbers stand for.
-use Prim.Native.Nat.{ℕ, zero, suc, _+_, _-_, _*_, _≤_, _<_}
-use mathlib.Core.Path.{_≡_, refl, ap, ap₂, sym, _∙_}
-use native.Mathlib.Omega.{arith}
-use native.Mathlib.Numerals.{add-one}
+use mathlib.Core.Path.{_≡_, ap, _∙_}
 use borrow.Author.Needs.{needs}
-use lib.ListN.{length, getD, take, drop, set}
-use Rattle.plain.specs.Plain.{walkedFrom}
-use mathlib.Core.Path.{ap₂}
+use Rattle.plain.specs.Plain.{walkedFrom, plainOf, toldOf}
 use Rattle.log.specs.declared.Stepped.{Stepped}
 use Rattle.log.specs.Step.{stepAt}
-use Rattle.plain.specs.Plain.{plainOf, toldOf}
 use Rattle.plain.proofs.walk_from.Statement.{statement}
 use Rattle.plain.proofs.walk_from.Tie as tie
-use Rattle.plain.proofs.walk_from.Reads as reads
-use Rattle.plain.proofs.walk_from.Lts as lts
-use Rattle.log.proofs.step_at.Reads as step-at-reads
-use Rattle.plain.proofs.cursor_of.Reads as cursor-of-reads
-use Rattle.plain.proofs.plain_of.Reads as plain-of-reads
-use Rattle.plain.proofs.told_of.Reads as told-of-reads
 
 cursor-of-requires : tie.Need-cursor-of-requires
 cursor-of-requires c κs = search needs
