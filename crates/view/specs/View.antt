@@ -2,7 +2,7 @@
 -- frame, starting at that place. A refused call hands back an empty part".
 --   viewRefusal   1 2 3 12 7, the companion's number
 --   viewPlace     where in its frame the part begins and how long it is
---   rowView       the part itself
+--   rowView       the pels of the part; partStart: where in memory it begins, so that it is the very part and no copy
 use Prim.Native.Nat.{ℕ, _+_, _*_, _-_, _≤_, _<_}
 use mathlib.Core.Path.{_≡_, refl}
 use mathlib.Core.Bool.{Bool, true, false, cond, _&&_}
@@ -44,6 +44,10 @@ viewPlace older newer s side row column =
 unfoldable pub rowView : Pair → ℕ → ℕ → ℕ → List ℕ
 rowView p side row column =
     cond (eqb (refusalAt p side row column) 0) (take (p .sizes .n) (drop (row * p .sizes .width + column) (sideOf p side))) []
+
+-- a start in memory is a block of memory and an offset in it: those of the two frames are given, and the part begins `place` pels on in the frame asked for
+abbrev pub partStart : (older newer : ℕ × ℕ) → ℕ → ℕ → ℕ × ℕ
+partStart older newer side place = let start = cond (eqb side 0) older newer in (start .0, start .1 + place)
 
 -- ---- what an accepted view may go by
 

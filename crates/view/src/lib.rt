@@ -2,8 +2,9 @@
 
 ghost use mathlib.Core.Path.{_≡_};
 ghost use lib.ListN.{length};
+ghost use denote.Ref.{ptr};
 ghost use Rattle.frame.specs.Pictures.{pairOf};
-ghost use Rattle.view.specs.View.{viewRefusal, viewPlace, rowView};
+ghost use Rattle.view.specs.View.{viewRefusal, viewPlace, rowView, partStart};
 use frame::Sizes;
 
 // A row view as a place in its frame: where the part begins, and how many pels it has.
@@ -76,7 +77,8 @@ pub fn row_view<'a>(
     row: usize,
     column: usize,
 ) -> &'a [u8]
-    ensures { λ r. ⌜ now r ≡ rowView (pairOf (now (older .entry)) (now (newer .entry)) s) side row column ⌝ }
+    ensures { λ r. ⌜ (now r ≡ rowView (pairOf (now (older .entry)) (now (newer .entry)) s) side row column)
+        × (ptr r ≡ partStart (ptr (older .entry)) (ptr (newer .entry)) side (viewPlace (length (now (older .entry))) (length (now (newer .entry))) s side row column .place)) ⌝ }
 {
     let view = view_place(older.len(), newer.len(), s, side, row, column);
     let at = view.place;
