@@ -2,7 +2,7 @@
 -- and a vector outside it has no block.
 --   same-false                         what the test of two vectors says
 --   votes-none, votes-more, votes-few  how votes grow; votes-ext: blocks with the same vectors, the same votes
---   most-one, most-new, most-old       how the first greatest grows
+--   most-one, most-new, most-old       how the first greatest grows; most-below: it is one of them; most-ext: of equal scores
 --   majority-most                      the majority has most blocks, ties by preference order; most-unique: no other has
 use Prim.Native.Nat.{ℕ, zero, suc, _+_, _≤_, _<_}
 use mathlib.Core.Path.{_≡_, refl, sym, ap, _∙_, subst}
@@ -93,17 +93,12 @@ most-new score n h = sym (most-more score n ∙ simp (lt-ltb (score (mostTo scor
 pub most-old : (score : ℕ → ℕ) (n : ℕ) → score n ≤ score (mostTo score n) → mostTo score n ≡ mostTo score (n + 1)
 most-old score n h = sym (most-more score n ∙ simp (le-ltb (score (mostTo score n)) (score n) h))
 
-most-ext : (f g : ℕ → ℕ) → ((k : ℕ) → f k ≡ g k) → (n : ℕ) → mostTo f n ≡ mostTo g n
-unfolding mostTo
-most-ext f g e zero = refl
-most-ext f g e (suc n) = rw (most-ext f g e n, e (mostTo g n), e n)
-
 cond-below : (b : Bool) (n m k : ℕ) → n < k → m < k → cond b n m < k
 cond-below true n m k h j = h
 cond-below false n m k h j = j
 
 -- the greatest of the first n + 1 is one of them
-most-below : (score : ℕ → ℕ) (n : ℕ) → mostTo score (suc n) < suc n
+pub most-below : (score : ℕ → ℕ) (n : ℕ) → mostTo score (suc n) < suc n
 unfolding mostTo
 most-below score zero = subst (λ m. m < 1) (sym (most-one score)) (omega arith)
 most-below score (suc n) =
@@ -130,6 +125,11 @@ unfolding mostTo
 most-le score zero = omega arith
 most-le score (suc n) = le-of-lt (most-below score n)
 
+pub most-ext : (f g : ℕ → ℕ) (n : ℕ) → ((k : ℕ) → k < n → f k ≡ g k) → mostTo f n ≡ mostTo g n
+unfolding mostTo
+most-ext f g zero e = refl
+most-ext f g (suc n) e = rw (most-ext f g n (λ k h. e k (omega arith)), e (mostTo g n) (omega (arith, most-le g n)), e n (omega arith))
+
 greatest : (score : ℕ → ℕ) (n k : ℕ) → k < n → (score k ≤ score (mostTo score n)) × (k < mostTo score n → score k < score (mostTo score n))
 unfolding mostTo
 greatest score zero k h = absurd (not-suc-le-zero h)
@@ -139,7 +139,7 @@ greatest score (suc n) k h = turn score n (mostTo score n) (most-le score n) (gr
 
 pub majority-ext : (f g : ℕ → Vector) (n : ℕ) → ((k : ℕ) → k < n → f k ≡ g k) → majority f n ≡ majority g n
 unfolding majority
-majority-ext f g n e = ap preferred (most-ext _ _ (λ k. votes-ext f g n e (preferred k)) 1089)
+majority-ext f g n e = ap preferred (most-ext _ _ 1089 (λ k h. votes-ext f g n e (preferred k)))
 
 within? : (v : Vector) → Dec (Within 16 v)
 within? v = go (decLe (natAbs (v .dy)) 16) (decLe (natAbs (v .dx)) 16)

@@ -2,6 +2,7 @@
 -- the first greatest count.
 --   code-below                         a vector's place is one of the 1,089
 --   tally-none, tally-more, tally-room the votes before the first block, with one block more, and that a vote fits
+--   tally-reading                      the reading of the votes is that of the blocks
 --   Walked                             the walk after k vectors; walked-one, walked-new, walked-old, walked-done
 use Prim.Native.Nat.{ℕ, _+_, _≤_, _<_}
 use mathlib.Core.Path.{_≡_, refl, sym, ap, ap₂, _∙_}
@@ -17,10 +18,9 @@ use Rattle.order.specs.declared.Vector.{Vector}
 use Rattle.order.specs.Vectors.{vec, Within, same?, same-true}
 use Rattle.order.specs.Preference.{preferred}
 use Rattle.order.proofs.Order.{inside}
-use Rattle.reading.specs.declared.Reading.{Reading}
 use Rattle.reading.specs.Reading.{votes, mostTo, majority, readingOf}
-use Rattle.reading.specs.Tally.{code, Tally}
-use Rattle.reading.proofs.Majority.{same-false, votes-none, votes-more, votes-few, most-one, most-new, most-old}
+use Rattle.reading.specs.Tally.{code, votesAt, readingIn, Tally}
+use Rattle.reading.proofs.Majority.{same-false, votes-none, votes-more, votes-few, most-one, most-new, most-old, most-below, most-ext}
 
 -- ---- places
 
@@ -66,60 +66,42 @@ tally-more has n l v e w t = record {
 pub tally-room : (has : ℕ → Vector) (n : ℕ) (l : List ℕ) (v : Vector) → Within 16 v → Tally has n l → n < 4294967295 → getD l (code v) 0 < 4294967295
 tally-room has n l v w t h = omega (arith, t .each v w, votes-few has n v)
 
--- ---- the walk along the table: the first greatest of k vectors, whatever blocks the votes are of
+-- the reading of the votes is that of the blocks
+pub tally-reading : (has : ℕ → Vector) (n : ℕ) (l : List ℕ) → Tally has n l → readingIn l ≡ readingOf has n
+unfolding readingIn readingOf majority
+tally-reading has n l t =
+    rw (most-ext (votesAt l) (λ k. votes has n (preferred k)) 1089 (λ k h. t .each (preferred k) (inside k h)))
+    (ap (λ (x : ℕ). record { dy = preferred most .dy; dx = preferred most .dx; votes = x }) (t .each (preferred most) (inside most (most-below _ 1088))))
+  where
+    most : ℕ
+    most = mostTo (λ k. votes has n (preferred k)) 1089
+
+-- ---- the walk along the table: the first greatest of k vectors
 
 pub record Walked (l : List ℕ) (k : ℕ) (best : Vector) (most : ℕ) : Type 0 where
   pub below : k ≤ 1089
-  pub within : Within 16 best
-  pub lead : (has : ℕ → Vector) (n : ℕ) → Tally has n l
-      → (best ≡ preferred (mostTo (λ j. votes has n (preferred j)) k)) × (most ≡ votes has n best)
+  pub lead : best ≡ preferred (mostTo (votesAt l) k)
+  pub has : most ≡ votesAt l (mostTo (votesAt l) k)
 
 pub walked-one : (l : List ℕ) (best : Vector) (most : ℕ) → best ≡ preferred 0 → most ≡ getD l (code best) 0 → Walked l 1 best most
-walked-one l best most e g =
-    let w : Within 16 best = rw e (inside 0 (omega arith)) in
-    record {
-      below = omega arith;
-      within = w;
-      lead = λ has n t. (e ∙ ap preferred (sym (most-one _)), g ∙ t .each best w);
-    }
+walked-one l best most e g = record { below = omega arith; lead = rw (most-one (votesAt l)) e; has = rw (most-one (votesAt l)) (g ∙ ap (λ (v : Vector). getD l (code v) 0) e) }
 
 module _ {l : List ℕ} {k : ℕ} {best : Vector} {most : ℕ} (s : Walked l k best most) (h : k < 1089) (v : Vector) (x : ℕ)
     (e : v ≡ preferred k) (g : x ≡ getD l (code v) 0)
   where
-    next-within : Within 16 v
-    next-within = rw e (inside k h)
-
-    next-is : (has : ℕ → Vector) (n : ℕ) → Tally has n l → x ≡ votes has n (preferred k)
-    next-is has n t = g ∙ t .each v next-within ∙ ap (votes has n) e
-
-    most-is : (has : ℕ → Vector) (n : ℕ) → Tally has n l → most ≡ votes has n (preferred (mostTo (λ j. votes has n (preferred j)) k))
-    most-is has n t = s .lead has n t .1 ∙ ap (votes has n) (s .lead has n t .0)
+    next-is : x ≡ votesAt l k
+    next-is = g ∙ ap (λ (u : Vector). getD l (code u) 0) e
 
     pub walked-new : most < x → Walked l (k + 1) v x
-    walked-new m = record {
-      below = omega arith;
-      within = next-within;
-      lead = λ has n t. (
-        e ∙ ap preferred (most-new (λ j. votes has n (preferred j)) k (omega (arith, next-is has n t, most-is has n t))),
-        g ∙ t .each v next-within,
-      );
-    }
+    walked-new m =
+        let i = most-new (votesAt l) k (omega (arith, next-is, s .has)) in
+        record { below = omega arith; lead = rw (← i) e; has = rw (← i) next-is }
 
     pub walked-old : x ≤ most → Walked l (k + 1) best most
-    walked-old m = record {
-      below = omega arith;
-      within = s .within;
-      lead = λ has n t. (
-        s .lead has n t .0 ∙ ap preferred (most-old (λ j. votes has n (preferred j)) k (omega (arith, next-is has n t, most-is has n t))),
-        s .lead has n t .1,
-      );
-    }
+    walked-old m =
+        let i = most-old (votesAt l) k (omega (arith, next-is, s .has)) in
+        record { below = omega arith; lead = rw (← i) (s .lead); has = rw (← i) (s .has) }
 
-pub walked-done : {l : List ℕ} {best : Vector} {most : ℕ} → Walked l 1089 best most → (has : ℕ → Vector) (n : ℕ) → Tally has n l
-    → record { dy = best .dy; dx = best .dx; votes = most } ≡ readingOf has n
-unfolding readingOf majority
-walked-done {l} {best} {most} s has n t =
-    ap₂ read (s .lead has n t .0) (s .lead has n t .1 ∙ ap (votes has n) (s .lead has n t .0))
-  where
-    read : Vector → ℕ → Reading
-    read v x = record { dy = v .dy; dx = v .dx; votes = x }
+pub walked-done : {l : List ℕ} {best : Vector} {most : ℕ} → Walked l 1089 best most → record { dy = best .dy; dx = best .dx; votes = most } ≡ readingIn l
+unfolding readingIn
+walked-done s = rw (s .lead, s .has)

@@ -1,6 +1,8 @@
 -- How code counts votes: in an array with a place for each vector of window 16.
---   code    a vector's place: its row and column in the window
---   Tally   the votes of the first n blocks stand there
+--   code       a vector's place: its row and column in the window
+--   votesAt    what stands there for the vector at place k of the preference table
+--   readingIn  the reading of such an array: the vector that has the most there, the first in preference order where several are equal
+--   Tally      the votes of the first n blocks stand there; the array's reading is then theirs: tally-reading of proofs/Tally.antt
 use Prim.Native.Nat.{ℕ, _+_, _*_}
 use mathlib.Core.Path.{_≡_}
 use mathlib.Core.List.{List}
@@ -8,10 +10,20 @@ use lib.ListN.{length, getD}
 use Rattle.signed.specs.Values.{bias}
 use Rattle.order.specs.declared.Vector.{Vector}
 use Rattle.order.specs.Vectors.{Within}
-use Rattle.reading.specs.Reading.{votes}
+use Rattle.order.specs.Preference.{preferred}
+use Rattle.reading.specs.declared.Reading.{Reading}
+use Rattle.reading.specs.Reading.{votes, mostTo}
 
 abbrev pub code : Vector → ℕ
 code v = bias 16 (v .dy) * 33 + bias 16 (v .dx)
+
+abbrev pub votesAt : List ℕ → ℕ → ℕ
+votesAt counted k = getD counted (code (preferred k)) 0
+
+unfoldable pub readingIn : List ℕ → Reading
+readingIn counted =
+    let k = mostTo (votesAt counted) 1089 in
+    record { dy = preferred k .dy; dx = preferred k .dx; votes = votesAt counted k }
 
 pub record Tally (has : ℕ → Vector) (n : ℕ) (counted : List ℕ) : Type 0 where
   pub long : length counted ≡ 1089

@@ -1,13 +1,11 @@
 // The reading of document 01: the vector that most blocks have, with its votes, by one vote a block and one walk along the preference order.
 
 ghost use mathlib.Core.Path.{_≡_};
-ghost use Prim.Native.Nat.{ℕ, _+_, _<_};
+ghost use Prim.Native.Nat.{_+_, _<_};
 ghost use lib.ListN.{length, getD, set};
-ghost use Rattle.order.specs.declared.Vector.{Vector};
 ghost use Rattle.order.specs.Preference.{preference, flat};
 ghost use Rattle.order.specs.Vectors.{Within};
-ghost use Rattle.reading.specs.Reading.{readingOf};
-ghost use Rattle.reading.specs.Tally.{code, Tally};
+ghost use Rattle.reading.specs.Tally.{code, readingIn};
 use order::Vector;
 
 // The vector of most blocks, with its votes.
@@ -37,7 +35,7 @@ pub fn vote(votes: &mut [u32; 1089], v: Vector)
 // The vector of most votes, the first in preference order where several are equal.
 pub fn reading_of(order: &[i32; 2178], votes: &[u32; 1089]) -> Reading
     requires { ⌜ now order ≡ flat preference ⌝ }
-    ensures { λ r. ⌜ ((has : ℕ → Vector) (n : ℕ) → Tally has n (now (votes .entry)) → r ≡ readingOf has n) ⌝ }
+    ensures { λ r. ⌜ r ≡ readingIn (now (votes .entry)) ⌝ }
 {
     let mut best = order::vector_at(order, 0);
     let c = code_of(best);

@@ -1,11 +1,12 @@
 -- `fill`: the table of sums is made first, so each block may be searched; then the reading is that of all votes.
 use borrow.Author.Needs.{sfits-of}
-use mathlib.Core.Path.{refl}
+use mathlib.Core.Path.{refl, _∙_}
 use mir.Facts.{toZ-ofZ}
 use denote.Ref.{now}
 use lib.ListN.{length}
 use Rattle.frame.specs.Pictures.{pairOf}
 use Rattle.frame.specs.Refusals.{sizesOf}
+use Rattle.reading.proofs.Tally.{tally-reading}
 use Rattle.field.proofs.Room.{summable, prepared}
 use Rattle.field.proofs.Turns.{answer-is}
 use borrow.Author.Needs.{needs}
@@ -41,7 +42,7 @@ returns c =
     let l = f .fill-list .ensures in
     let t = f .before .before .before .before .before .before .before in
     let a = t .before .before .before .before .before .before .args in
-    let r = c .before .before .reading-of .ensures _ _ (l .tally) in
+    let r = c .before .before .reading-of .ensures ∙ tally-reading _ _ _ (l .tally) in
     rw (
       toZ-ofZ (sfits-of (c .struct-told .given .0 .1)),
       toZ-ofZ (sfits-of (c .struct-told .given .1 .0 .1)),

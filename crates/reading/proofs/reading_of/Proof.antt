@@ -1,4 +1,4 @@
--- `reading_of`: the walk along the table keeps the first greatest count; after its last vector that is the majority.
+-- `reading_of`: the walk along the table keeps the first greatest count; after its last vector that is the array's reading.
 use mathlib.Core.Logic.{⊎-elim}
 use Prim.Native.Nat.{_-_}
 use mathlib.Core.Path.{_≡_}
@@ -63,9 +63,8 @@ returns : tie.Need-returns Inv-loop μ-loop
 returns c =
     let l = c .before .before .loop in
     let e : l .k ≡ 1089 = omega arith in
-    λ has n t.
     rw (toZ-ofZ {z = l .best .dy} (sfits-of (c .struct-told .given .0 .1)), toZ-ofZ {z = l .best .dx} (sfits-of (c .struct-told .given .1 .0 .1)))
-    (walked-done (rw e at (l .inv)) has n t)
+    (walked-done (rw e at (l .inv)))
 
 pub reading-of-spec : {M : Type 1} → statement M
 reading-of-spec =
