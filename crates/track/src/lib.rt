@@ -111,10 +111,10 @@ impl Track {
         ensures { λ r. ⌜ r ≡ arrived self a ⌝ }
     {
         let Moved::To(y) = signed::retreat(self.y, a.dy) else {
-            return refused_step(33, self);
+            return refused_step(33, self); // y would leave its range
         };
         let Moved::To(x) = signed::retreat(self.x, a.dx) else {
-            return refused_step(33, self);
+            return refused_step(33, self); // x would leave its range
         };
         Stepped {
             answer: a,

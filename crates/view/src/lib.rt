@@ -34,10 +34,10 @@ pub fn view_refusal(
         return 12;
     }
     if s.height <= row {
-        return 7;
+        return 7; // no such row
     }
     if s.width - s.n < column {
-        return 7;
+        return 7; // the row ends before the N pels do
     }
     0
 }
