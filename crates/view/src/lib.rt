@@ -30,13 +30,15 @@ pub fn view_refusal(
     if refusal != 0 {
         return refusal;
     }
+    let rows = s.height;
+    let last = s.width - s.n;
     if 1 < side {
         return 12;
     }
-    if s.height <= row {
+    if rows <= row {
         return 7; // no such row
     }
-    if s.width - s.n < column {
+    if last < column {
         return 7; // the row ends before the N pels do
     }
     0

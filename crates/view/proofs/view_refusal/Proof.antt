@@ -27,44 +27,42 @@ returns : tie.Need-returns
 unfolding viewRefusal
 returns c = rw (← (c .before .pair-refusal .ensures)) (sym (first-some _ _ (c .if1 .taken)))
 
+sub-last : tie.Need-sub-last
+sub-last c = omega (arith, ok (c .before) .fitting)
+
 returns-2 : tie.Need-returns-2
-returns-2 c = rw (rest (c .before), lt-leb (c .before .before .before .args .side) 1 (c .if2 .taken))
+returns-2 c = let d = c .before .before in rw (rest d, lt-leb (d .before .before .args .side) 1 (c .if2 .taken))
 
 returns-3 : tie.Need-returns-3
 returns-3 c =
-    let e = c .before .before in
-    let d = e .before in
+    let e = c .before in
+    let d = e .before .before in
     let a = d .before .before .args in
     rw (rest d, le-leb (a .side) 1 (e .if2 .left), lt-leb (a .row + 1) (a .s .height) (omega arith))
 
-sub-if4 : tie.Need-sub-if4
-sub-if4 c = omega (arith, ok (c .before .before .before .before) .fitting)
-
 returns-4 : tie.Need-returns-4
 returns-4 c =
-    let f = c .before .before in
-    let e = f .before .before in
-    let d = e .before in
+    let e = c .before .before in
+    let d = e .before .before in
     let a = d .before .before .args in
     rw (
       rest d,
       le-leb (a .side) 1 (e .if2 .left),
-      le-leb (a .row + 1) (a .s .height) (omega (arith, f .if3 .left)),
+      le-leb (a .row + 1) (a .s .height) (omega (arith, c .before .if3 .left)),
       lt-leb (a .column + a .s .n) (a .s .width) (omega (arith, ok d .fitting)),
     )
 
 returns-5 : tie.Need-returns-5
 returns-5 c =
-    let f = c .before .before in
-    let e = f .before .before in
-    let d = e .before in
+    let e = c .before .before in
+    let d = e .before .before in
     let a = d .before .before .args in
     rw (
       rest d,
       le-leb (a .side) 1 (e .if2 .left),
-      le-leb (a .row + 1) (a .s .height) (omega (arith, f .if3 .left)),
+      le-leb (a .row + 1) (a .s .height) (omega (arith, c .before .if3 .left)),
       le-leb (a .column + a .s .n) (a .s .width) (omega (arith, ok d .fitting)),
     )
 
 pub view-refusal-spec : {M : Type 1} → statement M
-view-refusal-spec = tie.close (tie.spec pair-refusal-requires returns returns-2 returns-3 sub-if4 returns-4 returns-5)
+view-refusal-spec = tie.close (tie.spec pair-refusal-requires returns sub-last returns-2 returns-3 returns-4 returns-5)
