@@ -1,13 +1,14 @@
--- Rows of a block one below the other: four of them are four terms of a sum, and the rows below the first k begin k widths on.
+-- Rows of a block one below the other: four of them are four terms of a sum, the rows below the first k begin k widths on,
+-- and a sum as far as a ceiling goes tells of all rows.
 use Prim.Native.Nat.{ℕ, _+_, _*_, _≤_}
-use mathlib.Core.Path.{_≡_, refl, ap₂}
+use mathlib.Core.Path.{_≡_, refl, ap₂, _∙_}
 use mathlib.Core.List.{List}
-use native.Mathlib.Nat.{add-zero, zero-mul, one-mul, add-mul}
+use native.Mathlib.Nat.{add-zero, zero-mul, one-mul, add-mul, mul-comm}
 use native.Mathlib.Omega.{arith}
 use lib.Dec.{T}
-use Rattle.base.specs.Sum.{sumTo-none, sumTo-ext, sumTo-four, sumTo-cut}
+use Rattle.base.specs.Sum.{sumTo, sumTo-none, sumTo-ext, sumTo-four, sumTo-cut, sumTo-group, sumOver-ext}
 use Rattle.frame.specs.Refusals.{listed, listed-elim}
-use Rattle.distortion.specs.Blocks.{Measure, rowFrom, rowsApart, Rows, BlockRows, UpTo}
+use Rattle.distortion.specs.Blocks.{Measure, rowFrom, rowsApart, rowsFrom, rowsUpTo, sumUpTo-is, Rows, BlockRows, UpTo}
 
 module _ (μ : Measure) (older newer : List ℕ) (across width a b n : ℕ) where
   pub rows-four :
@@ -33,9 +34,18 @@ module _ (μ : Measure) (older newer : List ℕ) (across width a b n : ℕ) wher
       place : (a apart i : ℕ) → a + (k + i) * apart ≡ a + k * apart + i * apart
       place a apart i = omega (arith, add-mul k i apart)
 
-  -- a sum of the first k rows that reaches the ceiling
-  pub reached : (k m ceiling d : ℕ) → d ≡ rowsApart μ older newer across width a b n k → ceiling ≤ d → UpTo ceiling (rowsApart μ older newer across width a b n (k + m)) d
-  reached k m ceiling d e h = record { below = λ l. absurd (omega arith); beyond = λ l. omega (arith, rows-cut k m) }
+-- what four rows at a time tell of all of them
+pub rows-up-to : (μ : Measure) (ceiling : ℕ) (older newer : List ℕ) (width a b n groups d : ℕ) → d ≡ rowsUpTo μ ceiling older newer width a b n groups
+    → UpTo ceiling (rowsFrom μ older newer width a b n (4 * groups)) d
+rows-up-to μ ceiling older newer width a b n groups d e = rw (e, mul-comm 4 groups, by-fours) (sumUpTo-is ceiling _ groups)
+  where
+    place : (a g i : ℕ) → a + (g * 4 + i) * width ≡ a + 4 * g * width + i * width
+    place a g i = rw (mul-comm 4 g) (omega (arith, add-mul (g * 4) i width))
+
+    by-fours : rowsFrom μ older newer width a b n (groups * 4) ≡ sumTo (λ g. rowsFrom μ older newer width (a + 4 * g * width) (b + 4 * g * width) n 4) groups
+    by-fours =
+        sumTo-group (λ i. rowFrom μ older newer (a + i * width) (b + i * width) n) groups 4
+        ∙ sumOver-ext groups 4 _ _ (λ g i hg hi. ap₂ (λ (p q : ℕ). rowFrom μ older newer p q n) (place a g i) (place b g i))
 
 -- N rows are N / 4 groups of four
 pub by-four : (older newer : List ℕ) (width n a b m groups : ℕ) → BlockRows older newer width n a b → n ≡ m → m ≡ 4 * groups → groups ≤ 256 → Rows older newer width a b m groups

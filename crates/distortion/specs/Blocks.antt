@@ -7,13 +7,17 @@
 --   distortion    of a pair: the newer block at (y, x) against the older block at (y + dy, x + dx)
 --   rowFrom       a row's share of it, rowsFrom: of several rows, rowsApart: of rows that begin otherwise far apart in the two frames
 --   blockCopy     a block's pels by themselves, row after row
---   UpTo          a distortion as far as a ceiling goes
-use Prim.Native.Nat.{ℕ, _+_, _*_, _≤_, _<_}
+--   rowsUpTo      a distortion as far as a ceiling goes: sumUpTo of its rows, four at a time
+--   UpTo          what such a sum tells of the whole
+use Prim.Native.Nat.{ℕ, zero, suc, _+_, _*_, _≤_, _<_}
 use mathlib.Core.Path.{_≡_, refl, ap₂, _∙_}
+use mathlib.Core.Bool.{Bool, true, false, cond}
 use mathlib.Core.List.{List}
-use native.Mathlib.Nat.{zero-add, add-mul, mul-le-mul, mul-le-mul-right}
+use native.Mathlib.Nat.{add-zero, add-suc, zero-add, add-mul, mul-le-mul, mul-le-mul-right}
+use native.Mathlib.Numerals.{add-one}
 use native.Mathlib.Omega.{arith}
-use lib.Dec.{T}
+use lib.Dec.{T, leb}
+use borrow.Author.Tests.{leb-true, leb-false, le-leb, lt-leb}
 use lib.ListN.{length, getD}
 use Rattle.base.specs.Sum.{sumTo, sumTo-none, sumTo-more, sumOver, sumOver-ext, sumOver-bound}
 use Rattle.base.specs.Index.{row-fits}
@@ -61,6 +65,17 @@ rowsApart μ older newer across width a b n m = sumTo (λ i. rowFrom μ older ne
 -- m such rows, one below the other in both
 abbrev pub rowsFrom : Measure → List ℕ → List ℕ → ℕ → ℕ → ℕ → ℕ → ℕ → ℕ
 rowsFrom μ older newer width a b n m = rowsApart μ older newer width width a b n m
+
+-- f 0 + f 1 + .. + f (n - 1), but nothing is added once the sum has reached the ceiling
+unfoldable pub sumUpTo : ℕ → (ℕ → ℕ) → ℕ → ℕ
+sumUpTo ceiling f zero = 0
+sumUpTo ceiling f (suc n) =
+    let s = sumUpTo ceiling f n in
+    cond (leb ceiling s) s (s + f n)
+
+-- 4 × groups rows, four at a time, as far as the ceiling goes
+abbrev pub rowsUpTo : Measure → ℕ → List ℕ → List ℕ → ℕ → ℕ → ℕ → ℕ → ℕ → ℕ
+rowsUpTo μ ceiling older newer width a b n groups = sumUpTo ceiling (λ g. rowsFrom μ older newer width (a + 4 * g * width) (b + 4 * g * width) n 4) groups
 
 -- the n × n block that begins at place a, row after row
 unfoldable pub blockCopy : List ℕ → ℕ → ℕ → ℕ → List ℕ
@@ -119,6 +134,29 @@ pub record BlockRows (older newer : List ℕ) (width n a b : ℕ) : Type 0 where
 pub record UpTo (ceiling all d : ℕ) : Type 0 where
   pub below : d < ceiling → d ≡ all
   pub beyond : ceiling ≤ d → ceiling ≤ all
+
+module _ (ceiling : ℕ) (f : ℕ → ℕ) where
+  pub sumUpTo-none : sumUpTo ceiling f 0 ≡ 0
+  unfolding sumUpTo
+  sumUpTo-none = refl
+
+  pub sumUpTo-more : (n : ℕ) → sumUpTo ceiling f n < ceiling → sumUpTo ceiling f (n + 1) ≡ sumUpTo ceiling f n + f n
+  unfolding sumUpTo
+  sumUpTo-more n h = rw (add-one, lt-leb ceiling (sumUpTo ceiling f n) h)
+
+  pub sumUpTo-reached : (n m : ℕ) → ceiling ≤ sumUpTo ceiling f n → sumUpTo ceiling f (n + m) ≡ sumUpTo ceiling f n
+  unfolding sumUpTo
+  sumUpTo-reached n zero h = rw add-zero
+  sumUpTo-reached n (suc m) h = rw (add-suc, sumUpTo-reached n m h, le-leb ceiling (sumUpTo ceiling f n) h)
+
+  pub sumUpTo-is : (n : ℕ) → UpTo ceiling (sumTo f n) (sumUpTo ceiling f n)
+  unfolding sumUpTo sumTo
+  sumUpTo-is zero = record { below = λ h. refl; beyond = λ h. h }
+  sumUpTo-is (suc n) = one (sumUpTo ceiling f n) (leb ceiling (sumUpTo ceiling f n)) refl (sumUpTo-is n)
+    where
+      one : (s : ℕ) (t : Bool) → leb ceiling s ≡ t → UpTo ceiling (sumTo f n) s → UpTo ceiling (sumTo f n + f n) (cond t s (s + f n))
+      one s true e u = let h = leb-true ceiling s e in record { below = λ l. absurd (omega arith); beyond = λ l. omega (arith, u .beyond h) }
+      one s false e u = let q = u .below (leb-false ceiling s e) in record { below = λ l. omega arith; beyond = λ l. omega arith }
 
 -- two blocks that stand wholly inside frames of allowed sizes: the newer one at (y, x), the older one at (r, c)
 pub record Comparable (older newer : List ℕ) (s : Sizes) (y x r c : ℕ) : Type 0 where

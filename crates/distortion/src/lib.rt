@@ -1,12 +1,12 @@
 // Distortion: the sum of absolute pel differences of two blocks, and the call that measures one vector.
 
 ghost use mathlib.Core.Path.{_≡_};
-ghost use Prim.Native.Nat.{_+_, _*_, _≤_};
+ghost use Prim.Native.Nat.{_+_, _*_, _≤_, _/_};
 ghost use lib.ListN.{length, getD};
 ghost use Rattle.base.specs.Lists.{fillTo};
 ghost use Rattle.order.specs.Vectors.{vec};
 ghost use Rattle.frame.specs.Pictures.{pairOf};
-ghost use Rattle.distortion.specs.Blocks.{absolute, blockAt, distortionBy, rowFrom, rowsApart, rowsFrom, blockCopy, UpTo, Rows, BlockRows, Comparable};
+ghost use Rattle.distortion.specs.Blocks.{absolute, blockAt, distortionBy, rowFrom, rowsApart, rowsFrom, rowsUpTo, blockCopy, UpTo, Rows, BlockRows, Comparable};
 ghost use Rattle.distortion.specs.Measured.{measured, refusedBy};
 use frame::Older;
 use frame::Sizes;
@@ -73,7 +73,7 @@ fn rows_by_four(
     ceiling: u32,
 ) -> u32
     requires { ⌜ Rows (now older) (now newer) width a b n groups ⌝ }
-    ensures { λ d. ⌜ UpTo ceiling (rowsFrom absolute (now (older .entry)) (now (newer .entry)) width a b n (4 * groups)) d × (d ≤ groups * (1020 * n)) ⌝ }
+    ensures { λ d. ⌜ (d ≡ rowsUpTo absolute ceiling (now (older .entry)) (now (newer .entry)) width a b n groups) × (d ≤ groups * (1020 * n)) ⌝ }
 {
     let mut sum: u32 = 0;
     let mut p = a;
@@ -91,8 +91,8 @@ fn rows_by_four(
     sum
 }
 
-// The distortion of the newer block that begins at place a against the older block that begins at place b, as far as the ceiling goes: a sum
-// that reaches the ceiling may stop there.
+// The distortion of the newer block that begins at place a against the older block that begins at place b, as far as the ceiling goes: its
+// rows are added four at a time until the sum has reached the ceiling.
 pub fn distortion_from(
     older: &[u8],
     newer: &[u8],
@@ -103,7 +103,7 @@ pub fn distortion_from(
     ceiling: u32,
 ) -> u32
     requires { ⌜ BlockRows (now older) (now newer) width n a b ⌝ }
-    ensures { λ d. ⌜ UpTo ceiling (rowsFrom absolute (now (older .entry)) (now (newer .entry)) width a b n n) d × (d ≤ n * (n * 255)) ⌝ }
+    ensures { λ d. ⌜ UpTo ceiling (rowsFrom absolute (now (older .entry)) (now (newer .entry)) width a b n n) d × (d ≤ n * (n * 255)) × (d ≡ rowsUpTo absolute ceiling (now (older .entry)) (now (newer .entry)) width a b n (n / 4)) ⌝ }
 {
     if n == 16 {
         return rows_by_four(older, newer, width, a, b, 16, 4, ceiling);

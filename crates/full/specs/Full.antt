@@ -2,10 +2,10 @@
 -- candidates."
 --   beginsAt       where the older block of the vector at place k of the preference table begins, Stands: at a row and a column of a frame
 --   CopyOf         a copy of the block, of N 16, row after row
---   distortionOf   the distortion of that vector
+--   distortionOf   the distortion of that vector, distortionUpTo: as far as a ceiling goes
 --   Choice         best is the first of least distortion among the first i of a list, with its distortion
 --   fullFound      the answer of search 1 for the block at row y, column x
-use Prim.Native.Nat.{ℕ, _+_, _*_, _≤_, _<_}
+use Prim.Native.Nat.{ℕ, _+_, _*_, _/_, _≤_, _<_}
 use mathlib.Core.Path.{_≡_}
 use mathlib.Core.List.{List}
 use lib.ListN.{length, take}
@@ -13,7 +13,7 @@ use Rattle.base.specs.Least.{leastOf}
 use Rattle.order.specs.Preference.{preferred}
 use Rattle.frame.specs.Pictures.{Pair, pairOf}
 use Rattle.frame.specs.Candidates.{olderRow, olderColumn}
-use Rattle.distortion.specs.Blocks.{blockCopy, distortion}
+use Rattle.distortion.specs.Blocks.{absolute, blockCopy, distortion, rowsUpTo}
 use Rattle.search.specs.declared.Spot.{Spot}
 use Rattle.search.specs.declared.Found.{Found}
 use Rattle.search.specs.Weighing.{Past}
@@ -34,6 +34,12 @@ pub record CopyOf (newer : List ℕ) (b : Spot) (block : List ℕ) : Type 0 wher
 
 abbrev pub distortionOf : List ℕ → List ℕ → Spot → ℕ → ℕ
 distortionOf older newer b k = distortion (pairOf older newer (b .sizes)) (b .y) (b .x) (preferred k)
+
+-- its rows are added four at a time until the sum has reached the ceiling
+abbrev pub distortionUpTo : List ℕ → List ℕ → Spot → ℕ → ℕ → ℕ
+distortionUpTo older newer b k ceiling =
+    let s = b .sizes in
+    rowsUpTo absolute ceiling older newer (s .width) (b .y * s .width + b .x) (beginsAt b k) (s .n) (s .n / 4)
 
 pub record Choice (D : ℕ → ℕ) (alive : List ℕ) (i best least : ℕ) : Type 0 where
   pub cost : least ≡ D best

@@ -8,7 +8,7 @@ ghost use Rattle.frame.specs.Pictures.{pairOf};
 ghost use Rattle.distortion.specs.Blocks.{UpTo};
 ghost use Rattle.search.specs.Weighing.{Ready};
 ghost use Rattle.remaining.specs.Gathered.{passes, Listed};
-ghost use Rattle.full.specs.Full.{beginsAt, Stands, CopyOf, distortionOf, Choice, fullFound};
+ghost use Rattle.full.specs.Full.{beginsAt, Stands, CopyOf, distortionOf, distortionUpTo, Choice, fullFound};
 use search::Found;
 use search::Spot;
 
@@ -41,7 +41,7 @@ pub fn distortion_of(
 ) -> u32
     requires { ⌜ Ready (now older) (now newer) b × (now order ≡ flat preference) ⌝ }
     requires { ⌜ (k < 1089) × T (passes b k) ⌝ }
-    ensures { λ d. ⌜ UpTo ceiling (distortionOf (now (older .entry)) (now (newer .entry)) b k) d × (d < 4294967295) ⌝ }
+    ensures { λ d. ⌜ UpTo ceiling (distortionOf (now (older .entry)) (now (newer .entry)) b k) d × (d < 4294967295) × (d ≡ distortionUpTo (now (older .entry)) (now (newer .entry)) b k ceiling) ⌝ }
 {
     let s = b.sizes;
     let width = s.width;

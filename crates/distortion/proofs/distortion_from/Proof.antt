@@ -1,7 +1,8 @@
 -- `distortion_from`: at each allowed N the block's N rows are N / 4 groups of four.
 use mathlib.Core.Path.{_≡_, refl}
 use native.Mathlib.Omega.{arith}
-use Rattle.distortion.proofs.Rows.{by-four, last-size}
+use Rattle.distortion.specs.Blocks.{absolute}
+use Rattle.distortion.proofs.Rows.{rows-up-to, by-four, last-size}
 use Rattle.distortion.proofs.distortion_from.Statement.{statement}
 use Rattle.distortion.proofs.distortion_from.Tie as tie
 
@@ -12,19 +13,19 @@ rows-by-four-requires : tie.Need-rows-by-four-requires
 rows-by-four-requires c κs = by-four _ _ _ _ _ _ 16 4 (c .before .before .before .pre) (c .if1 .taken) refl (omega arith)
 
 returns : tie.Need-returns
-returns c = rw (c .before .if1 .taken) (c .rows-by-four .ensures .0, omega arith)
+returns c = rw (c .before .if1 .taken) (rows-up-to absolute _ _ _ _ _ _ _ _ _ (c .rows-by-four .ensures .0), omega arith, c .rows-by-four .ensures .0)
 
 rows-by-four-requires-2 : tie.Need-rows-by-four-requires-2
 rows-by-four-requires-2 c κs = by-four _ _ _ _ _ _ 8 2 (c .before .before .before .before .pre) (c .if2 .taken) refl (omega arith)
 
 returns-2 : tie.Need-returns-2
-returns-2 c = rw (c .before .if2 .taken) (c .rows-by-four2 .ensures .0, omega arith)
+returns-2 c = rw (c .before .if2 .taken) (rows-up-to absolute _ _ _ _ _ _ _ _ _ (c .rows-by-four2 .ensures .0), omega arith, c .rows-by-four2 .ensures .0)
 
 rows-by-four-requires-3 : tie.Need-rows-by-four-requires-3
 rows-by-four-requires-3 c κs = by-four _ _ _ _ _ _ 4 1 (c .before .before .before .before .pre) (left c) refl (omega arith)
 
 returns-3 : tie.Need-returns-3
-returns-3 c = rw (left (c .before)) (c .rows-by-four3 .ensures .0, omega arith)
+returns-3 c = rw (left (c .before)) (rows-up-to absolute _ _ _ _ _ _ _ _ _ (c .rows-by-four3 .ensures .0), omega arith, c .rows-by-four3 .ensures .0)
 
 pub distortion-from-spec : {M : Type 1} → statement M
 distortion-from-spec =

@@ -1,18 +1,16 @@
--- `rows_by_four`: after g turns the sum is that of the first 4 × g rows, and the next row begins 4 × g widths on.
+-- `rows_by_four`: after g turns the sum is that of the first 4 × g rows as far as the ceiling goes, and the next row begins 4 × g widths on.
 use Prim.Native.Nat.{_+_, _-_, _*_, _≤_}
-use mathlib.Core.Path.{_≡_, refl}
+use mathlib.Core.Path.{_≡_, sym, ap₂, _∙_}
 use native.Mathlib.Nat.{zero-mul, add-mul, mul-le-mul, mul-le-mul-right}
 use native.Mathlib.Omega.{arith}
-use Rattle.base.specs.Sum.{sumTo}
 use Rattle.base.specs.Index.{row-next}
-use Rattle.distortion.specs.Blocks.{absolute, rowsFrom}
-use Rattle.distortion.proofs.Rows.{rows-cut, reached}
+use Rattle.distortion.specs.Blocks.{absolute, rowsUpTo, sumUpTo-none, sumUpTo-more, sumUpTo-reached}
 use Rattle.distortion.proofs.rows_by_four.Statement.{statement}
 use Rattle.distortion.proofs.rows_by_four.Tie as tie
 
 abbrev Inv-loop : tie.InvT-loop
 Inv-loop older newer width a b n groups ceiling sum₀ p₀ q₀ g₀ sum p q g =
-    (g ≤ groups) × (p ≡ a + 4 * g * width) × (q ≡ b + 4 * g * width) × (sum ≤ g * (1020 * n)) × (sum ≡ rowsFrom absolute older newer width a b n (4 * g))
+    (g ≤ groups) × (p ≡ a + 4 * g * width) × (q ≡ b + 4 * g * width) × (sum ≤ g * (1020 * n)) × (sum ≡ rowsUpTo absolute ceiling older newer width a b n g)
 
 abbrev μ-loop : tie.MeasureT-loop
 μ-loop older newer width a b n groups ceiling sum₀ p₀ q₀ g₀ sum p q g = groups - g
@@ -38,19 +36,19 @@ more i =
     (row-next g (1020 * a .n), mul-le-mul {n₂ = 256} {m₂ = 1044480} (omega (arith, r .few)) (omega (arith, r .thin)))
 
 loop-holds : tie.Need-loop-holds Inv-loop μ-loop
-unfolding sumTo
 loop-holds c =
     let a = c .before .before .args in
     let z = zero-mul (a .width) in
-    (omega arith, omega (arith, z), omega (arith, z), omega (arith, zero-mul (1020 * a .n)), refl)
+    (omega arith, omega (arith, z), omega (arith, z), omega (arith, zero-mul (1020 * a .n)), sym (sumUpTo-none _ _))
 
 returns : tie.Need-returns Inv-loop μ-loop
 returns c =
     let l = c .before .before .loop in
     let a = c .before .before .before .before .before .args in
-    let all : 4 * a .groups ≡ 4 * l .g + 4 * (a .groups - l .g) = omega arith in
+    let all : a .groups ≡ l .g + (a .groups - l .g) = omega arith in
     let most : l .g * (1020 * a .n) ≤ a .groups * (1020 * a .n) = mul-le-mul-right (1020 * a .n) (l .inv .0) in
-    rw all (reached absolute (a .older .now) (a .newer .now) (a .width) (a .width) (a .a) (a .b) (a .n) (4 * l .g) (4 * (a .groups - l .g)) _ _ (l .inv .4) (c .if1 .taken), omega arith)
+    let stopped = sumUpTo-reached (a .ceiling) _ (l .g) (a .groups - l .g) (rw (l .inv .4) at (c .if1 .taken)) in
+    (l .inv .4 ∙ sym (rw (← all) at stopped), omega arith)
 
 four-rows-requires : tie.Need-four-rows-requires Inv-loop μ-loop
 four-rows-requires c κs = omega (arith, turn (c .before), c .before .before .before .before .before .pre)
@@ -81,16 +79,15 @@ loop-again c =
     let i = c .before .before in
     let l = i .before .loop in
     let a = i .before .before .before .before .args in
-    let e : 4 * (l .g + 1) ≡ 4 * l .g + 4 = omega arith in
-    let cut = rows-cut absolute (a .older .now) (a .newer .now) (a .width) (a .width) (a .a) (a .b) (a .n) (4 * l .g) 4 in
     let four = rw (l .inv .1, l .inv .2) at (c .four-rows .ensures .0) in
-    (omega arith, omega (arith, turn i), omega (arith, turn i), omega (arith, more i), rw e (omega (arith, cut, four, l .inv .4)))
+    let next = sumUpTo-more (a .ceiling) _ (l .g) (rw (l .inv .4) at (c .before .if1 .left)) in
+    (omega arith, omega (arith, turn i), omega (arith, turn i), omega (arith, more i), ap₂ _+_ (l .inv .4) four ∙ sym next)
 
 returns-2 : tie.Need-returns-2 Inv-loop μ-loop
 returns-2 c =
     let l = c .before .loop in
     let e : l .g ≡ c .before .before .before .before .args .groups = omega arith in
-    rw (← e) (record { below = λ h. l .inv .4; beyond = λ h. omega (arith, l .inv .4) }, l .inv .3)
+    rw (← e) (l .inv .4, l .inv .3)
 
 pub rows-by-four-spec : {M : Type 1} → statement M
 rows-by-four-spec =
