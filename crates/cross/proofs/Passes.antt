@@ -24,7 +24,7 @@ pub record Passing (t : Target) (w : ℕ) (first best : Held) (p : ℕ) : Type 0
   pub less : p ≤ w / 2
   pub down : best .y ≤ 32
   pub across : best .x ≤ 32
-  pub few : best .count + 18 * p ≤ first .count + 18 * (w / 2)
+  pub few : best .count + 9 * p ≤ first .count + 9 * (w / 2)
   pub leads : (m : ℕ) × (p ≤ m) × (passes m t p (seenOf best) ≡ passes w t (w / 2) (seenOf first))
 
 module _ (t : Target) (w : ℕ) (first : Held) where
@@ -32,7 +32,7 @@ module _ (t : Target) (w : ℕ) (first : Held) where
   passing-none h k = record { less = omega arith; down = h; across = k; few = omega arith; leads = (w, omega arith, refl) }
 
   module _ (best : Held) (p : ℕ) (g : Passing t w first best p) where
-    pub passing-more : (r : Held) → 1 < p → Holds r (pass t p (seenOf best)) (best .count + 18) → Passing t w first r (p / 2)
+    pub passing-more : (r : Held) → 1 < p → Holds r (pass t p (seenOf best)) (best .count + 9) → Passing t w first r (p / 2)
     passing-more r h k =
         let a = g .leads in
         let e = passes-turn (a .0) t p (seenOf best) h (a .1) in
@@ -44,7 +44,7 @@ module _ (t : Target) (w : ℕ) (first : Held) where
           leads = (e .0, e .1, ap (passes (e .0) t (p / 2)) (k .is) ∙ e .2 ∙ a .2);
         }
 
-    pub passing-done : p ≤ 1 → Holds best (passes w t (w / 2) (seenOf first)) (first .count + 18 * (w / 2))
+    pub passing-done : p ≤ 1 → Holds best (passes w t (w / 2) (seenOf first)) (first .count + 9 * (w / 2))
     passing-done h =
         let a = g .leads in
         record {

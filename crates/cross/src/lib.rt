@@ -9,17 +9,17 @@ use probe::Held;
 use search::Found;
 use search::Spot;
 
-// The tables of offsets, dy and dx of each point in turn: the ends of a St. Andrew's cross (X) and of a Greek cross (+), and step 6's points.
-const ANDREW: [i32; 8] = [-1, -1, -1, 1, 1, -1, 1, 1];
+// The tables of offset pairs, dy and dx: the ends of a St. Andrew's cross (X) and of a Greek cross (+), and step 6's points.
+const ANDREW: [[i32; 2]; 4] = [[-1, -1], [-1, 1], [1, -1], [1, 1]];
 
-const GREEK: [i32; 8] = [-1, 0, 0, -1, 1, 0, 0, 1];
+const GREEK: [[i32; 2]; 4] = [[-1, 0], [0, -1], [1, 0], [0, 1]];
 
-const DIAGONAL: [i32; 6] = [0, 0, -1, -1, 1, 1];
+const DIAGONAL: [[i32; 2]; 3] = [[0, 0], [-1, -1], [1, 1]];
 
 // Steps 3 and 4, at step size p.
 fn pass_at(older: &[u8], newer: &[u8], b: Spot, s: Held, p: u32) -> Held
-    requires { ⌜ Ongoing (now older) (now newer) b s 18 × (p ≤ 8) ⌝ }
-    ensures { λ r. ⌜ Holds r (pass (targetOf (now (older .entry)) (now (newer .entry)) b) p (seenOf s)) (s .count + 18) ⌝ }
+    requires { ⌜ Ongoing (now older) (now newer) b s 9 × (p ≤ 8) ⌝ }
+    ensures { λ r. ⌜ Holds r (pass (targetOf (now (older .entry)) (now (newer .entry)) b) p (seenOf s)) (s .count + 9) ⌝ }
 {
     let t = ANDREW;
     probe::pattern(older, newer, b, s, &t, p)
@@ -27,8 +27,8 @@ fn pass_at(older: &[u8], newer: &[u8], b: Spot, s: Held, p: u32) -> Held
 
 // Steps 2 to 5: passes at w / 2, w / 4 and so on, down to 2.
 fn all_passes(older: &[u8], newer: &[u8], b: Spot, s: Held) -> Held
-    requires { ⌜ Ongoing (now older) (now newer) b s 144 ⌝ }
-    ensures { λ r. ⌜ Holds r (passes (b .w) (targetOf (now (older .entry)) (now (newer .entry)) b) (b .w / 2) (seenOf s)) (s .count + 144) ⌝ }
+    requires { ⌜ Ongoing (now older) (now newer) b s 72 ⌝ }
+    ensures { λ r. ⌜ Holds r (passes (b .w) (targetOf (now (older .entry)) (now (newer .entry)) b) (b .w / 2) (seenOf s)) (s .count + 72) ⌝ }
 {
     let mut best = s;
     let mut p = (b.w / 2) as u32;
@@ -50,8 +50,8 @@ fn on_diagonal(iy: usize, ix: usize, my: usize, mx: usize) -> bool
 
 // Steps 7 and 8.
 fn end(older: &[u8], newer: &[u8], b: Spot, s: Held, greek: bool) -> Held
-    requires { ⌜ Ongoing (now older) (now newer) b s 18 ⌝ }
-    ensures { λ r. ⌜ Holds r (ended (targetOf (now (older .entry)) (now (newer .entry)) b) greek (seenOf s)) (s .count + 18) ⌝ }
+    requires { ⌜ Ongoing (now older) (now newer) b s 9 ⌝ }
+    ensures { λ r. ⌜ Holds r (ended (targetOf (now (older .entry)) (now (newer .entry)) b) greek (seenOf s)) (s .count + 9) ⌝ }
 {
     if greek {
         let t = GREEK;
@@ -62,8 +62,8 @@ fn end(older: &[u8], newer: &[u8], b: Spot, s: Held, greek: bool) -> Held
 
 // The pass at p = 1, then steps 6 to 8.
 fn finish(older: &[u8], newer: &[u8], b: Spot, s: Held) -> Held
-    requires { ⌜ Ongoing (now older) (now newer) b s 36 ⌝ }
-    ensures { λ r. ⌜ Holds r (finished (targetOf (now (older .entry)) (now (newer .entry)) b) (seenOf s)) (s .count + 36) ⌝ }
+    requires { ⌜ Ongoing (now older) (now newer) b s 18 ⌝ }
+    ensures { λ r. ⌜ Holds r (finished (targetOf (now (older .entry)) (now (newer .entry)) b) (seenOf s)) (s .count + 18) ⌝ }
 {
     let q = pass_at(older, newer, b, s, 1);
     let greek = on_diagonal(s.y, s.x, q.y, q.x);

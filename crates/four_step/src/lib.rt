@@ -11,25 +11,44 @@ use probe::Held;
 use search::Found;
 use search::Spot;
 
-// The tables of offsets, dy and dx of each point in turn: centre, then the eight around it, row by row, at distance 2; the eight at distance 1.
-const SQUARE: [i32; 18] = [0, 0, -2, -2, -2, 0, -2, 2, 0, -2, 0, 2, 2, -2, 2, 0, 2, 2];
+// The tables of offset pairs, dy and dx: centre, then the eight around it, row by row, at distance 2; the eight at distance 1.
+const SQUARE: [[i32; 2]; 9] = [
+    [0, 0],
+    [-2, -2],
+    [-2, 0],
+    [-2, 2],
+    [0, -2],
+    [0, 2],
+    [2, -2],
+    [2, 0],
+    [2, 2],
+];
 
-const RING: [i32; 16] = [-1, -1, -1, 0, -1, 1, 0, -1, 0, 1, 1, -1, 1, 0, 1, 1];
+const RING: [[i32; 2]; 8] = [
+    [-1, -1],
+    [-1, 0],
+    [-1, 1],
+    [0, -1],
+    [0, 1],
+    [1, -1],
+    [1, 0],
+    [1, 1],
+];
 
 // Step 1: (0,0), then the eight around it.
 fn step_one(older: &[u8], newer: &[u8], b: Spot) -> Held
     requires { ⌜ Ready (now older) (now newer) b ⌝ }
-    ensures { λ r. ⌜ Holds r (step1 (targetOf (now (older .entry)) (now (newer .entry)) b)) 19 ⌝ }
+    ensures { λ r. ⌜ Holds r (step1 (targetOf (now (older .entry)) (now (newer .entry)) b)) 10 ⌝ }
 {
     let s = probe::first(older, newer, b);
     let t = SQUARE;
-    probe::pattern(older, newer, b, s, &t[2..18], 1)
+    probe::pattern(older, newer, b, s, &t[1..9], 1)
 }
 
 // Steps 2 and 3, after a pattern around (cy, cx).
 fn step_on(older: &[u8], newer: &[u8], b: Spot, s: Held, cy: usize, cx: usize) -> Held
-    requires { ⌜ Ongoing (now older) (now newer) b s 18 × (cy ≤ 32) × (cx ≤ 32) ⌝ }
-    ensures { λ r. ⌜ Holds r (step23 (targetOf (now (older .entry)) (now (newer .entry)) b) (point cy cx) (seenOf s)) (s .count + 18) ⌝ }
+    requires { ⌜ Ongoing (now older) (now newer) b s 9 × (cy ≤ 32) × (cx ≤ 32) ⌝ }
+    ensures { λ r. ⌜ Holds r (step23 (targetOf (now (older .entry)) (now (newer .entry)) b) (point cy cx) (seenOf s)) (s .count + 9) ⌝ }
 {
     let t = SQUARE;
     probe::pattern_new(older, newer, b, s, &t, 1, cy, cx, &t)
@@ -37,8 +56,8 @@ fn step_on(older: &[u8], newer: &[u8], b: Spot, s: Held, cy: usize, cx: usize) -
 
 // Step 4.
 fn step_last(older: &[u8], newer: &[u8], b: Spot, s: Held) -> Held
-    requires { ⌜ Ongoing (now older) (now newer) b s 18 ⌝ }
-    ensures { λ r. ⌜ Holds r (step4 (targetOf (now (older .entry)) (now (newer .entry)) b) (seenOf s)) (s .count + 18) ⌝ }
+    requires { ⌜ Ongoing (now older) (now newer) b s 9 ⌝ }
+    ensures { λ r. ⌜ Holds r (step4 (targetOf (now (older .entry)) (now (newer .entry)) b) (seenOf s)) (s .count + 9) ⌝ }
 {
     let t = RING;
     probe::pattern(older, newer, b, s, &t, 1)
@@ -56,8 +75,8 @@ fn stays(s: Held, cy: usize, cx: usize) -> bool
 
 // From step 3 on, after a pattern around (cy, cx): a centre that stays leads to step 4, and so does step 3.
 fn from_three(older: &[u8], newer: &[u8], b: Spot, s: Held, cy: usize, cx: usize) -> Held
-    requires { ⌜ Ongoing (now older) (now newer) b s 36 × (cy ≤ 32) × (cx ≤ 32) ⌝ }
-    ensures { λ r. ⌜ Holds r (from3 (targetOf (now (older .entry)) (now (newer .entry)) b) (point cy cx) (seenOf s)) (s .count + 36) ⌝ }
+    requires { ⌜ Ongoing (now older) (now newer) b s 18 × (cy ≤ 32) × (cx ≤ 32) ⌝ }
+    ensures { λ r. ⌜ Holds r (from3 (targetOf (now (older .entry)) (now (newer .entry)) b) (point cy cx) (seenOf s)) (s .count + 18) ⌝ }
 {
     if stays(s, cy, cx) {
         return step_last(older, newer, b, s);
@@ -68,8 +87,8 @@ fn from_three(older: &[u8], newer: &[u8], b: Spot, s: Held, cy: usize, cx: usize
 
 // From step 2 on, after a pattern around (cy, cx): a centre that stays leads to step 4, step 2 to step 3.
 fn from_two(older: &[u8], newer: &[u8], b: Spot, s: Held, cy: usize, cx: usize) -> Held
-    requires { ⌜ Ongoing (now older) (now newer) b s 54 × (cy ≤ 32) × (cx ≤ 32) ⌝ }
-    ensures { λ r. ⌜ Holds r (from2 (targetOf (now (older .entry)) (now (newer .entry)) b) (point cy cx) (seenOf s)) (s .count + 54) ⌝ }
+    requires { ⌜ Ongoing (now older) (now newer) b s 27 × (cy ≤ 32) × (cx ≤ 32) ⌝ }
+    ensures { λ r. ⌜ Holds r (from2 (targetOf (now (older .entry)) (now (newer .entry)) b) (point cy cx) (seenOf s)) (s .count + 27) ⌝ }
 {
     if stays(s, cy, cx) {
         return step_last(older, newer, b, s);

@@ -1,6 +1,6 @@
 -- What looking says in the numbers that the code holds: a part is kept with 16 added, so adding an offset is a shift inside 0 ..= 32, and where
 -- it leads outside there is no candidate.
-use Prim.Native.Nat.{ℕ, suc, _+_, _*_, _≤_, _<_}
+use Prim.Native.Nat.{ℕ, _+_, _*_, _≤_, _<_}
 use mathlib.Core.Path.{_≡_, refl, sym, ap, _∙_}
 use mathlib.Core.Bool.{Bool, true, false, cond, _&&_, _||_}
 use mathlib.Core.List.{List, [], _∷_}
@@ -9,7 +9,7 @@ use native.Mathlib.Numerals.{add-one}
 use borrow.Author.Tests.{lt-ltb, le-ltb, ne-eqb}
 use lib.Dec.{T, leb, leb→le, eqb}
 use lib.IntN.{ℤ, pos, negsuc, negℤ, natAbs, _+ℤ_}
-use lib.ListN.{length, getD, drop, length-drop}
+use lib.ListN.{length, getD, drop, drop-of-length-le}
 use lib.Seq.{drop-cons}
 use Rattle.base.specs.Tests.{and-left, and-right, true-T}
 use Rattle.signed.specs.declared.Shifted.the-variants.{At, Outside}
@@ -26,7 +26,7 @@ use Rattle.search.specs.Weighing.{Target, target, weighed, weighed-none, weighe
 use Rattle.probe.specs.declared.Held.{Held}
 use Rattle.probe.specs.Probe.{plus, Seen, seen, counted, looked, probe, start, around, times, widened, isIn, fresh}
 use Rattle.base.specs.Lists.{Each, more}
-use Rattle.probe.specs.Held.{point, seenOf, pairs, Pattern, lookedNew, Ongoing, Holds}
+use Rattle.probe.specs.Held.{point, seenOf, offset, pairs, Pattern, lookedNew, Ongoing, Holds}
 use Rattle.probe.proofs.Probe.{eqb-same, all?, all-within}
 
 pub holds-by : {r : Held} {s t : Seen} {m n : ℕ} → Holds r s m → s ≡ t → m ≤ n → Holds r t n
@@ -144,60 +144,52 @@ times-down p (negsuc n) h = refl
 
 -- ---- a table's pairs, one at a time
 
-pairs-more : (l : List ℤ) (i : ℕ) → i + 1 < length l → pairs (drop i l) ≡ vec (getD l i (pos 0)) (getD l (i + 1) (pos 0)) ∷ pairs (drop (i + 2) l)
+pairs-more : (l : List (List ℤ)) (i : ℕ) → i < length l → pairs (drop i l) ≡ offset (getD l i []) ∷ pairs (drop (i + 1) l)
 unfolding pairs
-pairs-more l i h =
-    let e : suc (i + 1) ≡ i + 2 = omega arith in
-    rw (drop-cons l i (pos 0) (omega arith), ← add-one i, drop-cons l (i + 1) (pos 0) h)
-    (ap (λ n. vec (getD l i (pos 0)) (getD l (i + 1) (pos 0)) ∷ pairs (drop n l)) e)
+pairs-more l i h = rw (drop-cons l i [] h, add-one)
 
-pairs-few : (l : List ℤ) → length l ≤ 1 → pairs l ≡ []
+pairs-done : (l : List (List ℤ)) (i : ℕ) → length l ≤ i → pairs (drop i l) ≡ []
 unfolding pairs
-pairs-few [] h = refl
-pairs-few (a ∷ []) h = refl
-pairs-few (a ∷ (b ∷ l)) h = absurd (omega arith)
-
-pairs-done : (l : List ℤ) (i : ℕ) → length l ≤ i + 1 → pairs (drop i l) ≡ []
-pairs-done l i h = pairs-few (drop i l) (simp length-drop (omega arith))
+pairs-done l i h = rw (drop-of-length-le l h)
 
 -- a table that is a pattern, by a test that antt computes
-unfoldable pub pattern? : List ℤ → Bool
-pattern? offsets = leb (length offsets) 18 && all? (inWindow 2) (pairs offsets)
+unfoldable pub pattern? : List (List ℤ) → Bool
+pattern? offsets = leb (length offsets) 9 && all? (inWindow 2) (pairs offsets)
 
-pub pattern-yes : (offsets : List ℤ) → T (pattern? offsets) → Pattern offsets
+pub pattern-yes : (offsets : List (List ℤ)) → T (pattern? offsets) → Pattern offsets
 unfolding pattern?
 pattern-yes offsets h =
     record {
-      short = leb→le (length offsets) 18 (and-left (leb (length offsets) 18) (all? (inWindow 2) (pairs offsets)) h);
-      near = all-within 2 (pairs offsets) (and-right (leb (length offsets) 18) (all? (inWindow 2) (pairs offsets)) h);
+      short = leb→le (length offsets) 9 (and-left (leb (length offsets) 9) (all? (inWindow 2) (pairs offsets)) h);
+      near = all-within 2 (pairs offsets) (and-right (leb (length offsets) 9) (all? (inWindow 2) (pairs offsets)) h);
     }
 
 -- ---- whether a point is one of a pattern: no offset passed leads to it, so those left decide
 
-pub record Missing (y x cy cx : ℕ) (offsets : List ℤ) (i : ℕ) : Type 0 where
+pub record Missing (y x cy cx : ℕ) (offsets : List (List ℤ)) (i : ℕ) : Type 0 where
   pub passed : i ≤ length offsets
   pub left : isIn (point y x) (around (point cy cx) (pairs (drop i offsets))) ≡ isIn (point y x) (around (point cy cx) (pairs offsets))
 
-module _ (y x cy cx : ℕ) (offsets : List ℤ) where
+module _ (y x cy cx : ℕ) (offsets : List (List ℤ)) where
   pub missing-none : Missing y x cy cx offsets 0
   missing-none = record { passed = omega arith; left = refl }
 
   module _ (i : ℕ) (m : Missing y x cy cx offsets i) where
     abbrev hit : Bool
-    hit = same? (point y x) (plus (point cy cx) (vec (getD offsets i (pos 0)) (getD offsets (i + 1) (pos 0))))
+    hit = same? (point y x) (plus (point cy cx) (offset (getD offsets i [])))
 
-    turn : i + 1 < length offsets
-        → (hit || isIn (point y x) (around (point cy cx) (pairs (drop (i + 2) offsets)))) ≡ isIn (point y x) (around (point cy cx) (pairs offsets))
+    turn : i < length offsets
+        → (hit || isIn (point y x) (around (point cy cx) (pairs (drop (i + 1) offsets)))) ≡ isIn (point y x) (around (point cy cx) (pairs offsets))
     unfolding isIn around
     turn h = rw (pairs-more offsets i h) at (m .left)
 
-    pub missing-hit : i + 1 < length offsets → hit ≡ true → true ≡ isIn (point y x) (around (point cy cx) (pairs offsets))
+    pub missing-hit : i < length offsets → hit ≡ true → true ≡ isIn (point y x) (around (point cy cx) (pairs offsets))
     missing-hit h a = rw a at (turn h)
 
-    pub missing-more : i + 1 < length offsets → hit ≡ false → Missing y x cy cx offsets (i + 2)
+    pub missing-more : i < length offsets → hit ≡ false → Missing y x cy cx offsets (i + 1)
     missing-more h a = record { passed = omega arith; left = rw a at (turn h) }
 
-    pub missing-done : length offsets ≤ i + 1 → false ≡ isIn (point y x) (around (point cy cx) (pairs offsets))
+    pub missing-done : length offsets ≤ i → false ≡ isIn (point y x) (around (point cy cx) (pairs offsets))
     unfolding isIn around
     missing-done h = rw (pairs-done offsets i h) at (m .left)
 
@@ -209,7 +201,7 @@ each-head P v vs (more h e) = h
 each-tail : (P : Vector → Type 0) (v : Vector) (vs : List Vector) → Each P (v ∷ vs) → Each P vs
 each-tail P v vs (more h e) = e
 
-pub record Going (t : Target) (before : List Vector) (cy cx p : ℕ) (offsets : List ℤ) (first best : Held) (i : ℕ) : Type 0 where
+pub record Going (t : Target) (before : List Vector) (cy cx p : ℕ) (offsets : List (List ℤ)) (first best : Held) (i : ℕ) : Type 0 where
   pub passed : i ≤ length offsets
   pub near : Each (Within 2) (pairs (drop i offsets))
   pub left : probe t (seenOf best) (fresh before (around (point cy cx) (widened p (pairs (drop i offsets)))))
@@ -218,17 +210,17 @@ pub record Going (t : Target) (before : List Vector) (cy cx p : ℕ) (offsets : 
   pub across : best .x ≤ 32
   pub few : best .count ≤ first .count + i
 
-module _ (t : Target) (before : List Vector) (cy cx p : ℕ) (offsets : List ℤ) (first : Held) where
+module _ (t : Target) (before : List Vector) (cy cx p : ℕ) (offsets : List (List ℤ)) (first : Held) where
   pub going-none : Each (Within 2) (pairs offsets) → first .y ≤ 32 → first .x ≤ 32 → Going t before cy cx p offsets first first 0
   going-none e h k = record { passed = omega arith; near = e; left = refl; down = h; across = k; few = omega arith }
 
   module _ (best : Held) (i : ℕ) (g : Going t before cy cx p offsets first best i) where
-    pub going-near : i + 1 < length offsets → Within 2 (vec (getD offsets i (pos 0)) (getD offsets (i + 1) (pos 0)))
+    pub going-near : i < length offsets → Within 2 (offset (getD offsets i []))
     going-near h = each-head (Within 2) _ _ (rw (pairs-more offsets i h) at (g .near))
 
-    pub going-more : (r : Held) → i + 1 < length offsets
-        → Holds r (lookedNew t before (seenOf best) (plus (point cy cx) (vec (times p (getD offsets i (pos 0))) (times p (getD offsets (i + 1) (pos 0)))))) (best .count + 1)
-        → Going t before cy cx p offsets first r (i + 2)
+    pub going-more : (r : Held) → i < length offsets
+        → Holds r (lookedNew t before (seenOf best) (plus (point cy cx) (vec (times p (offset (getD offsets i []) .dy)) (times p (offset (getD offsets i []) .dx))))) (best .count + 1)
+        → Going t before cy cx p offsets first r (i + 1)
     unfolding around widened
     going-more r h k =
         record {
@@ -240,6 +232,6 @@ module _ (t : Target) (before : List Vector) (cy cx p : ℕ) (offsets : List ℤ
           few = let f = g .few in let q = k .few in omega arith;
         }
 
-    pub going-done : length offsets ≤ i + 1 → seenOf best ≡ probe t (seenOf first) (fresh before (around (point cy cx) (widened p (pairs offsets))))
+    pub going-done : length offsets ≤ i → seenOf best ≡ probe t (seenOf first) (fresh before (around (point cy cx) (widened p (pairs offsets))))
     unfolding probe around widened fresh
     going-done h = rw (pairs-done offsets i h) at (g .left)

@@ -1,8 +1,8 @@
 -- How the code holds what a search has seen: Held (src) keeps the best vector as dy + 16 and dx + 16, its distortion and the number measured.
 --   point      the vector that two such parts are
 --   seenOf     what is held
---   pairs      the vectors of a table dy, dx, dy, dx, ..
---   Pattern    a table of at most nine offsets, each in window 2
+--   offset     the vector of a pair [dy, dx]; pairs: those of a table of pairs
+--   Pattern    a table of at most nine offset pairs, each in window 2
 --   lookedNew  a point is looked at, where it is not among those of a list
 --   Ongoing    what a step asks: a block that can be searched, a best in window 16, and room in the count for so many more
 --   Holds      what a step promises: it holds what the definition says, the best in window 16, and at most so many measured
@@ -11,8 +11,8 @@ use Prim.Native.Nat.{ℕ, _+_, _≤_, _<_}
 use mathlib.Core.Path.{_≡_}
 use mathlib.Core.Bool.{cond}
 use mathlib.Core.List.{List, [], _∷_}
-use lib.IntN.{ℤ}
-use lib.ListN.{length}
+use lib.IntN.{ℤ, pos}
+use lib.ListN.{length, getD}
 use Rattle.signed.specs.Values.{unbias}
 use Rattle.order.specs.declared.Vector.{Vector}
 use Rattle.order.specs.Vectors.{vec, Within}
@@ -30,13 +30,15 @@ point y x = vec (unbias 16 y) (unbias 16 x)
 abbrev pub seenOf : Held → Seen
 seenOf h = seen (point (h .y) (h .x)) (h .least) (h .count)
 
-unfoldable pub pairs : List ℤ → List Vector
-pairs [] = []
-pairs (y ∷ []) = []
-pairs (y ∷ (x ∷ rest)) = vec y x ∷ pairs rest
+abbrev pub offset : List ℤ → Vector
+offset o = vec (getD o 0 (pos 0)) (getD o 1 (pos 0))
 
-pub record Pattern (offsets : List ℤ) : Type 0 where
-  pub short : length offsets ≤ 18
+unfoldable pub pairs : List (List ℤ) → List Vector
+pairs [] = []
+pairs (o ∷ os) = offset o ∷ pairs os
+
+pub record Pattern (offsets : List (List ℤ)) : Type 0 where
+  pub short : length offsets ≤ 9
   pub near : Each (Within 2) (pairs offsets)
 
 unfoldable pub lookedNew : Target → List Vector → Seen → Vector → Seen

@@ -87,16 +87,16 @@ fn is_at(y: usize, x: usize, cy: usize, cx: usize, dy: i32, dx: i32) -> bool
 }
 
 // The point (y, x) is one of the pattern around (cy, cx).
-pub fn is_in(y: usize, x: usize, cy: usize, cx: usize, offsets: &[i32]) -> bool
-    requires { ⌜ (y ≤ 32) × (x ≤ 32) × (cy ≤ 32) × (cx ≤ 32) × (length (now offsets) ≤ 18) ⌝ }
+pub fn is_in(y: usize, x: usize, cy: usize, cx: usize, offsets: &[[i32; 2]]) -> bool
+    requires { ⌜ (y ≤ 32) × (x ≤ 32) × (cy ≤ 32) × (cx ≤ 32) × (length (now offsets) ≤ 9) ⌝ }
     ensures { λ r. ⌜ r ≡ isIn (point y x) (around (point cy cx) (pairs (now (offsets .entry)))) ⌝ }
 {
     let mut i: usize = 0;
-    while i + 1 < offsets.len() {
-        if is_at(y, x, cy, cx, offsets[i], offsets[i + 1]) {
+    while i < offsets.len() {
+        if is_at(y, x, cy, cx, offsets[i][0], offsets[i][1]) {
             return true;
         }
-        i += 2;
+        i += 1;
     }
     false
 }
@@ -113,9 +113,9 @@ fn look_new(
     dx: i32,
     oy: usize,
     ox: usize,
-    before: &[i32],
+    before: &[[i32; 2]],
 ) -> Held
-    requires { ⌜ Ongoing (now older) (now newer) b s 1 × (cy ≤ 32) × (cx ≤ 32) × (oy ≤ 32) × (ox ≤ 32) × (length (now before) ≤ 18) ⌝ }
+    requires { ⌜ Ongoing (now older) (now newer) b s 1 × (cy ≤ 32) × (cx ≤ 32) × (oy ≤ 32) × (ox ≤ 32) × (length (now before) ≤ 9) ⌝ }
     ensures { λ r. ⌜ Holds r (lookedNew (targetOf (now (older .entry)) (now (newer .entry)) b) (around (point oy ox) (pairs (now (before .entry)))) (seenOf s) (plus (point cy cx) (vec dy dx))) (s .count + 1) ⌝ }
 {
     let Shifted::At(y) = signed::shift(cy, dy, 32) else {
@@ -148,32 +148,32 @@ pub fn pattern_new(
     newer: &[u8],
     b: Spot,
     s: Held,
-    offsets: &[i32],
+    offsets: &[[i32; 2]],
     p: u32,
     oy: usize,
     ox: usize,
-    before: &[i32],
+    before: &[[i32; 2]],
 ) -> Held
-    requires { ⌜ Ongoing (now older) (now newer) b s 18 × Pattern (now offsets) × (p ≤ 8) × (oy ≤ 32) × (ox ≤ 32) × (length (now before) ≤ 18) ⌝ }
-    ensures { λ r. ⌜ Holds r (probe (targetOf (now (older .entry)) (now (newer .entry)) b) (seenOf s) (fresh (around (point oy ox) (pairs (now (before .entry)))) (around (point (s .y) (s .x)) (widened p (pairs (now (offsets .entry))))))) (s .count + 18) ⌝ }
+    requires { ⌜ Ongoing (now older) (now newer) b s 9 × Pattern (now offsets) × (p ≤ 8) × (oy ≤ 32) × (ox ≤ 32) × (length (now before) ≤ 9) ⌝ }
+    ensures { λ r. ⌜ Holds r (probe (targetOf (now (older .entry)) (now (newer .entry)) b) (seenOf s) (fresh (around (point oy ox) (pairs (now (before .entry)))) (around (point (s .y) (s .x)) (widened p (pairs (now (offsets .entry))))))) (s .count + 9) ⌝ }
 {
     let cy = s.y;
     let cx = s.x;
     let mut best = s;
     let mut i: usize = 0;
-    while i + 1 < offsets.len() {
-        let dy = scaled(p, offsets[i]);
-        let dx = scaled(p, offsets[i + 1]);
+    while i < offsets.len() {
+        let dy = scaled(p, offsets[i][0]);
+        let dx = scaled(p, offsets[i][1]);
         best = look_new(older, newer, b, best, cy, cx, dy, dx, oy, ox, before);
-        i += 2;
+        i += 1;
     }
     best
 }
 
 // A pattern's points around the best by now, at step size p, in the table's order: none was in a pattern before.
-pub fn pattern(older: &[u8], newer: &[u8], b: Spot, s: Held, offsets: &[i32], p: u32) -> Held
-    requires { ⌜ Ongoing (now older) (now newer) b s 18 × Pattern (now offsets) × (p ≤ 8) ⌝ }
-    ensures { λ r. ⌜ Holds r (probe (targetOf (now (older .entry)) (now (newer .entry)) b) (seenOf s) (around (point (s .y) (s .x)) (widened p (pairs (now (offsets .entry)))))) (s .count + 18) ⌝ }
+pub fn pattern(older: &[u8], newer: &[u8], b: Spot, s: Held, offsets: &[[i32; 2]], p: u32) -> Held
+    requires { ⌜ Ongoing (now older) (now newer) b s 9 × Pattern (now offsets) × (p ≤ 8) ⌝ }
+    ensures { λ r. ⌜ Holds r (probe (targetOf (now (older .entry)) (now (newer .entry)) b) (seenOf s) (around (point (s .y) (s .x)) (widened p (pairs (now (offsets .entry)))))) (s .count + 9) ⌝ }
 {
     pattern_new(older, newer, b, s, offsets, p, 16, 16, &offsets[0..0])
 }

@@ -1,15 +1,15 @@
 -- `is_in`: a point that none of the offsets passed leads to is among those that the others lead to.
-use Prim.Native.Nat.{_+_, _-_}
+use Prim.Native.Nat.{_-_}
 use mathlib.Core.Path.{_≡_, sym, _∙_}
+use mathlib.Core.List.{[]}
 use native.Mathlib.Omega.{arith}
 use borrow.Author.Needs.{needs, sfits-of}
-use lib.IntN.{pos}
 use lib.ListN.{length, getD}
 use denote.Ref.{now}
 use mir.Facts.{toZ-ofZ}
-use Rattle.order.specs.Vectors.{vec, same?}
+use Rattle.order.specs.Vectors.{same?}
 use Rattle.probe.specs.Probe.{plus}
-use Rattle.probe.specs.Held.{point}
+use Rattle.probe.specs.Held.{point, offset}
 use Rattle.probe.proofs.Looks.{Missing, missing-none, missing-hit, missing-more, missing-done}
 use Rattle.probe.proofs.is_in.Statement.{statement}
 use Rattle.probe.proofs.is_in.Tie as tie
@@ -24,30 +24,30 @@ abbrev μ-loop : tie.MeasureT-loop
 asked : (c : tie.After-is-at Inv-loop μ-loop) →
     let a = c .before .before .before .before .before .args in
     let i = c .before .before .before .before .loop .i in
-    c .is-at .result ≡ same? (point (a .y) (a .x)) (plus (point (a .cy) (a .cx)) (vec (getD (now (a .offsets)) i (pos 0)) (getD (now (a .offsets)) (i + 1) (pos 0))))
+    c .is-at .result ≡ same? (point (a .y) (a .x)) (plus (point (a .cy) (a .cx)) (offset (getD (now (a .offsets)) i [])))
 asked c =
     rw (toZ-ofZ (sfits-of (c .before .before .is-at-arg .given)), toZ-ofZ (sfits-of (c .before .is-at-arg2 .given))) at (c .is-at .ensures)
 
 loop-holds : tie.Need-loop-holds Inv-loop μ-loop
 loop-holds c = missing-none _ _ _ _ _
 
-add-loop : tie.Need-add-loop Inv-loop μ-loop
-add-loop c = search needs
-
 mul-is-at : tie.Need-mul-is-at Inv-loop μ-loop
 mul-is-at c = search needs
 
-shared-slice-copy-out-is-at : tie.Need-shared-slice-copy-out-is-at Inv-loop μ-loop
-shared-slice-copy-out-is-at c = search needs
+index-1-is-at : tie.Need-index-1-is-at Inv-loop μ-loop
+index-1-is-at c = search needs
 
-add-is-at : tie.Need-add-is-at Inv-loop μ-loop
-add-is-at c = search needs
+index-2-is-at : tie.Need-index-2-is-at Inv-loop μ-loop
+index-2-is-at c = search needs
 
 mul-is-at-2 : tie.Need-mul-is-at-2 Inv-loop μ-loop
 mul-is-at-2 c = search needs
 
-shared-slice-copy-out-is-at-2 : tie.Need-shared-slice-copy-out-is-at-2 Inv-loop μ-loop
-shared-slice-copy-out-is-at-2 c = search needs
+index-1-is-at-2 : tie.Need-index-1-is-at-2 Inv-loop μ-loop
+index-1-is-at-2 c = search needs
+
+index-2-is-at-2 : tie.Need-index-2-is-at-2 Inv-loop μ-loop
+index-2-is-at-2 c = search needs
 
 is-at-requires : tie.Need-is-at-requires Inv-loop μ-loop
 is-at-requires c κs = search needs
@@ -74,12 +74,12 @@ is-in-spec =
     Inv-loop
     μ-loop
     loop-holds
-    add-loop
     mul-is-at
-    shared-slice-copy-out-is-at
-    add-is-at
+    index-1-is-at
+    index-2-is-at
     mul-is-at-2
-    shared-slice-copy-out-is-at-2
+    index-1-is-at-2
+    index-2-is-at-2
     is-at-requires
     returns
     add-i

@@ -1,19 +1,19 @@
 -- `pattern_new`: the points left lead from the best by now to where all lead from the first.
-use Prim.Native.Nat.{_+_, _-_, _≤_}
+use Prim.Native.Nat.{_-_, _≤_}
 use mathlib.Core.Path.{_≡_, _∙_}
+use mathlib.Core.List.{[]}
 use native.Mathlib.Omega.{arith}
 use borrow.Author.Needs.{needs, sfits-of}
 use denote.Ref.{now}
 use lib.Dec.{lit≤}
-use lib.IntN.{pos}
 use lib.ListN.{length, getD}
 use mir.Syntax.{w32}
 use mir.Val.{toZ, ofZ}
 use mir.Facts.{toZ-ofZ}
-use Rattle.order.specs.Vectors.{vec, Within}
+use Rattle.order.specs.Vectors.{Within}
 use Rattle.search.specs.Weighing.{targetOf}
 use Rattle.probe.specs.Probe.{around, times}
-use Rattle.probe.specs.Held.{point, pairs}
+use Rattle.probe.specs.Held.{point, offset, pairs}
 use Rattle.probe.proofs.Probe.{within-more}
 use Rattle.probe.proofs.Looks.{Going, going-none, going-near, going-more, going-done}
 use Rattle.probe.proofs.pattern_new.Statement.{statement}
@@ -32,43 +32,43 @@ loop-holds c =
     let o = q .0 in
     (o .down, o .across, going-none _ _ _ _ _ _ _ (q .1 .near) (o .down) (o .across))
 
-add-loop : tie.Need-add-loop Inv-loop μ-loop
-add-loop c = search needs
-
 -- the two offsets are small, and reach look_new as p times what the table has
 small : (c : tie.In-loop Inv-loop μ-loop) →
     let i = c .before .loop .i in
     let offsets = now (c .before .before .before .before .args .offsets) in
-    Within 16 (vec (getD offsets i (pos 0)) (getD offsets (i + 1) (pos 0)))
+    Within 16 (offset (getD offsets i []))
 small c = within-more (lit≤ tt) (going-near _ _ _ _ _ _ _ _ _ (c .before .loop .inv .2) (omega arith))
 
 down : (c : tie.After-scaled Inv-loop μ-loop) →
     let a = c .before .before .before .before .before .before .args in
-    toZ w32 (ofZ w32 (c .scaled .result)) ≡ times (a .p) (getD (now (a .offsets)) (c .before .before .before .loop .i) (pos 0))
+    toZ w32 (ofZ w32 (c .scaled .result)) ≡ times (a .p) (offset (getD (now (a .offsets)) (c .before .before .before .loop .i) []) .dy)
 down c = toZ-ofZ (sfits-of (c .scaled .ok)) ∙ (rw (toZ-ofZ (sfits-of (c .before .scaled-arg .given))) at (c .scaled .ensures))
 
 across : (c : tie.After-scaled2 Inv-loop μ-loop) →
     let a = c .before .before .before .before .before .before .before .before .args in
-    toZ w32 (ofZ w32 (c .scaled2 .result)) ≡ times (a .p) (getD (now (a .offsets)) (c .before .before .before .before .before .loop .i + 1) (pos 0))
+    toZ w32 (ofZ w32 (c .scaled2 .result)) ≡ times (a .p) (offset (getD (now (a .offsets)) (c .before .before .before .before .before .loop .i) []) .dx)
 across c = toZ-ofZ (sfits-of (c .scaled2 .ok)) ∙ (rw (toZ-ofZ (sfits-of (c .before .scaled-arg2 .given))) at (c .scaled2 .ensures))
 
 mul-scaled : tie.Need-mul-scaled Inv-loop μ-loop
 mul-scaled c = search needs
 
-shared-slice-copy-out-scaled : tie.Need-shared-slice-copy-out-scaled Inv-loop μ-loop
-shared-slice-copy-out-scaled c = search needs
+index-1-scaled : tie.Need-index-1-scaled Inv-loop μ-loop
+index-1-scaled c = search needs
+
+index-2-scaled : tie.Need-index-2-scaled Inv-loop μ-loop
+index-2-scaled c = search needs
 
 scaled-requires : tie.Need-scaled-requires Inv-loop μ-loop
 scaled-requires c κs = (omega arith, rw (toZ-ofZ (sfits-of (c .scaled-arg .given))) (small (c .before) .down))
 
-add-scaled : tie.Need-add-scaled Inv-loop μ-loop
-add-scaled c = search needs
-
 mul-scaled-2 : tie.Need-mul-scaled-2 Inv-loop μ-loop
 mul-scaled-2 c = search needs
 
-shared-slice-copy-out-scaled-2 : tie.Need-shared-slice-copy-out-scaled-2 Inv-loop μ-loop
-shared-slice-copy-out-scaled-2 c = search needs
+index-1-scaled-2 : tie.Need-index-1-scaled-2 Inv-loop μ-loop
+index-1-scaled-2 c = search needs
+
+index-2-scaled-2 : tie.Need-index-2-scaled-2 Inv-loop μ-loop
+index-2-scaled-2 c = search needs
 
 scaled-requires-2 : tie.Need-scaled-requires-2 Inv-loop μ-loop
 scaled-requires-2 c κs = (omega arith, rw (toZ-ofZ (sfits-of (c .scaled-arg2 .given))) (small (c .before .before .before) .across))
@@ -112,13 +112,13 @@ pattern-new-spec =
     Inv-loop
     μ-loop
     loop-holds
-    add-loop
     mul-scaled
-    shared-slice-copy-out-scaled
+    index-1-scaled
+    index-2-scaled
     scaled-requires
-    add-scaled
     mul-scaled-2
-    shared-slice-copy-out-scaled-2
+    index-1-scaled-2
+    index-2-scaled-2
     scaled-requires-2
     look-new-requires
     add-i
