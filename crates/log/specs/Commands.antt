@@ -2,7 +2,7 @@
 -- two's-complement bytes, distortion 2 bytes. Still block: no operand, for (0,0) with distortion 0 [...] End: number of blocks, 4 bytes."
 --   commandNumber   01's number of each case: the command byte, or the refusal's number
 --   commandValues   01's values of each case, in the order in which they are written and printed: of a refusal its place
---   commandBytes    the bytes of a command; a refusal has none
+--   commandBytes    the bytes of a command, its number first; a refusal has none
 --   isRefused       the command is a refusal; placeOf: its place
 --   blockValues     the three numbers that a block of either kind has in a list; other commands have none
 use Prim.Native.Nat.{ℕ}
@@ -29,10 +29,10 @@ commandValues (Cmd.End blocks) = pos blocks ∷ []
 commandValues (Cmd.Refused number place) = pos place ∷ []
 
 abbrev pub commandBytes : Command → List ℕ
-commandBytes (Cmd.Head h) = 1 ∷ bytes2 (h .width) ++ bytes2 (h .height) ++ (h .n ∷ h .w ∷ h .search ∷ [])
-commandBytes (Cmd.Block dy dx distortion) = 2 ∷ byteOf dy ∷ byteOf dx ∷ bytes2 distortion
-commandBytes Cmd.Still = 3 ∷ []
-commandBytes (Cmd.End blocks) = 4 ∷ bytes4 blocks
+commandBytes (Cmd.Head h) = commandNumber (Cmd.Head h) ∷ bytes2 (h .width) ++ bytes2 (h .height) ++ (h .n ∷ h .w ∷ h .search ∷ [])
+commandBytes (Cmd.Block dy dx distortion) = commandNumber (Cmd.Block dy dx distortion) ∷ byteOf dy ∷ byteOf dx ∷ bytes2 distortion
+commandBytes Cmd.Still = commandNumber Cmd.Still ∷ []
+commandBytes (Cmd.End blocks) = commandNumber (Cmd.End blocks) ∷ bytes4 blocks
 commandBytes (Cmd.Refused number place) = []
 
 abbrev pub isRefused : Command → Bool

@@ -27,7 +27,7 @@ use Rattle.log.specs.declared.Command.{Command}
 use Rattle.log.specs.declared.Command.the-variants as Cmd
 use Rattle.log.specs.declared.Stepped.{Stepped}
 use Rattle.log.specs.Numbers.{be2, be4}
-use Rattle.log.specs.Commands.{isRefused}
+use Rattle.log.specs.Commands.{commandNumber, isRefused}
 use Rattle.heads.specs.Heads.{headRefusal, headOk, gridOf, entryOk, isStill}
 
 -- refused with a number and a place; the walker keeps its place and is over
@@ -105,13 +105,13 @@ endAt log at Over = turnedAway at 14 at
 
 -- ---- one call
 
--- "The command byte decides: 1 head, 2 block, 3 still block, 4 end; 0 and 5 to 255 are unknown."
+-- "The command byte decides: 1 head, 2 block, 3 still block, 4 end; 0 and 5 to 255 are unknown." The number is that of the command which it begins.
 unfoldable pub byCommand : ℕ → List ℕ → ℕ → Phase → Stepped
 byCommand command log at phase =
-    cond (eqb command 1) (headAt log at phase)
-    (cond (eqb command 2) (blockAt log at phase)
-    (cond (eqb command 3) (stillAt log at phase)
-    (cond (eqb command 4) (endAt log at phase) (turnedAway at 14 at))))
+    cond (eqb command (commandNumber (Cmd.Head (headIn log at)))) (headAt log at phase)
+    (cond (eqb command (commandNumber (Cmd.Block (dyAt log at) (dxAt log at) (distortionAt log at)))) (blockAt log at phase)
+    (cond (eqb command (commandNumber Cmd.Still)) (stillAt log at phase)
+    (cond (eqb command (commandNumber (Cmd.End (be4 log (at + 1))))) (endAt log at phase) (turnedAway at 14 at))))
 
 -- 13 at the log's length if no command begins
 unfoldable pub commandAt : List ℕ → ℕ → Phase → Stepped

@@ -45,19 +45,28 @@ pub struct Stepped {
 
 // ---- 01's numbers
 
+// The command bytes.
+pub const HEAD: u8 = 1;
+
+pub const BLOCK: u8 = 2;
+
+pub const STILL: u8 = 3;
+
+pub const END: u8 = 4;
+
 // A command's number: its byte, or the refusal's.
 pub fn command_number(command: Command) -> u32
     ensures { λ r. ⌜ r ≡ commandNumber command ⌝ }
 {
     match command {
-        Command::Head(_) => 1,
+        Command::Head(_) => HEAD as u32,
         Command::Block {
             dy: _,
             dx: _,
             distortion: _,
-        } => 2,
-        Command::Still => 3,
-        Command::End(_) => 4,
+        } => BLOCK as u32,
+        Command::Still => STILL as u32,
+        Command::End(_) => END as u32,
         Command::Refused { number, place: _ } => number,
     }
 }

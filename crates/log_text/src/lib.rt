@@ -176,10 +176,10 @@ fn block_here(log: &[u8], at: usize, head: Head, all: usize, k: usize) -> Comman
     if k < all {
         if at < log.len() {
             let command = log[at];
-            if command == 3 {
+            if command == log::STILL {
                 return Command::Still;
             }
-            if command == 2 {
+            if command == log::BLOCK {
                 if log.len() - at >= 5 {
                     return log::block_in(log, at, head, k);
                 }
@@ -197,7 +197,7 @@ fn put_block_line(out: &mut [u8], at: usize, command: Command) -> usize
     requires { ⌜ (at ≤ 1000000000) × (isRefused command ≡ false) ⌝ }
     ensures { λ r. ⌜ (Put (now (out .entry)) at (lineOf command) (now (out .exit)) r) × (r ≤ at + 128) ⌝ }
 {
-    if log::command_number(command) == 3 {
+    if log::command_number(command) == log::STILL as u32 {
         return put_word(out, at, b"0 0 0\n");
     }
     put_line(out, at, command)

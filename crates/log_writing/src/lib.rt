@@ -130,7 +130,7 @@ fn put_head(out: &mut [u8], h: Head) -> usize
     requires { ⌜ headRefusal h ≡ 0 ⌝ }
     ensures { λ r. ⌜ Put (now (out .entry)) 0 (headBytes h) (now (out .exit)) r ⌝ }
 {
-    let width = put::put_byte(out, 0, 1);
+    let width = put::put_byte(out, 0, log::HEAD);
     let height = put_two(out, width, h.width);
     let n = put_two(out, height, h.height);
     let w = put::put_byte(out, n, h.n as u8);
@@ -143,7 +143,7 @@ fn put_numbers(out: &mut [u8], at: usize, dy: i32, dx: i32, distortion: i32) -> 
     requires { ⌜ (at < 100000000000) × Entry dy dx distortion ⌝ }
     ensures { λ r. ⌜ Put (now (out .entry)) at (numbersBytes dy dx distortion) (now (out .exit)) r ⌝ }
 {
-    let a = put::put_byte(out, at, 2);
+    let a = put::put_byte(out, at, log::BLOCK);
     let b = put::put_byte(out, a, signed::to_byte(dy));
     let c = put::put_byte(out, b, signed::to_byte(dx));
     put_two(out, c, signed::magnitude(distortion) as usize)
@@ -156,7 +156,7 @@ fn put_block(out: &mut [u8], at: usize, list: &[i32], k: usize) -> usize
     ensures { λ r. ⌜ Put (now (out .entry)) at (blockBytes (now (list .entry)) k) (now (out .exit)) r × (r ≤ at + 5) ⌝ }
 {
     if still_at(list, k) {
-        return put::put_byte(out, at, 3);
+        return put::put_byte(out, at, log::STILL);
     }
     put_numbers(
         out,
@@ -187,7 +187,7 @@ fn put_end(out: &mut [u8], at: usize, n: usize) -> usize
     requires { ⌜ (at ≤ 10000000) × (n ≤ 1048576) ⌝ }
     ensures { λ r. ⌜ Put (now (out .entry)) at (endBytes n) (now (out .exit)) r ⌝ }
 {
-    let high = put::put_byte(out, at, 4);
+    let high = put::put_byte(out, at, log::END);
     let low = put_two(out, high, n / 65536);
     put_two(out, low, n % 65536)
 }

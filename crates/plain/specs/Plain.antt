@@ -15,6 +15,7 @@ use Rattle.log.specs.declared.Phase.the-variants.{Start, Body, Ended, Over}
 use Rattle.log.specs.declared.Cursor.{Cursor}
 use Rattle.log.specs.declared.Command.{Command}
 use Rattle.log.specs.declared.Command.the-variants as Cmd
+use Rattle.log.specs.Commands.{commandNumber}
 use Rattle.log.specs.Step.{stepAt}
 use Rattle.plain.specs.declared.Place.{Place}
 use Rattle.plain.specs.declared.Walked.{Walked}
@@ -60,10 +61,10 @@ answer refusal place command h dy dx distortion blocks next =
     record { refusal = refusal; place = place; command = command; head = h; dy = dy; dx = dx; distortion = distortion; blocks = blocks; next = next }
 
 abbrev pub toldOf : Command → Place → Walked
-toldOf (Cmd.Head h) next = answer 0 0 1 h (pos 0) (pos 0) 0 0 next
-toldOf (Cmd.Block dy dx distortion) next = answer 0 0 2 noHead dy dx distortion 0 next
-toldOf Cmd.Still next = answer 0 0 3 noHead (pos 0) (pos 0) 0 0 next
-toldOf (Cmd.End blocks) next = answer 0 0 4 noHead (pos 0) (pos 0) 0 blocks next
+toldOf (Cmd.Head h) next = answer 0 0 (commandNumber (Cmd.Head h)) h (pos 0) (pos 0) 0 0 next
+toldOf (Cmd.Block dy dx distortion) next = answer 0 0 (commandNumber (Cmd.Block dy dx distortion)) noHead dy dx distortion 0 next
+toldOf Cmd.Still next = answer 0 0 (commandNumber Cmd.Still) noHead (pos 0) (pos 0) 0 0 next
+toldOf (Cmd.End blocks) next = answer 0 0 (commandNumber (Cmd.End blocks)) noHead (pos 0) (pos 0) 0 blocks next
 toldOf (Cmd.Refused number place) next = answer number place 0 noHead (pos 0) (pos 0) 0 0 next
 
 unfoldable pub walkedFrom : List ℕ → Place → Walked

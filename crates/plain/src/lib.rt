@@ -139,12 +139,13 @@ fn answer(
 fn told_of(command: Command, next: Place) -> Walked
     ensures { λ r. ⌜ r ≡ toldOf command next ⌝ }
 {
+    let said = log::command_number(command);
     match command {
-        Command::Head(head) => answer(0, 0, 1, head, 0, 0, 0, 0, next),
+        Command::Head(head) => answer(0, 0, said, head, 0, 0, 0, 0, next),
         Command::Block { dy, dx, distortion } => answer(
             0,
             0,
-            2,
+            said,
             no_head(),
             dy,
             dx,
@@ -152,8 +153,8 @@ fn told_of(command: Command, next: Place) -> Walked
             0,
             next,
         ),
-        Command::Still => answer(0, 0, 3, no_head(), 0, 0, 0, 0, next),
-        Command::End(blocks) => answer(0, 0, 4, no_head(), 0, 0, 0, blocks, next),
+        Command::Still => answer(0, 0, said, no_head(), 0, 0, 0, 0, next),
+        Command::End(blocks) => answer(0, 0, said, no_head(), 0, 0, 0, blocks, next),
         Command::Refused { number, place } => answer(number, place, 0, no_head(), 0, 0, 0, 0, next),
     }
 }

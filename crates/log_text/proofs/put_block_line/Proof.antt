@@ -10,6 +10,9 @@ use Rattle.log_text.proofs.put_block_line.Tie as tie
 command-number-requires : tie.Need-command-number-requires
 command-number-requires c κs = search needs
 
+cast-if1 : tie.Need-cast-if1
+cast-if1 c = search needs
+
 slice-aggregate-put-word : tie.Need-slice-aggregate-put-word
 slice-aggregate-put-word c = search needs
 
@@ -41,6 +44,7 @@ put-block-line-spec =
     tie.close
     (tie.spec
     command-number-requires
+    cast-if1
     slice-aggregate-put-word
     put-word-requires
     same-length

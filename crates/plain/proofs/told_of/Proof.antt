@@ -6,6 +6,9 @@ use mir.Val.{toZ, ofZ}
 use Rattle.plain.proofs.told_of.Statement.{statement}
 use Rattle.plain.proofs.told_of.Tie as tie
 
+command-number-requires : tie.Need-command-number-requires
+command-number-requires c κs = search needs
+
 enum-known-command : tie.Need-enum-known-command
 enum-known-command c = search needs
 
@@ -49,19 +52,26 @@ answer-requires-5 : tie.Need-answer-requires-5
 answer-requires-5 c κs = search needs
 
 returns : tie.Need-returns
-returns c = rw (c .before .before .command .given .1) (c .answer .ensures)
+returns c = let k = c .before .before in
+    let g = k .command .given in
+    rw (g .1) (rw (k .before .before .command-number .ensures, g .1) at (c .answer .ensures))
 
 returns-2 : tie.Need-returns-2
-returns-2 c = let g = c .before .before .before .command2 .given in
+returns-2 c = let k = c .before .before .before in
+    let g = k .command2 .given in
     let ey : toZ w32 (ofZ w32 (g .0 .0)) ≡ g .0 .0 = search needs in
     let ex : toZ w32 (ofZ w32 (g .0 .1 .0)) ≡ g .0 .1 .0 = search needs in
-    rw (g .1) (rw (c .before .no-head .ensures, ey, ex) at (c .answer2 .ensures))
+    rw (g .1) (rw (k .before .before .command-number .ensures, g .1, c .before .no-head .ensures, ey, ex) at (c .answer2 .ensures))
 
 returns-3 : tie.Need-returns-3
-returns-3 c = rw (c .before .before .enum-told .given .1) (rw (c .before .no-head2 .ensures) at (c .answer3 .ensures))
+returns-3 c = let k = c .before .before in
+    let g = k .enum-told .given in
+    rw (g .1) (rw (k .before .before .command-number .ensures, g .1, c .before .no-head2 .ensures) at (c .answer3 .ensures))
 
 returns-4 : tie.Need-returns-4
-returns-4 c = rw (c .before .before .before .command3 .given .1) (rw (c .before .no-head3 .ensures) at (c .answer4 .ensures))
+returns-4 c = let k = c .before .before .before in
+    let g = k .command3 .given in
+    rw (g .1) (rw (k .before .before .command-number .ensures, g .1, c .before .no-head3 .ensures) at (c .answer4 .ensures))
 
 returns-5 : tie.Need-returns-5
 returns-5 c = rw (c .before .before .before .command4 .given .1) (rw (c .before .no-head4 .ensures) at (c .answer5 .ensures))
@@ -70,6 +80,7 @@ pub told-of-spec : {M : Type 1} → statement M
 told-of-spec =
     tie.close
     (tie.spec
+    command-number-requires
     enum-known-command
     answer-requires
     enum-known-command-2
