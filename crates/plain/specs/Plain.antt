@@ -3,9 +3,11 @@
 --   plainOf             a cursor as plain numbers; where a phase has no head and no blocks they are 0
 --   toldOf              01's number and values of each case of a command, beside the cursor after it
 --   walkedFrom          one call of the walker
-use Prim.Native.Nat.{ℕ}
+--   answersFrom         the answers that a caller sees who hands `next` back until a refusal, in so many calls at most
+--   Told                answers that tell these commands, one each and in order, whatever place is beside each
+use Prim.Native.Nat.{ℕ, zero, suc}
 use mathlib.Core.Path.{_≡_, refl}
-use mathlib.Core.List.{List}
+use mathlib.Core.List.{List, [], _∷_}
 use mathlib.Core.Bool.{cond}
 use lib.Dec.{eqb}
 use lib.IntN.{ℤ, pos}
@@ -69,3 +71,15 @@ toldOf (Cmd.Refused number place) next = answer number place 0 noHead (pos 0) (p
 
 unfoldable pub walkedFrom : List ℕ → Place → Walked
 walkedFrom log p = let s = stepAt log (cursorOf p) in toldOf (s .command) (plainOf (s .next))
+
+-- ---- a caller's walk
+
+unfoldable pub answersFrom : ℕ → List ℕ → Place → List Walked
+answersFrom zero log p = []
+answersFrom (suc calls) log p =
+    let w = walkedFrom log p in
+    w ∷ cond (eqb (w .refusal) 0) (answersFrom calls log (w .next)) []
+
+pub data Told : List Walked → List Command → Type 0 where
+  none : Told [] []
+  more : (c : Command) (next : Place) {ws : List Walked} {cs : List Command} → Told ws cs → Told (toldOf c next ∷ ws) (c ∷ cs)

@@ -1,3 +1,4 @@
+pub mod Plain
 pub mod Writing
 pub mod Reading
 pub mod Fields

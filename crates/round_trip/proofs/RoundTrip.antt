@@ -29,6 +29,7 @@ use Rattle.walks.proofs.Complete.{complete}
 use Rattle.round_trip.specs.RoundTrip.{RoundTrip}
 use Rattle.round_trip.proofs.Writing as Writing
 use Rattle.round_trip.proofs.Reading as Reading
+use Rattle.round_trip.proofs.Plain.{plain-walk}
 use Rattle.round_trip.proofs.Fields.{field-is, last-is, front-entry, front-log}
 
 -- ---- what is written reads back
@@ -119,4 +120,5 @@ round-trip = record {
   accepted-walk = whole;
   walker-ends = λ log c. ends-from (length log + 1) log c (omega arith) .said;
   walker-stays = over-stays;
+  plain-walk = plain-walk;
 }

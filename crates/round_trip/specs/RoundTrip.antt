@@ -3,6 +3,7 @@
 --   wrote      what writing answers, with the buffer afterwards (crates/log_writing); logOf, logCommands: the log of a head and a list, as bytes and as commands
 --   readInto   what reading answers, with the list afterwards (crates/log_reading); fieldOf: the list that a walk's blocks make
 --   stepAt     one call of the walker, from any cursor (crates/log); commandsFrom: the commands of so many calls; walk: of all, from the log's start
+--   answersFrom   the answers of the plain call, each from the place that the one before handed back, until a refusal (crates/plain); Told: they tell these commands
 use Prim.Native.Nat.{ℕ, _+_, _*_, _≤_, _<_}
 use mathlib.Core.Path.{_≡_}
 use mathlib.Core.Logic.{_↔_}
@@ -17,8 +18,9 @@ use Rattle.log.specs.declared.Command.the-variants as Cmd
 use Rattle.log.specs.Commands.{commandNumber, isRefused}
 use Rattle.heads.specs.Heads.{gridOf}
 use Rattle.log.specs.Logs.{logCommands, logOf}
-use Rattle.log.specs.Step.{headIn, stepAt}
+use Rattle.log.specs.Step.{headIn, stepAt, startCursor}
 use Rattle.log.specs.Walk.{commandsFrom, walk, lastOf}
+use Rattle.plain.specs.Plain.{plainOf, answersFrom, Told}
 use Rattle.log_writing.specs.Writing.{asWriting, wrote}
 use Rattle.log_reading.specs.Reading.{fieldOf, acceptedRead, asReading, readInto}
 
@@ -46,3 +48,6 @@ pub record RoundTrip : Type 0 where
   -- and after it the next call answers 34 and leaves the walker where it stood: so does every further call.
   pub walker-stays : (log : List ℕ) (c : Cursor) → isRefused (stepAt log c .command) ≡ true
       → stepAt log (stepAt log c .next) ≡ record { command = Cmd.Refused 34 0; next = stepAt log c .next }
+  -- A caller of the plain call who begins with the start's plain numbers and hands `next` back until the answer is a refusal is told the walk, and however
+  -- many calls are allowed beyond the log's length, makes no more.
+  pub plain-walk : (log : List ℕ) (calls : ℕ) → length log < calls → Told (answersFrom calls log (plainOf startCursor)) (walk log)

@@ -1,6 +1,6 @@
 -- A call that is not refused goes on by a byte at least and stays in the log: so a walk meets a refusal within length + 1 calls, and stays refused.
 use Prim.Native.Nat.{ℕ, zero, suc, _+_, _≤_, _<_}
-use mathlib.Core.Path.{_≡_, refl}
+use mathlib.Core.Path.{_≡_, refl, ap}
 use mathlib.Core.List.{List, [], _∷_}
 use mathlib.Core.Bool.{Bool, true, false, cond}
 use native.Mathlib.Omega.{arith}
@@ -79,3 +79,20 @@ ends-from (suc calls) log c h = go (ends-from calls log (stepAt log c .next)) (i
 pub ends : (log : List ℕ) → Refusal (lastOf (walk log))
 unfolding walk
 ends log = ends-from (length log + 1) log _ (omega arith)
+
+-- and more calls say no more
+pub enough : (calls more : ℕ) (log : List ℕ) (c : Cursor) → c .at ≤ length log → length log < calls + c .at → length log < more + c .at
+    → commandsFrom calls log c ≡ commandsFrom more log c
+unfolding commandsFrom
+enough zero more log c i h g = absurd (omega arith)
+enough (suc calls) zero log c i h g = absurd (omega arith)
+enough (suc calls) (suc more) log c i h g = go (enough calls more log (stepAt log c .next)) (isRefused (stepAt log c .command)) refl
+  where
+    go : (stepAt log c .next .at ≤ length log → length log < calls + stepAt log c .next .at → length log < more + stepAt log c .next .at
+        → commandsFrom calls log (stepAt log c .next) ≡ commandsFrom more log (stepAt log c .next)) → (t : Bool) → isRefused (stepAt log c .command) ≡ t
+        → stepAt log c .command ∷ cond t [] (commandsFrom calls log (stepAt log c .next))
+        ≡ stepAt log c .command ∷ cond t [] (commandsFrom more log (stepAt log c .next))
+    go rest true e = refl
+    go rest false e =
+        let on = goes-on log c (stepAt log c) (kinds log c) e in
+        ap (_∷_ (stepAt log c .command)) (rest (on .1) (omega arith) (omega arith))
