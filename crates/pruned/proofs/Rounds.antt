@@ -19,8 +19,8 @@ use Rattle.pruning.proofs.Counts.{Counted, counted-length, start-counted, lower
 use Rattle.pruning.proofs.Pruned.{Safe, Holds, holds-some, start-holds, first-bound, lower-holds, sift-holds}
 use Rattle.pruning.proofs.Search.{halvings-more, halvings-none, rounds-more, rounds-none}
 use Rattle.pruned.specs.declared.Rest.{Rest}
-use Rattle.remaining.specs.Gathered.{passes, Gathered, Listed}
-use Rattle.remaining.proofs.Listing.{listed-front}
+use Rattle.remaining.specs.Gathered.{passes, Front, Listed}
+use Rattle.remaining.proofs.Listing.{front-take, gathered-long, listed-front}
 use Rattle.pruned.specs.Memory.{InMemory, Begun, finished}
 
 -- the last of the five counts
@@ -116,7 +116,7 @@ take-zeros zero n h = refl
 take-zeros (suc z) zero h = absurd (not-suc-le-zero h)
 take-zeros (suc z) (suc n) h = ap (λ (ks : List ℕ). 0 ∷ ks) (take-zeros z n (le-of-suc-le-suc h))
 
-module _ (D : ℕ → ℕ) (N : ℕ) (b : Spot) (zero-passes : passes b 0 ≡ true) {alive : List ℕ} {all : ℕ} {r : Rest} (a : Gathered b alive all) (f : Begun (D 0) N all r) where
+module _ (D : ℕ → ℕ) (N : ℕ) (b : Spot) (zero-passes : passes b 0 ≡ true) {before alive : List ℕ} {all : ℕ} {r : Rest} (long : length before ≡ 1089) (a : Front (pick (passes b) 1089) before alive all) (f : Begun (D 0) N all r) where
   start-bound : r .bound ≡ start D (pick (passes b) 1089) .bound
   start-bound = f .bound ∙ sym (first-bound D (passes b) 1088 zero-passes)
 
@@ -124,10 +124,10 @@ module _ (D : ℕ → ℕ) (N : ℕ) (b : Spot) (zero-passes : passes b 0 ≡ tr
   start-held : InMemory (r .slot) (start D (pick (passes b) 1089)) alive r
   unfolding start
   start-held = record {
-    long = a .long;
+    long = gathered-long b a long;
     bound = λ _. start-bound;
-    many = a .many ∙ sym (f .count);
-    left = rw (f .count) (a .front);
+    many = sym (f .count ∙ a .many);
+    left = rw (f .count) (front-take a);
     slot = omega arith;
     five = ap length (f .counts);
     tested = rw (f .counts) (take-zeros (r .slot) 5 (omega (arith, f .slot)) ∙ sym (append-nil _));

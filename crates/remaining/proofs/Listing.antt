@@ -1,15 +1,32 @@
--- What stands in front of the array are candidates: they were picked from the preference table.
-use Prim.Native.Nat.{ℕ, _≤_}
-use mathlib.Core.Path.{_≡_, sym, ap, _∙_}
-use mathlib.Core.List.{List}
+-- What stands in front of the array: candidates, picked from the preference table; and where the distances are f of the candidates, the nearest is
+-- the first least by f, and those that stay are those whose f is within the limit.
+use Prim.Native.Nat.{ℕ, zero, suc, _+_, _≤_, _<_}
+use mathlib.Core.Path.{_≡_, refl, sym, ap, _∙_}
+use mathlib.Core.Bool.{Bool, true, false, cond}
+use mathlib.Core.List.{List, [], _∷_, _++_}
+use native.Mathlib.Nat.{le-refl, not-suc-le-zero}
+use native.Mathlib.Numerals.{add-one}
 use native.Mathlib.Omega.{arith}
-use lib.ListN.{length, getD, take}
-use lib.Seq.{getD-take}
+use lib.Dec.{leb, ltb}
+use lib.ListN.{length, getD, take, drop, length-append, length-drop}
+use lib.Seq.{getD-take, take-at, take-suc}
 use Rattle.base.specs.Tests.{true-T}
-use Rattle.base.specs.Least.{_∈_, getD-mem}
+use Rattle.base.specs.Lists.{listTo, length-listTo}
+use Rattle.base.specs.Least.{_∈_, leastOf, leastFrom, leastOf-more, getD-mem}
 use Rattle.base.specs.Picks.{pick, picked, pick-few}
 use Rattle.search.specs.declared.Spot.{Spot}
-use Rattle.remaining.specs.Gathered.{passes, Gathered, Listed}
+use Rattle.pruning.specs.Sift.{kept}
+use Rattle.pruning.proofs.Loops.{kept-take}
+use Rattle.remaining.specs.Gathered.{passes, Front, Listed, nearestOf, within, Filled}
+
+module _ {ks before after : List ℕ} {r : ℕ} (f : Front ks before after r) where
+  pub front-take : take r after ≡ ks
+  front-take = rw (f .list) (take-at ks (drop r before) r (sym (f .many)))
+
+  pub front-long : r ≤ length before → length after ≡ length before
+  front-long h = rw (f .list) (omega (arith, length-append ks (drop r before), length-drop r before, f .many))
+
+-- ---- all candidates
 
 -- places that stand in front of alive are candidates where all of ks are
 pub listed-front : (b : Spot) (alive ks : List ℕ) (count : ℕ) → length alive ≡ 1089 → length ks ≡ count → take count alive ≡ ks → count ≤ 1089
@@ -23,8 +40,66 @@ listed-front b alive ks count long many front few from = record {
       rw e (q .0, true-T (passes b (getD ks i 0)) (q .1));
 }
 
-pub gathered-few : {b : Spot} {alive : List ℕ} {all : ℕ} → Gathered b alive all → all ≤ 1089
-gathered-few {b} a = omega (arith, a .many, pick-few (passes b) 1089)
+module _ (b : Spot) {before alive : List ℕ} {all : ℕ} (a : Front (pick (passes b) 1089) before alive all) where
+  pub gathered-few : all ≤ 1089
+  gathered-few = omega (arith, a .many, pick-few (passes b) 1089)
 
-pub gathered-listed : {b : Spot} {alive : List ℕ} {all : ℕ} → Gathered b alive all → Listed b alive all
-gathered-listed {b} {alive} {all} a = listed-front b alive (pick (passes b) 1089) all (a .long) (a .many) (a .front) (gathered-few a) (λ k i. i)
+  pub gathered-long : length before ≡ 1089 → length alive ≡ 1089
+  gathered-long h = front-long a (omega (arith, gathered-few)) ∙ h
+
+  pub gathered-listed : length before ≡ 1089 → Listed b alive all
+  gathered-listed h = listed-front b alive (pick (passes b) 1089) all (gathered-long h) (sym (a .many)) (front-take a) gathered-few (λ k i. i)
+
+pub within-few : (limit : ℕ) (alive dist : List ℕ) (n : ℕ) → length (within limit alive dist n) ≤ n
+unfolding within
+within-few limit alive dist zero = le-refl 0
+within-few limit alive dist (suc n) =
+    omega (arith, within-few limit alive dist n, length-append (within limit alive dist n) (cond (leb (getD dist n 0) limit) (getD alive n 0 ∷ []) []), one (leb (getD dist n 0) limit))
+  where
+    one : (t : Bool) → length (cond {A = List ℕ} t (getD alive n 0 ∷ []) []) ≤ 1
+    one true = le-refl 1
+    one false = omega arith
+
+-- ---- where the distances are f of the candidates
+
+-- the first least of a list by a rule, by its place
+least-place : (f g h : ℕ → ℕ) (n : ℕ) → ((i : ℕ) → i < suc n → g i ≡ f (h i)) →
+    let a = leastOf g (listTo (λ i. i) (suc n)) in (a < suc n) × (leastOf f (listTo h (suc n)) ≡ h a)
+unfolding listTo leastOf leastFrom
+least-place f g h zero e = (le-refl 1, refl)
+least-place f g h (suc n) e =
+    let (l, q) = least-place f g h n (λ i k. e i (omega arith)) in
+    let a = leastOf g (listTo (λ i. i) (suc n)) in
+    rw (leastOf-more g (listTo (λ i. i) (suc n)) (suc n) (omega (arith, length-listTo {A = ℕ} (λ i. i) (suc n))), leastOf-more f (listTo h (suc n)) (h (suc n)) (omega (arith, length-listTo h (suc n))), q, ← e (suc n) (omega arith), ← e a (omega arith))
+    (step l (ltb (g (suc n)) (g a)))
+  where
+    step : {a : ℕ} → a < suc n → (t : Bool) → (cond t (suc n) a < suc (suc n)) × (cond t (h (suc n)) (h a) ≡ h (cond t (suc n) a))
+    step l true = (le-refl _, refl)
+    step l false = (omega arith, refl)
+
+take-list : (ks : List ℕ) (n : ℕ) → n ≤ length ks → take n ks ≡ listTo (λ i. getD ks i 0) n
+unfolding listTo
+take-list ks zero h = refl
+take-list ks (suc n) h = take-suc ks n 0 h ∙ ap (λ (l : List ℕ). l ++ (getD ks n 0 ∷ [])) (take-list ks n (omega arith))
+
+-- the nearest is one of them
+pub nearest-mem : (alive dist : List ℕ) (count : ℕ) → 0 < count → (i : ℕ) × (i < count) × (nearestOf alive count dist ≡ getD alive i 0)
+unfolding nearestOf
+nearest-mem alive dist zero h = absurd (not-suc-le-zero h)
+nearest-mem alive dist (suc n) h = (_, least-place (λ i. getD dist i 0) (λ i. getD dist i 0) (λ i. i) n (λ i k. refl) .0, refl)
+
+module _ (f : ℕ → ℕ) (alive dist : List ℕ) where
+  pub nearest-filled : (count : ℕ) → Filled f alive count dist → 0 < count → count ≤ length alive → nearestOf alive count dist ≡ leastOf f (take count alive)
+  unfolding nearestOf
+  nearest-filled zero g h few = absurd (not-suc-le-zero h)
+  nearest-filled (suc n) g h few = rw (take-list alive (suc n) few) (sym (least-place f (λ i. getD dist i 0) (λ i. getD alive i 0) n (g .value) .1))
+
+  within-taken : (limit count : ℕ) → Filled f alive count dist → (n : ℕ) → n ≤ count → n ≤ length alive → within limit alive dist n ≡ kept f limit (take n alive)
+  unfolding within kept
+  within-taken limit count g zero h few = refl
+  within-taken limit count g (suc n) h few =
+      rw (within-taken limit count g n (omega arith) (omega arith), g .value n h)
+      (sym (ap (λ (k : ℕ). kept f limit (take k alive)) (sym (add-one n)) ∙ kept-take f limit alive n few))
+
+  pub within-filled : (limit count : ℕ) → Filled f alive count dist → count ≤ length alive → within limit alive dist count ≡ kept f limit (take count alive)
+  within-filled limit count g few = within-taken limit count g count (le-refl count) few

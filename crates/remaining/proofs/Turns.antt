@@ -2,53 +2,44 @@
 use Prim.Native.Nat.{ℕ, zero, suc, _+_, _≤_, _<_, zero-le}
 use mathlib.Core.Path.{_≡_, refl, sym, ap, _∙_}
 use mathlib.Core.Bool.{Bool, true, false}
-use mathlib.Core.List.{List, [], _∷_}
-use native.Mathlib.Nat.{le-refl}
+use mathlib.Core.List.{List, [], _∷_, _++_, append-nil}
 use native.Mathlib.Numerals.{add-one}
 use native.Mathlib.Omega.{arith}
-use lib.ListN.{length, getD, take, set, length-set, length-append}
-use lib.Seq.{take-suc-set, take-set-le, take-all}
-use Rattle.base.specs.Lists.{listTo, length-listTo}
+use borrow.Author.Tests.{le-leb, lt-leb}
+use lib.ListN.{length, getD, take, drop, set, length-append, drop-of-length-le}
+use lib.Seq.{take-all}
+use Rattle.base.specs.Lists.{listTo, length-listTo, getD-listTo, front-more, front-behind}
 use Rattle.base.specs.Least.{leastOf, least-next-less, least-next-not, least-of-one}
 use Rattle.base.specs.Picks.{pick, pick-none, pick-yes, pick-no}
 use Rattle.search.specs.declared.Spot.{Spot}
-use Rattle.pruning.proofs.Loops.{Sifted, sifted-start, sifted-read, sifted-in, sifted-out}
-use Rattle.remaining.specs.Gathered.{passes, Gathered, Filled, Kept}
+use Rattle.remaining.specs.Gathered.{passes, Front, nearestOf, within}
+
+-- ---- places in front of what was there: none yet, and one more
+pub front-none : (old : List ℕ) → Front [] old old 0
+front-none old = record { many = refl; list = refl }
+
+front-next : {ks old alive : List ℕ} {count : ℕ} (k : ℕ) → Front ks old alive count → count < length old → Front (ks ++ (k ∷ [])) old (set alive count k) (count + 1)
+front-next {ks} {old} {alive} {count} k f h = record {
+  many = omega (arith, f .many, length-append ks (k ∷ []));
+  list = rw (f .list) (front-more ks old count k (sym (f .many)) h);
+}
 
 -- ---- all candidates: those below k that pass stand in front
-pub record Gathering (p : ℕ → Bool) (k count : ℕ) (alive : List ℕ) : Type 0 where
+pub record Gathering (p : ℕ → Bool) (old : List ℕ) (k count : ℕ) (alive : List ℕ) : Type 0 where
   pub below : k ≤ 1089
   pub behind : count ≤ k
-  pub long : length alive ≡ 1089
-  pub many : length (pick p k) ≡ count
-  pub front : take count alive ≡ pick p k
+  pub long : length old ≡ 1089
+  pub front : Front (pick p k) old alive count
 
-pub gathering-none : (p : ℕ → Bool) (alive : List ℕ) → length alive ≡ 1089 → Gathering p 0 0 alive
-gathering-none p alive h = record { below = zero-le; behind = zero-le; long = h; many = ap length (pick-none p); front = sym (pick-none p) }
+pub gathering-none : (p : ℕ → Bool) (old : List ℕ) → length old ≡ 1089 → Gathering p old 0 0 old
+gathering-none p old h = record { below = zero-le; behind = zero-le; long = h; front = rw (pick-none p) (front-none old) }
 
-pub gathering-in : (p : ℕ → Bool) {k count : ℕ} {alive : List ℕ} → Gathering p k count alive → k < 1089 → p k ≡ true
-    → Gathering p (k + 1) (count + 1) (set alive count k)
-gathering-in p {k} {count} {alive} g h e =
-    let room : count < length alive = omega arith in
-    record {
-      below = omega arith;
-      behind = omega arith;
-      long = length-set alive count k ∙ g .long;
-      many = ap length (pick-yes p k e) ∙ length-append (pick p k) (k ∷ []) ∙ ap (λ (n : ℕ). n + 1) (g .many);
-      front = rw (add-one count, take-suc-set, g .front) (sym (pick-yes p k e));
-    }
+module _ (p : ℕ → Bool) {old alive : List ℕ} {k count : ℕ} (g : Gathering p old k count alive) (h : k < 1089) where
+  pub gathering-in : p k ≡ true → Gathering p old (k + 1) (count + 1) (set alive count k)
+  gathering-in e = record { below = omega arith; behind = omega arith; long = g .long; front = rw (pick-yes p k e) (front-next k (g .front) (omega arith)) }
 
--- one that does not pass was stored too: the place behind those that do may hold anything
-pub gathering-out : (p : ℕ → Bool) {k count : ℕ} {alive : List ℕ} → Gathering p k count alive → k < 1089 → p k ≡ false
-    → Gathering p (k + 1) count (set alive count k)
-gathering-out p {k} {count} {alive} g h e =
-    record {
-      below = omega arith;
-      behind = omega arith;
-      long = length-set alive count k ∙ g .long;
-      many = ap length (pick-no p k e) ∙ g .many;
-      front = take-set-le count alive count k (le-refl count) ∙ g .front ∙ sym (pick-no p k e);
-    }
+  pub gathering-out : p k ≡ false → Gathering p old (k + 1) count alive
+  gathering-out e = record { below = omega arith; behind = omega arith; long = g .long; front = rw (pick-no p k e) (g .front) }
 
 -- all pass: the places are 0, 1, 2, ..
 pick-every : (p : ℕ → Bool) (n : ℕ) → ((k : ℕ) → k < n → p k ≡ true) → pick p n ≡ listTo (λ k. k) n
@@ -56,63 +47,82 @@ unfolding pick listTo
 pick-every p zero each = refl
 pick-every p (suc n) each = rw (each n (omega arith), pick-every p n (λ k h. each k (omega arith)))
 
-pub gathered-every : (b : Spot) (alive : List ℕ) → ((k : ℕ) → k < 1089 → passes b k ≡ true) → alive ≡ listTo (λ k. k) 1089 → Gathered b alive 1089
-gathered-every b alive each e =
-    let all = pick-every (passes b) 1089 each in
-    let long : length alive ≡ 1089 = rw e (length-listTo (λ k. k) 1089) in
-    record { long = long; many = rw (all, ← e) long; front = take-all 1089 alive (omega arith) ∙ e ∙ sym all }
+pub gathered-every : (b : Spot) (old alive : List ℕ) → length old ≡ 1089 → ((k : ℕ) → k < 1089 → passes b k ≡ true) → alive ≡ listTo (λ k. k) 1089
+    → Front (pick (passes b) 1089) old alive 1089
+gathered-every b old alive long each e =
+    rw (pick-every (passes b) 1089 each)
+    (record { many = sym (length-listTo (λ k. k) 1089); list = e ∙ rw (drop-of-length-le old {i = 1089} (omega arith)) (sym (append-nil _)) })
 
--- ---- the least distance: whatever f the distances are of, the one found is the first least so far
-pub record Nearest (alive : List ℕ) (count : ℕ) (dist : List ℕ) (i best : ℕ) : Type 0 where
+-- ---- the least distance: the place found is the first least so far
+pub record Nearest (dist : List ℕ) (count i best : ℕ) : Type 0 where
   pub some : 0 < i
   pub inside : i ≤ count
   pub behind : best < i
-  pub least : (f : ℕ → ℕ) → Filled f alive count dist → getD alive best 0 ≡ leastOf f (take i alive)
+  pub least : best ≡ leastOf (λ j. getD dist j 0) (take i (listTo (λ j. j) count))
 
-pub nearest-one : (alive : List ℕ) (count : ℕ) (dist : List ℕ) → 0 < count → 0 < length alive → Nearest alive count dist 1 0
-nearest-one alive count dist c h = record { some = omega arith; inside = omega arith; behind = omega arith; least = λ f g. least-of-one f alive h }
+pub nearest-one : (dist : List ℕ) (count : ℕ) → 0 < count → Nearest dist count 1 0
+nearest-one dist count h = record {
+  some = omega arith;
+  inside = omega arith;
+  behind = omega arith;
+  least = rw (getD-listTo (λ j. j) count 0 0 h) at (least-of-one (λ j. getD dist j 0) (listTo (λ j. j) count) (rw (length-listTo (λ j. j) count) h));
+}
 
-module _ {alive dist : List ℕ} {count i best : ℕ} (s : Nearest alive count dist i best) (h : i < length alive) (c : i < count) where
-  pub nearest-less : getD dist i 0 < getD dist best 0 → Nearest alive count dist (i + 1) i
+module _ {dist : List ℕ} {count i best : ℕ} (s : Nearest dist count i best) (c : i < count) where
+  same : getD (listTo (λ j. j) count) i 0 ≡ i
+  same = getD-listTo (λ j. j) count i 0 c
+
+  long : i < length (listTo (λ j. j) count)
+  long = rw (length-listTo (λ j. j) count) c
+
+  pub nearest-less : getD dist i 0 < getD dist best 0 → Nearest dist count (i + 1) i
   nearest-less l = record {
     some = omega arith;
     inside = omega arith;
     behind = omega arith;
-    least = λ f g. least-next-less f alive i (getD alive best 0) (s .least f g) (s .some) h (omega (arith, g .value i c, g .value best (omega arith)));
+    least = sym same ∙ least-next-less (λ j. getD dist j 0) _ i best (s .least) (s .some) long (rw same l);
   }
 
-  pub nearest-not : getD dist best 0 ≤ getD dist i 0 → Nearest alive count dist (i + 1) best
+  pub nearest-not : getD dist best 0 ≤ getD dist i 0 → Nearest dist count (i + 1) best
   nearest-not l = record {
     some = omega arith;
     inside = omega arith;
     behind = omega arith;
-    least = λ f g. least-next-not f alive i (getD alive best 0) (s .least f g) (s .some) h (omega (arith, g .value i c, g .value best (omega arith)));
+    least = least-next-not (λ j. getD dist j 0) _ i best (s .least) (s .some) long (rw same l);
   }
 
--- ---- dropping: whatever f the distances are of, those within the limit so far stand in front
-pub record Sifting (old : List ℕ) (count : ℕ) (dist : List ℕ) (limit i j : ℕ) (alive : List ℕ) : Type 0 where
+pub nearest-done : {dist : List ℕ} {count best : ℕ} (alive : List ℕ) → Nearest dist count count best → getD alive best 0 ≡ nearestOf alive count dist
+unfolding nearestOf
+nearest-done {dist} {count} {best} alive s =
+    ap (λ (i : ℕ). getD alive i 0) (s .least ∙ ap (leastOf (λ j. getD dist j 0)) (take-all count (listTo (λ j. j) count) (omega (arith, length-listTo (λ j. j) count))))
+
+-- ---- dropping: those of the first i that are within the limit stand in front
+pub record Sifting (old dist : List ℕ) (count limit i j : ℕ) (alive : List ℕ) : Type 0 where
   pub inside : i ≤ count
   pub behind : j ≤ i
-  pub sifted : (f : ℕ → ℕ) → Filled f old count dist → Sifted f limit old i j alive
+  pub front : Front (within limit old dist i) old alive j
 
-pub sifting-none : (old : List ℕ) (count : ℕ) (dist : List ℕ) (limit : ℕ) → Sifting old count dist limit 0 0 old
-sifting-none old count dist limit = record { inside = zero-le; behind = zero-le; sifted = λ f g. sifted-start f limit old }
+pub sifting-none : (old dist : List ℕ) (count limit : ℕ) → Sifting old dist count limit 0 0 old
+unfolding within
+sifting-none old dist count limit = record { inside = zero-le; behind = zero-le; front = front-none old }
 
-module _ {old dist : List ℕ} {count limit i j : ℕ} {alive : List ℕ} (s : Sifting old count dist limit i j alive) (h : i < length old) (c : i < count) where
-  pub sifting-in : getD dist i 0 ≤ limit → Sifting old count dist limit (i + 1) (j + 1) (set alive j (getD alive i 0))
-  sifting-in l = record {
+module _ {old dist : List ℕ} {count limit i j : ℕ} {alive : List ℕ} (s : Sifting old dist count limit i j alive) (c : i < count) where
+  -- the next still stands as it did
+  pub sifting-read : getD alive i 0 ≡ getD old i 0
+  sifting-read = rw (s .front .list) (front-behind (within limit old dist i) old j i 0 (sym (s .front .many)) (s .behind))
+
+  pub sifting-in : i < length old → getD dist i 0 ≤ limit → Sifting old dist count limit (i + 1) (j + 1) (set alive j (getD alive i 0))
+  unfolding within
+  sifting-in h l = record {
     inside = omega arith;
     behind = omega arith;
-    sifted = λ f g. sifted-in (s .sifted f g) h (omega (arith, g .value i c, ap f (sifted-read (s .sifted f g))));
+    front = rw (add-one i, le-leb (getD dist i 0) limit l, ← sifting-read) (front-next (getD alive i 0) (s .front) (omega arith));
   }
 
-  pub sifting-out : limit < getD dist i 0 → Sifting old count dist limit (i + 1) j (set alive j (getD alive i 0))
+  pub sifting-out : limit < getD dist i 0 → Sifting old dist count limit (i + 1) j alive
+  unfolding within
   sifting-out l = record {
     inside = omega arith;
     behind = omega arith;
-    sifted = λ f g. sifted-out (s .sifted f g) h (omega (arith, g .value i c, ap f (sifted-read (s .sifted f g))));
+    front = rw (add-one i, lt-leb (getD dist i 0) limit l, append-nil) (s .front);
   }
-
-pub kept-done : {old dist : List ℕ} {count limit j : ℕ} {alive : List ℕ} → Sifting old count dist limit count j alive → length old ≡ 1089
-    → (f : ℕ → ℕ) → Filled f old count dist → Kept f limit (take count old) alive j
-kept-done s h f g = record { long = s .sifted f g .same-length ∙ h; many = s .sifted f g .count; front = s .sifted f g .front }

@@ -2,12 +2,12 @@
 // number for each of them, its distance at some m, in the array `dist`.
 
 ghost use mathlib.Core.Path.{_≡_};
-ghost use Prim.Native.Nat.{ℕ, _≤_, _<_};
-ghost use lib.ListN.{length, getD, take};
+ghost use Prim.Native.Nat.{_≤_, _<_};
+ghost use lib.ListN.{length};
 ghost use Rattle.base.specs.Lists.{listTo};
-ghost use Rattle.base.specs.Least.{leastOf};
+ghost use Rattle.base.specs.Picks.{pick};
 ghost use Rattle.order.specs.Preference.{preference, flat};
-ghost use Rattle.remaining.specs.Gathered.{passes, roomy, clear, Gathered, Filled, Kept};
+ghost use Rattle.remaining.specs.Gathered.{passes, roomy, clear, Front, nearestOf, within};
 use search::Spot;
 
 // A place of the preference table, as it stands in the array.
@@ -69,16 +69,16 @@ fn gather_every(alive: &mut [u16; 1089])
     }
 }
 
-// The places whose vectors are candidates; answers how many. Each place is stored, and counted if its vector is a candidate.
+// The places whose vectors are candidates, in front of what the array held; answers how many.
 fn gather_some(order: &[i32; 2178], b: Spot, alive: &mut [u16; 1089]) -> usize
     requires { ⌜ (now order ≡ flat preference) × (length (now alive) ≡ 1089) ⌝ }
-    ensures { λ r. ⌜ Gathered b (now (alive .exit)) r ⌝ }
+    ensures { λ r. ⌜ Front (pick (passes b) 1089) (now (alive .entry)) (now (alive .exit)) r ⌝ }
 {
     let mut count: usize = 0;
     let mut k: usize = 0;
     while k < 1089 {
-        alive[count] = k as u16;
         if is_among(order, b, k) {
+            alive[count] = k as u16;
             count += 1;
         }
         k += 1;
@@ -86,10 +86,10 @@ fn gather_some(order: &[i32; 2178], b: Spot, alive: &mut [u16; 1089]) -> usize
     count
 }
 
-// All candidates, in preference order; answers how many.
+// All candidates, in preference order, in front of what the array held; answers how many.
 pub fn gather(order: &[i32; 2178], b: Spot, alive: &mut [u16; 1089]) -> usize
     requires { ⌜ (now order ≡ flat preference) × (length (now alive) ≡ 1089) ⌝ }
-    ensures { λ r. ⌜ Gathered b (now (alive .exit)) r ⌝ }
+    ensures { λ r. ⌜ Front (pick (passes b) 1089) (now (alive .entry)) (now (alive .exit)) r ⌝ }
 {
     if is_clear(b) {
         gather_every(alive);
@@ -101,8 +101,7 @@ pub fn gather(order: &[i32; 2178], b: Spot, alive: &mut [u16; 1089]) -> usize
 // The first remaining candidate of least distance.
 pub fn nearest(alive: &[u16; 1089], count: usize, dist: &[u32; 1089]) -> usize
     requires { ⌜ (length (now alive) ≡ 1089) × (0 < count) × (count ≤ 1089) ⌝ }
-    ensures { λ r. ⌜ ((f : ℕ → ℕ) → Filled f (now (alive .entry)) count (now (dist .entry)) → r ≡ leastOf f (take count (now (alive .entry))))
-        × ((i : ℕ) × (i < count) × (r ≡ getD (now (alive .entry)) i 0)) ⌝ }
+    ensures { λ r. ⌜ r ≡ nearestOf (now (alive .entry)) count (now (dist .entry)) ⌝ }
 {
     let mut best: usize = 0;
     let mut i: usize = 1;
@@ -115,16 +114,16 @@ pub fn nearest(alive: &[u16; 1089], count: usize, dist: &[u32; 1089]) -> usize
     wide(alive[best])
 }
 
-// Drops each candidate whose distance exceeds `limit`; answers how many remain. Each is stored, and counted if it stays.
+// Drops each candidate whose distance exceeds `limit`; answers how many remain. Behind them the array holds what it held.
 pub fn keep_within(alive: &mut [u16; 1089], count: usize, dist: &[u32; 1089], limit: u32) -> usize
     requires { ⌜ (length (now alive) ≡ 1089) × (count ≤ 1089) ⌝ }
-    ensures { λ r. ⌜ ((f : ℕ → ℕ) → Filled f (now (alive .entry)) count (now (dist .entry)) → Kept f limit (take count (now (alive .entry))) (now (alive .exit)) r) ⌝ }
+    ensures { λ r. ⌜ Front (within limit (now (alive .entry)) (now (dist .entry)) count) (now (alive .entry)) (now (alive .exit)) r ⌝ }
 {
     let mut kept: usize = 0;
     let mut from: usize = 0;
     while from < count {
-        alive[kept] = alive[from];
         if dist[from] <= limit {
+            alive[kept] = alive[from];
             kept += 1;
         }
         from += 1;

@@ -10,7 +10,7 @@ use Rattle.base.specs.Picks.{pick-head}
 use Rattle.frame.specs.Pictures.{pairOf}
 use Rattle.search.proofs.Exhaustive.{still-passes}
 use Rattle.remaining.specs.Gathered.{passes}
-use Rattle.remaining.proofs.Listing.{gathered-few, gathered-listed}
+use Rattle.remaining.proofs.Listing.{front-take, gathered-few, gathered-listed}
 use Rattle.search.specs.Exhaustive.{best}
 use Rattle.full.specs.Full.{fullFound}
 use Rattle.full.proofs.search.Statement.{statement}
@@ -32,20 +32,20 @@ choose-of-many-requires : tie.Need-choose-of-many-requires
 choose-of-many-requires c κs =
     let g = c .before in
     let s = g .before .before .before .before in
-    (s .pre, (gathered-listed (g .gather .ensures), some g))
+    (s .pre, (gathered-listed _ (g .gather .ensures) refl, some g))
 
 vector-at-requires : tie.Need-vector-at-requires
 vector-at-requires c κs = (c .before .before .before .before .before .before .pre .1, c .choose-of-many .ensures .small)
 
 cast-t11 : tie.Need-cast-t11
-cast-t11 c = fits-under w32 _ 1090 (omega (arith, gathered-few (c .before .before .before .gather .ensures))) tt
+cast-t11 c = fits-under w32 _ 1090 (omega (arith, gathered-few _ (c .before .before .before .gather .ensures))) tt
 
 returns : tie.Need-returns
 unfolding fullFound best
 returns c =
     let h = c .before .before .before .before .gather .ensures in
     let k = c .before .before .choose-of-many .ensures in
-    rw (toZ-ofZ (sfits-of (c .struct-told .given .0 .1)), toZ-ofZ (sfits-of (c .struct-told .given .1 .0 .1)), c .before .vector-at .ensures, k .cost, k .first, h .front, ← h .many)
+    rw (toZ-ofZ (sfits-of (c .struct-told .given .0 .1)), toZ-ofZ (sfits-of (c .struct-told .given .1 .0 .1)), c .before .vector-at .ensures, k .cost, k .first, front-take h, h .many)
 
 pub search-spec : {M : Type 1} → statement M
 search-spec =

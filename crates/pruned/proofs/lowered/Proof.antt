@@ -1,12 +1,14 @@
 -- `lowered`: the nearest has the least distance, and E is the smaller of two numbers.
 use Prim.Native.Nat.{ℕ}
-use mathlib.Core.Path.{refl}
+use mathlib.Core.Path.{refl, _∙_}
+use native.Mathlib.Omega.{arith}
 use borrow.Author.Needs.{needs}
 use lib.ListN.{take}
 use denote.Ref.{now}
 use Rattle.base.specs.Least.{leastOf}
 use Rattle.distortion.specs.Blocks.{UpTo}
 use Rattle.remaining.specs.Gathered.{Filled}
+use Rattle.remaining.proofs.Listing.{nearest-mem, nearest-filled}
 use Rattle.full.specs.Full.{distortionOf}
 use Rattle.pruned.proofs.State.{lower-takes, lower-stays}
 use Rattle.pruned.proofs.lowered.Statement.{statement}
@@ -17,17 +19,21 @@ nearest-requires c κs = search needs
 
 distortion-of-requires : tie.Need-distortion-of-requires
 distortion-of-requires c κs =
-    let i = c .nearest .ensures .1 in
     let s = c .before .before .before in
-    let h = s .pre .1 .0 .each (i .0) (i .1) in
-    (s .pre .0, (rw (i .2) (h .0), rw (i .2) (h .1)))
+    let (i, l, e) = nearest-mem (now (s .args .alive)) (now (s .args .dist)) (s .args .r .count) (omega (arith, s .pre .1 .1)) in
+    let h = s .pre .1 .0 .each i l in
+    rw (c .nearest .ensures, e) (s .pre .0, (h .0, h .1))
 
 -- the distortion of the nearest, as far as E goes
 near : (c : tie.After-distortion-of) (f : ℕ → ℕ) →
     let a = c .before .before .before .before .args in
     Filled f (now (a .alive)) (a .r .count) (now (a .dist))
     → UpTo (a .r .bound) (distortionOf (now (a .older)) (now (a .newer)) (a .b) (leastOf f (take (a .r .count) (now (a .alive))))) (c .distortion-of .result)
-near c f g = rw (← c .before .nearest .ensures .0 f g) (c .distortion-of .ensures .0)
+near c f g =
+    let s = c .before .before .before .before in
+    let l = s .pre .1 .0 in
+    let e = c .before .nearest .ensures ∙ nearest-filled f (now (s .args .alive)) (now (s .args .dist)) (s .args .r .count) g (omega (arith, s .pre .1 .1)) (omega (arith, l .long, l .few)) in
+    rw (← e) (c .distortion-of .ensures .0)
 
 returns : tie.Need-returns
 returns c =

@@ -1,7 +1,7 @@
 -- `search`: what is in memory follows the steps, and the rounds ahead lead to their end.
 use Prim.Native.Nat.{_≤_}
 use mathlib.Core.List.{List·Memᴰ·tail}
-use mathlib.Core.Path.{_≡_, refl, _∙_}
+use mathlib.Core.Path.{_≡_, refl, sym, _∙_}
 use native.Mathlib.Nat.{dvd-refl, div-mul-cancel}
 use native.Mathlib.Omega.{arith}
 use borrow.Author.Needs.{needs}
@@ -17,7 +17,7 @@ use Rattle.distance.specs.Remaining.{distanceOf}
 use Rattle.remaining.specs.Gathered.{passes}
 use Rattle.full.specs.Full.{distortionOf}
 use Rattle.pruned.proofs.Blocks.{own-fillable, divides, two-least, safe-at}
-use Rattle.remaining.proofs.Listing.{gathered-few, gathered-listed}
+use Rattle.remaining.proofs.Listing.{gathered-few, gathered-long, gathered-listed}
 use Rattle.pruned.proofs.Rounds.{Going, going-start, going-some, going-few, going-room, going-divides, going-listed, going-more, going-done}
 use Rattle.pruned.proofs.search.Statement.{statement}
 use Rattle.pruned.proofs.search.Tie as tie
@@ -76,7 +76,7 @@ fill-distances-requires c κs =
         two = two-least _ (l .ready .placed .paired .allowed);
         covers = l .covers;
         table = l .table;
-        listed = gathered-listed (c .before .before .before .before .gather .ensures);
+        listed = gathered-listed _ (c .before .before .before .before .gather .ensures) refl;
       },
       own-sums o,
     )
@@ -85,7 +85,7 @@ sifted-requires : tie.Need-sifted-requires Inv-loop μ-loop
 sifted-requires c κs =
     let a = c .before .before .before .before .before .before .before .gather .ensures in
     let f = c .before .before .before .before .before .before .begin .ensures in
-    (a .long, omega (arith, gathered-few a, f .count), omega (arith, f .slot))
+    (gathered-long _ a refl, omega (arith, gathered-few _ a, f .count), omega (arith, f .slot))
 
 loop-holds : tie.Need-loop-holds Inv-loop μ-loop
 loop-holds c =
@@ -95,10 +95,10 @@ loop-holds c =
     let d = c .before .before .before .fill-distances .ensures in
     let r = s .pre .0 .ready in
     let p = pairOf (now (s .args .older)) (now (s .args .newer)) (s .args .b .sizes) in (
-      going-start _ _ _ (still-passes p _ _ _ (r .window) (r .placed .down) (r .placed .across)) a f _
+      going-start _ _ _ (still-passes p _ _ _ (r .window) (r .placed .down) (r .placed .across)) refl a f _
           (λ h e. c .sifted .ensures _ _ _ _ h e (rw (f .count) d)) (d .long) (safe-at p _ _ _ (dvd-refl _))
           (λ i k. divides _ (r .placed .paired .allowed) i (List·Memᴰ·tail k)),
-      a .many,
+      sym (a .many),
     )
 
 slice-aggregate-level : tie.Need-slice-aggregate-level Inv-loop μ-loop
@@ -143,7 +143,7 @@ finish-requires : tie.Need-finish-requires Inv-loop μ-loop
 finish-requires c κs =
     let i = c .before .before in
     let l = i .loop .inv in
-    let few = gathered-few (i .before .before .before .before .before .before .before .before .before .gather .ensures) in
+    let few = gathered-few _ (i .before .before .before .before .before .before .before .before .before .gather .ensures) in
     let s = start (tabled i) in
     ((s .pre .0 .ready, s .pre .1), (going-listed (l .0), going-some (l .0), omega (arith, l .0 .slots), omega (arith, going-few (l .0), l .1), few))
 

@@ -10,13 +10,16 @@ use Rattle.remaining.proofs.gather_some.Statement.{statement}
 use Rattle.remaining.proofs.gather_some.Tie as tie
 
 abbrev Inv-loop : tie.InvT-loop
-Inv-loop order b alive₀ count₀ k₀ alive count k = Gathering (passes b) k count alive
+Inv-loop order b alive₀ count₀ k₀ alive count k = Gathering (passes b) alive₀ k count alive
 
 abbrev μ-loop : tie.MeasureT-loop
 μ-loop order b alive₀ count₀ k₀ alive count k = 1089 - k
 
 loop-holds : tie.Need-loop-holds Inv-loop μ-loop
 loop-holds c = gathering-none _ _ (search needs)
+
+is-among-requires : tie.Need-is-among-requires Inv-loop μ-loop
+is-among-requires c κs = search needs
 
 cast-alive : tie.Need-cast-alive Inv-loop μ-loop
 cast-alive c = search needs
@@ -26,9 +29,6 @@ mul-alive c = search needs
 
 element-write-alive : tie.Need-element-write-alive Inv-loop μ-loop
 element-write-alive c = search needs
-
-is-among-requires : tie.Need-is-among-requires Inv-loop μ-loop
-is-among-requires c κs = search needs
 
 add-count : tie.Need-add-count Inv-loop μ-loop
 add-count c = search needs
@@ -44,15 +44,15 @@ loop-again c =
     let l = c .before .before .before .loop in
     let t = c .before .before .loop-test .taken in
     ⊎-elim
-    (λ w. rw (w .1) (gathering-in _ (l .inv) t (sym (c .before .is-among .ensures) ∙ w .0 .taken)))
-    (λ w. rw (w .1) (gathering-out _ (l .inv) t (sym (c .before .is-among .ensures) ∙ w .0 .left)))
+    (λ w. rw (w .1, w .2) (gathering-in _ (l .inv) t (sym (c .before .is-among .ensures) ∙ w .0 .taken)))
+    (λ w. rw (w .1, w .2) (gathering-out _ (l .inv) t (sym (c .before .is-among .ensures) ∙ w .0 .left)))
     (c .if1 .came)
 
 returns : tie.Need-returns Inv-loop μ-loop
 returns c =
     let l = c .before .loop in
     let e : l .k ≡ 1089 = omega arith in
-    record { long = l .inv .long; many = rw (← e) (l .inv .many); front = rw (← e) (l .inv .front) }
+    rw e at (l .inv .front)
 
 pub gather-some-spec : {M : Type 1} → statement M
 gather-some-spec =
@@ -61,10 +61,10 @@ gather-some-spec =
     Inv-loop
     μ-loop
     loop-holds
+    is-among-requires
     cast-alive
     mul-alive
     element-write-alive
-    is-among-requires
     add-count
     add-k
     loop-less

@@ -1,21 +1,21 @@
--- `nearest`: whatever the distances are of, the place of the first least so far is carried along.
+-- `nearest`: the place of the first least distance so far is carried along.
 use Prim.Native.Nat.{_-_}
 use mathlib.Core.Logic.{⊎-elim}
 use mathlib.Core.Path.{_≡_, _∙_}
 use native.Mathlib.Omega.{arith}
 use borrow.Author.Needs.{needs}
-use Rattle.remaining.proofs.Turns.{Nearest, nearest-one, nearest-less, nearest-not}
+use Rattle.remaining.proofs.Turns.{Nearest, nearest-one, nearest-less, nearest-not, nearest-done}
 use Rattle.remaining.proofs.nearest.Statement.{statement}
 use Rattle.remaining.proofs.nearest.Tie as tie
 
 abbrev Inv-loop : tie.InvT-loop
-Inv-loop alive count dist best₀ i₀ best i = Nearest alive count dist i best
+Inv-loop alive count dist best₀ i₀ best i = Nearest dist count i best
 
 abbrev μ-loop : tie.MeasureT-loop
 μ-loop alive count dist best₀ i₀ best i = count - i
 
 loop-holds : tie.Need-loop-holds Inv-loop μ-loop
-loop-holds c = nearest-one _ _ _ (search needs) (search needs)
+loop-holds c = nearest-one _ _ (search needs)
 
 mul-if1 : tie.Need-mul-if1 Inv-loop μ-loop
 mul-if1 c = search needs
@@ -39,8 +39,8 @@ loop-again : tie.Need-loop-again Inv-loop μ-loop
 loop-again c =
     let l = c .before .before .before .before .loop in
     ⊎-elim
-    (λ w. rw (w .1) (nearest-less (l .inv) (omega arith) (c .before .before .before .loop-test .taken) (w .0 .taken)))
-    (λ w. rw (w .1) (nearest-not (l .inv) (omega arith) (c .before .before .before .loop-test .taken) (w .0 .left)))
+    (λ w. rw (w .1) (nearest-less (l .inv) (c .before .before .before .loop-test .taken) (w .0 .taken)))
+    (λ w. rw (w .1) (nearest-not (l .inv) (c .before .before .before .loop-test .taken) (w .0 .left)))
     (c .if1 .came)
 
 mul-wide : tie.Need-mul-wide Inv-loop μ-loop
@@ -56,7 +56,7 @@ returns : tie.Need-returns Inv-loop μ-loop
 returns c =
     let l = c .before .before .before .loop in
     let e : l .i ≡ c .before .before .before .before .args .count = omega arith in
-    (λ f g. c .wide .ensures ∙ (rw e at (l .inv .least f g)), (l .best, omega arith, c .wide .ensures))
+    c .wide .ensures ∙ nearest-done _ (rw e at (l .inv))
 
 pub nearest-spec : {M : Type 1} → statement M
 nearest-spec =
