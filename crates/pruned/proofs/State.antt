@@ -14,8 +14,8 @@ use Rattle.distortion.specs.Blocks.{absolute, UpTo}
 use Rattle.pruning.specs.Sift.{kept}
 use Rattle.pruning.specs.Prune.{Pruning, lower, sift}
 use Rattle.pruned.specs.declared.Rest.{Rest}
-use Rattle.remaining.specs.Gathered.{Front, within, Filled}
-use Rattle.remaining.proofs.Listing.{front-take, front-long, within-few, within-filled}
+use Rattle.remaining.specs.Gathered.{Front, within, swept, Filled}
+use Rattle.remaining.proofs.Listing.{front-take, front-long, within-few, within-filled, swept-long}
 use Rattle.pruned.specs.Memory.{InMemory, counted}
 
 module _ (D : ℕ → ℕ) (d : ℕ → ℕ → ℕ) (m : ℕ) {z : ℕ} {s : Pruning} {alive : List ℕ} {r : Rest} (h : InMemory z s alive r) (more : 1 < r .count) (e : ℕ)
@@ -66,16 +66,17 @@ count-done {z} {s} {alive} {r} h l =
 
 -- those over E are gone
 pub sift-done : (d : ℕ → ℕ → ℕ) (m : ℕ) {z : ℕ} {s : Pruning} {alive dist after : List ℕ} {r : Rest} (k : ℕ) → InMemory z s alive r → r .bound ≡ s .bound
-    → r .count ≤ length alive → r .slot < 5 → Filled (d m) alive (r .count) dist → Front (within (r .bound) alive dist (r .count)) alive after k
+    → r .count ≤ length alive → r .slot < 5 → Filled (d m) alive (r .count) dist → Front (within (r .bound) alive dist (r .count)) (swept (r .bound) alive dist (r .count)) after k
     → InMemory z (sift d (absolute .limit) m s) after (record { count = k; bound = r .bound; slot = counted r .slot; counts = counted r .counts })
 unfolding sift
 sift-done d m {z} {s} {alive} {dist} {after} {r} k h e few l g f =
     let c = count-done h l in
     let w : within (r .bound) alive dist (r .count) ≡ kept (d m) (s .bound) (s .left) =
     within-filled (d m) alive dist (r .bound) (r .count) g few ∙ ap₂ (kept (d m)) e (h .left) in
-    let less : k ≤ length alive = omega (arith, f .many, within-few (r .bound) alive dist (r .count)) in
+    let same = swept-long (r .bound) alive dist (r .count) in
+    let less : k ≤ length (swept (r .bound) alive dist (r .count)) = omega (arith, f .many, within-few (r .bound) alive dist (r .count), same) in
     record {
-      long = front-long f less ∙ h .long;
+      long = front-long f less ∙ same ∙ h .long;
       bound = λ _. e;
       many = sym (f .many ∙ ap length w);
       left = front-take f ∙ w;

@@ -1,6 +1,6 @@
 -- What stands in front of the array: candidates, picked from the preference table; and where the distances are f of the candidates, the nearest is
 -- the first least by f, and those that stay are those whose f is within the limit.
-use Prim.Native.Nat.{ℕ, zero, suc, _+_, _≤_, _<_}
+use Prim.Native.Nat.{ℕ, zero, suc, _≤_, _<_}
 use mathlib.Core.Path.{_≡_, refl, sym, ap, _∙_}
 use mathlib.Core.Bool.{Bool, true, false, cond}
 use mathlib.Core.List.{List, [], _∷_, _++_}
@@ -8,7 +8,7 @@ use native.Mathlib.Nat.{le-refl, not-suc-le-zero}
 use native.Mathlib.Numerals.{add-one}
 use native.Mathlib.Omega.{arith}
 use lib.Dec.{leb, ltb}
-use lib.ListN.{length, getD, take, drop, length-append, length-drop}
+use lib.ListN.{length, getD, take, drop, length-append, length-drop, length-set}
 use lib.Seq.{getD-take, take-at, take-suc}
 use Rattle.base.specs.Tests.{true-T}
 use Rattle.base.specs.Lists.{listTo, length-listTo}
@@ -17,7 +17,7 @@ use Rattle.base.specs.Picks.{pick, picked, pick-few}
 use Rattle.search.specs.declared.Spot.{Spot}
 use Rattle.pruning.specs.Sift.{kept}
 use Rattle.pruning.proofs.Loops.{kept-take}
-use Rattle.remaining.specs.Gathered.{passes, Front, Listed, nearestOf, within, Filled}
+use Rattle.remaining.specs.Gathered.{passes, Front, Listed, nearestOf, within, swept, Filled}
 
 module _ {ks before after : List ℕ} {r : ℕ} (f : Front ks before after r) where
   pub front-take : take r after ≡ ks
@@ -59,6 +59,11 @@ within-few limit alive dist (suc n) =
     one : (t : Bool) → length (cond {A = List ℕ} t (getD alive n 0 ∷ []) []) ≤ 1
     one true = le-refl 1
     one false = omega arith
+
+pub swept-long : (limit : ℕ) (alive dist : List ℕ) (n : ℕ) → length (swept limit alive dist n) ≡ length alive
+unfolding swept
+swept-long limit alive dist zero = refl
+swept-long limit alive dist (suc n) = rw length-set (swept-long limit alive dist n)
 
 -- ---- where the distances are f of the candidates
 

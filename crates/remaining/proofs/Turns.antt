@@ -1,18 +1,20 @@
 -- One turn of each loop over the remaining candidates, on plain lists: one more is gathered, looked at, kept or dropped.
 use Prim.Native.Nat.{ℕ, zero, suc, _+_, _≤_, _<_, zero-le}
 use mathlib.Core.Path.{_≡_, refl, sym, ap, _∙_}
-use mathlib.Core.Bool.{Bool, true, false}
+use mathlib.Core.Bool.{Bool, true, false, cond}
 use mathlib.Core.List.{List, [], _∷_, _++_, append-nil}
+use native.Mathlib.Nat.{le-refl}
 use native.Mathlib.Numerals.{add-one}
 use native.Mathlib.Omega.{arith}
 use borrow.Author.Tests.{le-leb, lt-leb}
-use lib.ListN.{length, getD, take, drop, set, length-append, drop-of-length-le}
-use lib.Seq.{take-all}
-use Rattle.base.specs.Lists.{listTo, length-listTo, getD-listTo, front-more, front-behind}
+use lib.Dec.{leb}
+use lib.ListN.{length, getD, take, drop, set, length-append, length-set, take-append-drop, drop-of-length-le}
+use lib.Seq.{take-all, take-set-le, take-suc-set, drop-set-lt, getD-set-other}
+use Rattle.base.specs.Lists.{listTo, length-listTo, getD-listTo, front-more}
 use Rattle.base.specs.Least.{leastOf, least-next-less, least-next-not, least-of-one}
 use Rattle.base.specs.Picks.{pick, pick-none, pick-yes, pick-no}
 use Rattle.search.specs.declared.Spot.{Spot}
-use Rattle.remaining.specs.Gathered.{passes, Front, nearestOf, within}
+use Rattle.remaining.specs.Gathered.{passes, Front, nearestOf, within, swept}
 
 -- ---- places in front of what was there: none yet, and one more
 pub front-none : (old : List ℕ) → Front [] old old 0
@@ -97,32 +99,67 @@ nearest-done {dist} {count} {best} alive s =
     ap (λ (i : ℕ). getD alive i 0) (s .least ∙ ap (leastOf (λ j. getD dist j 0)) (take-all count (listTo (λ j. j) count) (omega (arith, length-listTo (λ j. j) count))))
 
 -- ---- dropping: those of the first i that are within the limit stand in front
+
+-- past the place behind those that stay, the array is as it was
+swept-past : (limit : ℕ) (old dist : List ℕ) (n k : ℕ) → length (within limit old dist n) < k → drop k (swept limit old dist n) ≡ drop k old
+unfolding swept within
+swept-past limit old dist zero k h = refl
+swept-past limit old dist (suc n) k h =
+    let l : length (within limit old dist n) < k = omega (arith, length-append (within limit old dist n) (cond (leb (getD dist n 0) limit) (getD old n 0 ∷ []) [])) in
+    drop-set-lt k _ _ _ l ∙ swept-past limit old dist n k l
+
 pub record Sifting (old dist : List ℕ) (count limit i j : ℕ) (alive : List ℕ) : Type 0 where
   pub inside : i ≤ count
   pub behind : j ≤ i
-  pub front : Front (within limit old dist i) old alive j
+  pub many : j ≡ length (within limit old dist i)
+  pub list : alive ≡ swept limit old dist i
+  pub front : take j alive ≡ within limit old dist i
+  pub long : length alive ≡ length old
+  -- the rest still stands as it did
+  pub rest : (k : ℕ) → i ≤ k → getD alive k 0 ≡ getD old k 0
 
 pub sifting-none : (old dist : List ℕ) (count limit : ℕ) → Sifting old dist count limit 0 0 old
-unfolding within
-sifting-none old dist count limit = record { inside = zero-le; behind = zero-le; front = front-none old }
+unfolding within swept
+sifting-none old dist count limit = record { inside = zero-le; behind = zero-le; many = refl; list = refl; front = refl; long = refl; rest = λ k h. refl }
 
 module _ {old dist : List ℕ} {count limit i j : ℕ} {alive : List ℕ} (s : Sifting old dist count limit i j alive) (c : i < count) where
-  -- the next still stands as it did
-  pub sifting-read : getD alive i 0 ≡ getD old i 0
-  sifting-read = rw (s .front .list) (front-behind (within limit old dist i) old j i 0 (sym (s .front .many)) (s .behind))
+  abbrev stored : List ℕ
+  stored = set alive j (getD alive i 0)
 
-  pub sifting-in : i < length old → getD dist i 0 ≤ limit → Sifting old dist count limit (i + 1) (j + 1) (set alive j (getD alive i 0))
+  stored-is : stored ≡ swept limit old dist (i + 1)
+  unfolding swept
+  stored-is = rw (add-one i, ← s .many, ← s .list, s .rest i (omega arith))
+
+  stored-rest : (k : ℕ) → i + 1 ≤ k → getD stored k 0 ≡ getD old k 0
+  stored-rest k h = getD-set-other alive j k _ 0 (λ e. omega (arith, s .behind)) ∙ s .rest k (omega arith)
+
+  pub sifting-in : i < length old → getD dist i 0 ≤ limit → Sifting old dist count limit (i + 1) (j + 1) stored
   unfolding within
   sifting-in h l = record {
     inside = omega arith;
     behind = omega arith;
-    front = rw (add-one i, le-leb (getD dist i 0) limit l, ← sifting-read) (front-next (getD alive i 0) (s .front) (omega arith));
+    many = rw (add-one i, le-leb (getD dist i 0) limit l) (omega (arith, s .many, length-append (within limit old dist i) (getD old i 0 ∷ [])));
+    list = stored-is;
+    front = rw (add-one i, le-leb (getD dist i 0) limit l, add-one j, take-suc-set alive j (getD alive i 0) (omega (arith, s .long, s .behind)), s .front, s .rest i (omega arith));
+    long = length-set alive j _ ∙ s .long;
+    rest = stored-rest;
   }
 
-  pub sifting-out : limit < getD dist i 0 → Sifting old dist count limit (i + 1) j alive
+  pub sifting-out : limit < getD dist i 0 → Sifting old dist count limit (i + 1) j stored
   unfolding within
   sifting-out l = record {
     inside = omega arith;
     behind = omega arith;
-    front = rw (add-one i, lt-leb (getD dist i 0) limit l, append-nil) (s .front);
+    many = rw (add-one i, lt-leb (getD dist i 0) limit l, append-nil) (s .many);
+    list = stored-is;
+    front = rw (add-one i, lt-leb (getD dist i 0) limit l, append-nil) (take-set-le j alive j _ (le-refl j) ∙ s .front);
+    long = length-set alive j _ ∙ s .long;
+    rest = stored-rest;
   }
+
+pub sifting-done : {old dist alive : List ℕ} {count limit j : ℕ} → Sifting old dist count limit count j alive
+    → Front (within limit old dist count) (swept limit old dist count) alive j × (drop (j + 1) alive ≡ drop (j + 1) old)
+sifting-done {old} {dist} {alive} {count} {limit} {j} s = (
+  record { many = s .many; list = rw (← s .list, ← s .front) (sym (take-append-drop j alive)) },
+  rw (s .list) (swept-past limit old dist count (j + 1) (omega (arith, s .many))),
+)

@@ -6,13 +6,14 @@
 --   Listed     the first count of alive are candidates
 --   nearestOf  of the first count of alive, the first whose distance, at the same place of dist, is least
 --   within     of the first n of alive, those whose distance, at the same place of dist, is at most the limit, in their order
+--   swept      the array after the first n were looked at: each was stored behind those before it that stay
 --   Filled     dist holds f of each of the first count
 use Prim.Native.Nat.{ℕ, zero, suc, _+_, _≤_, _<_}
 use mathlib.Core.Path.{_≡_}
 use mathlib.Core.Bool.{Bool, _&&_, cond}
 use mathlib.Core.List.{List, [], _∷_, _++_}
 use lib.Dec.{T, leb}
-use lib.ListN.{length, getD, drop}
+use lib.ListN.{length, getD, drop, set}
 use Rattle.base.specs.Lists.{listTo}
 use Rattle.base.specs.Least.{leastOf}
 use Rattle.order.specs.Preference.{preferred}
@@ -43,6 +44,10 @@ nearestOf alive count dist = getD alive (leastOf (λ i. getD dist i 0) (listTo (
 unfoldable pub within : ℕ → List ℕ → List ℕ → ℕ → List ℕ
 within limit alive dist zero = []
 within limit alive dist (suc n) = within limit alive dist n ++ cond (leb (getD dist n 0) limit) (getD alive n 0 ∷ []) []
+
+unfoldable pub swept : ℕ → List ℕ → List ℕ → ℕ → List ℕ
+swept limit alive dist zero = alive
+swept limit alive dist (suc n) = set (swept limit alive dist n) (length (within limit alive dist n)) (getD alive n 0)
 
 pub record Filled (f : ℕ → ℕ) (alive : List ℕ) (count : ℕ) (dist : List ℕ) : Type 0 where
   pub long : length dist ≡ 1089

@@ -2,12 +2,12 @@
 // number for each of them, its distance at some m, in the array `dist`.
 
 ghost use mathlib.Core.Path.{_≡_};
-ghost use Prim.Native.Nat.{_≤_, _<_};
-ghost use lib.ListN.{length};
+ghost use Prim.Native.Nat.{_+_, _≤_, _<_};
+ghost use lib.ListN.{length, drop};
 ghost use Rattle.base.specs.Lists.{listTo};
 ghost use Rattle.base.specs.Picks.{pick};
 ghost use Rattle.order.specs.Preference.{preference, flat};
-ghost use Rattle.remaining.specs.Gathered.{passes, roomy, clear, Front, nearestOf, within};
+ghost use Rattle.remaining.specs.Gathered.{passes, roomy, clear, Front, nearestOf, within, swept};
 use search::Spot;
 
 // A place of the preference table, as it stands in the array.
@@ -114,16 +114,18 @@ pub fn nearest(alive: &[u16; 1089], count: usize, dist: &[u32; 1089]) -> usize
     wide(alive[best])
 }
 
-// Drops each candidate whose distance exceeds `limit`; answers how many remain. Behind them the array holds what it held.
+// Drops each candidate whose distance exceeds `limit`; answers how many remain. Each is stored behind those that stay, and counted if it stays too: a
+// branch around the store costs more than the store. So the place just behind those that stay may hold one that was dropped; what comes after it is kept.
 pub fn keep_within(alive: &mut [u16; 1089], count: usize, dist: &[u32; 1089], limit: u32) -> usize
     requires { ⌜ (length (now alive) ≡ 1089) × (count ≤ 1089) ⌝ }
-    ensures { λ r. ⌜ Front (within limit (now (alive .entry)) (now (dist .entry)) count) (now (alive .entry)) (now (alive .exit)) r ⌝ }
+    ensures { λ r. ⌜ Front (within limit (now (alive .entry)) (now (dist .entry)) count) (swept limit (now (alive .entry)) (now (dist .entry)) count) (now (alive .exit)) r
+        × (drop (r + 1) (now (alive .exit)) ≡ drop (r + 1) (now (alive .entry))) ⌝ }
 {
     let mut kept: usize = 0;
     let mut from: usize = 0;
     while from < count {
+        alive[kept] = alive[from];
         if dist[from] <= limit {
-            alive[kept] = alive[from];
             kept += 1;
         }
         from += 1;

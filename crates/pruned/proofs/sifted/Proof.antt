@@ -16,7 +16,7 @@ returns c =
     λ z m s d h e g.
     let p = c .before .before .before .before .pre in
     rw (c .before .count-tests .ensures)
-    (sift-done d m (c .before .before .keep-within .result) h e (omega (arith, p)) (p .2) g (c .before .before .keep-within .ensures))
+    (sift-done d m (c .before .before .keep-within .result) h e (omega (arith, p)) (p .2) g (c .before .before .keep-within .ensures .0))
 
 pub sifted-spec : {M : Type 1} → statement M
 sifted-spec = tie.close (tie.spec keep-within-requires count-tests-requires returns)

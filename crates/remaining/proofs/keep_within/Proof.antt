@@ -4,7 +4,7 @@ use mathlib.Core.Logic.{⊎-elim}
 use mathlib.Core.Path.{_≡_}
 use native.Mathlib.Omega.{arith}
 use borrow.Author.Needs.{needs}
-use Rattle.remaining.proofs.Turns.{Sifting, sifting-none, sifting-in, sifting-out}
+use Rattle.remaining.proofs.Turns.{Sifting, sifting-none, sifting-in, sifting-out, sifting-done}
 use Rattle.remaining.proofs.keep_within.Statement.{statement}
 use Rattle.remaining.proofs.keep_within.Tie as tie
 
@@ -16,12 +16,6 @@ abbrev μ-loop : tie.MeasureT-loop
 
 loop-holds : tie.Need-loop-holds Inv-loop μ-loop
 loop-holds c = sifting-none _ _ _ _
-
-mul-if1 : tie.Need-mul-if1 Inv-loop μ-loop
-mul-if1 c = search needs
-
-element-copy-out-if1 : tie.Need-element-copy-out-if1 Inv-loop μ-loop
-element-copy-out-if1 c = search needs
 
 mul-alive : tie.Need-mul-alive Inv-loop μ-loop
 mul-alive c = search needs
@@ -35,6 +29,12 @@ mul-alive-2 c = search needs
 element-write-alive : tie.Need-element-write-alive Inv-loop μ-loop
 element-write-alive c = search needs
 
+mul-if1 : tie.Need-mul-if1 Inv-loop μ-loop
+mul-if1 c = search needs
+
+element-copy-out-if1 : tie.Need-element-copy-out-if1 Inv-loop μ-loop
+element-copy-out-if1 c = search needs
+
 add-kept : tie.Need-add-kept Inv-loop μ-loop
 add-kept c = search needs
 
@@ -46,18 +46,18 @@ loop-less c = search needs
 
 loop-again : tie.Need-loop-again Inv-loop μ-loop
 loop-again c =
-    let l = c .before .before .before .loop in
-    let t = c .before .before .loop-test .taken in
+    let l = c .before .before .before .before .loop in
+    let t = c .before .before .before .loop-test .taken in
     ⊎-elim
-    (λ w. rw (w .2, w .3) (sifting-in (l .inv) t (omega arith) (w .0 .taken)))
-    (λ w. rw (w .1, w .2) (sifting-out (l .inv) t (w .0 .left)))
+    (λ w. rw (w .1) (sifting-in (l .inv) t (omega arith) (w .0 .taken)))
+    (λ w. rw (w .1) (sifting-out (l .inv) t (w .0 .left)))
     (c .if1 .came)
 
 returns : tie.Need-returns Inv-loop μ-loop
 returns c =
     let l = c .before .loop in
     let e : l .from ≡ c .before .before .args .count = omega arith in
-    rw e at (l .inv .front)
+    sifting-done (rw e at (l .inv))
 
 pub keep-within-spec : {M : Type 1} → statement M
 keep-within-spec =
@@ -66,12 +66,12 @@ keep-within-spec =
     Inv-loop
     μ-loop
     loop-holds
-    mul-if1
-    element-copy-out-if1
     mul-alive
     element-copy-out-alive
     mul-alive-2
     element-write-alive
+    mul-if1
+    element-copy-out-if1
     add-kept
     add-from
     loop-less
