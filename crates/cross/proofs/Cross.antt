@@ -1,24 +1,24 @@
 -- Cross over any target: each step probes a list of points, so it stays honest; each pass and the last cross have four points, and there are
 -- log2 w - 1 passes before the one at p = 1.
-use Prim.Native.Nat.{ℕ, zero, suc, _+_, _*_, _/_, _≤_}
+use Prim.Native.Nat.{ℕ, zero, suc, _+_, _-_, _*_, _/_, _≤_}
 use mathlib.Core.Path.{_≡_, refl, ap}
 use mathlib.Core.Bool.{Bool, true, false, cond}
 use mathlib.Core.List.{List, [], _∷_}
 use native.Mathlib.Omega.{arith}
-use lib.Count.{trailingZeros}
 use lib.Dec.{T, ltb, leb}
 use lib.ListN.{length}
 use Rattle.base.specs.Tests.{true-T}
 use Rattle.order.specs.declared.Vector.{Vector}
 use Rattle.frame.specs.Pictures.{Pair}
 use Rattle.frame.specs.Candidates.{still-candidate}
-use Rattle.frame.specs.Cross.{crossWindow, cross-elim, log2}
+use Rattle.frame.specs.Cross.{crossWindow, log2}
 use Rattle.distortion.specs.Blocks.{distortion}
 use Rattle.search.specs.Weighing.{Target, target}
 use Rattle.search.specs.Exhaustive.{Best}
 use Rattle.probe.specs.Probe.{origin, Seen, start, around, widened, Honest}
 use Rattle.probe.proofs.Probe.{probe-honest, start-honest, never-lower, probe-count, length-around}
 use Rattle.cross.specs.Cross.{andrew, greek, pass, passes, onDiagonal, ended, finished, cross}
+use Rattle.cross.proofs.Passes.{passesIn, passes-many, log2-some}
 
 -- ---- honest
 
@@ -65,26 +65,16 @@ unfolding widened
 length-widened p [] = refl
 length-widened p (o ∷ os) = ap suc (length-widened p os)
 
--- how many passes there are before the one at p = 1
-halvings : ℕ → ℕ → ℕ
-halvings zero p = 0
-halvings (suc n) p = cond (leb p 1) 0 (suc (halvings n (p / 2)))
-
 module _ (t : Target) where
   pass-count : (p : ℕ) (s : Seen) → pass t p s .count ≤ s .count + 4
   unfolding pass andrew
   pass-count p s =
       omega (arith, probe-count t s (around (s .best) (widened p andrew)), length-around (s .best) (widened p andrew), length-widened p andrew)
 
-  passes-count : (n p : ℕ) (s : Seen) → passes n t p s .count ≤ s .count + 4 * halvings n p
-  unfolding passes halvings
+  passes-count : (n p : ℕ) (s : Seen) → passesIn n t p s .count ≤ s .count + 4 * n
+  unfolding passesIn
   passes-count zero p s = omega arith
-  passes-count (suc n) p s = go (leb p 1) (passes-count n (p / 2) (pass t p s))
-    where
-      go : (k : Bool) → passes n t (p / 2) (pass t p s) .count ≤ pass t p s .count + 4 * halvings n (p / 2)
-          → cond k s (passes n t (p / 2) (pass t p s)) .count ≤ s .count + 4 * cond k 0 (suc (halvings n (p / 2)))
-      go true f = omega arith
-      go false f = omega (arith, pass-count p s)
+  passes-count (suc n) p s = omega (arith, passes-count n (p / 2) (pass t p s), pass-count p s)
 
   ended-count : (k : Bool) (s : Seen) → ended t k s .count ≤ s .count + 4
   unfolding ended greek andrew
@@ -95,17 +85,15 @@ module _ (t : Target) where
   unfolding finished
   finished-count s = omega (arith, ended-count (onDiagonal (s .best) (pass t 1 s .best)) (pass t 1 s), pass-count 1 s)
 
-  cross-bound : (limit w : ℕ) → cross t limit w .count ≤ 9 + 4 * halvings w (w / 2)
-  unfolding cross start
-  cross-bound limit w = go (ltb (t .cost origin) limit)
-    where
-      go : (k : Bool) → cond k (start t) (finished t (passes w t (w / 2) (start t))) .count ≤ 9 + 4 * halvings w (w / 2)
-      go true = omega arith
-      go false = omega (arith, finished-count (passes w t (w / 2) (start t)), passes-count w (w / 2) (start t))
-
   pub cross-count : (limit w : ℕ) → crossWindow w ≡ true → cross t limit w .count ≤ 5 + 4 * log2 w
-  unfolding halvings trailingZeros
-  cross-count limit w e =
-      cross-elim (λ n. cross t limit n .count ≤ 5 + 4 * log2 n)
-      (cross-bound limit 2) (cross-bound limit 4) (cross-bound limit 8) (cross-bound limit 16)
-      w (true-T (crossWindow w) e)
+  unfolding cross start
+  cross-count limit w e = go (ltb (t .cost origin) limit)
+    where
+      c : T (crossWindow w)
+      c = true-T (crossWindow w) e
+
+      go : (k : Bool) → cond k (start t) (finished t (passes w t (w / 2) (start t))) .count ≤ 5 + 4 * log2 w
+      go true = omega arith
+      go false =
+          rw (← (passes-many t (start t) w c))
+          (omega (arith, finished-count (passesIn (log2 w - 1) t (w / 2) (start t)), passes-count (log2 w - 1) (w / 2) (start t), log2-some w c))

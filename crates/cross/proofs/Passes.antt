@@ -1,54 +1,74 @@
--- The definitions as the code works them out: the passes left lead from the best by now, at p, to where all lead from the first, at w / 2;
--- and the two sides of the test against T.
-use Prim.Native.Nat.{ℕ, zero, suc, _+_, _*_, _/_, _≤_, _<_}
+-- The definitions as the code works them out: there are log2 w - 1 passes, those left lead from the best by now, at p, to where all lead from the
+-- first, at w / 2; and the two sides of the test against T.
+use Prim.Native.Nat.{ℕ, zero, suc, _+_, _-_, _*_, _/_, _≤_, _<_}
 use mathlib.Core.Path.{_≡_, refl, sym, ap, _∙_}
 use native.Mathlib.Omega.{arith}
-use borrow.Author.Tests.{le-leb, lt-leb, lt-ltb, le-ltb}
+use borrow.Author.Tests.{lt-ltb, le-ltb}
+use lib.Count.{trailingZeros}
+use lib.Dec.{T, lit≤}
+use Rattle.frame.specs.Cross.{crossWindow, cross-elim, log2, cross as window}
 use Rattle.search.specs.Weighing.{Target}
 use Rattle.probe.specs.declared.Held.{Held}
 use Rattle.probe.specs.Probe.{origin, Seen, start}
 use Rattle.probe.specs.Held.{seenOf, Holds}
 use Rattle.cross.specs.Cross.{pass, passes, finished, cross}
 
-passes-turn : (m : ℕ) (t : Target) (p : ℕ) (s : Seen) → 1 < p → p ≤ m → (k : ℕ) × (p / 2 ≤ k) × (passes k t (p / 2) (pass t p s) ≡ passes m t p s)
-unfolding passes
-passes-turn zero t p s h l = absurd (omega arith)
-passes-turn (suc k) t p s h l = (k, omega arith, rw (lt-leb p 1 h))
+-- n passes, p halved after each
+unfoldable pub passesIn : ℕ → Target → ℕ → Seen → Seen
+passesIn zero t p s = s
+passesIn (suc n) t p s = passesIn n t (p / 2) (pass t p s)
 
-passes-done : (m : ℕ) (t : Target) (p : ℕ) (s : Seen) → p ≤ 1 → passes m t p s ≡ s
-unfolding passes
-passes-done zero t p s h = refl
-passes-done (suc k) t p s h = rw (le-leb p 1 h)
+pass-done : (n : ℕ) (t : Target) (p : ℕ) (s : Seen) → n ≤ 0 → passesIn n t p s ≡ s
+unfolding passesIn
+pass-done zero t p s h = refl
+pass-done (suc n) t p s h = absurd (omega arith)
 
-pub record Passing (t : Target) (w : ℕ) (first best : Held) (p : ℕ) : Type 0 where
+pass-more : (n : ℕ) (t : Target) (p : ℕ) (s : Seen) → 0 < n → passesIn n t p s ≡ passesIn (n - 1) t (p / 2) (pass t p s)
+unfolding passesIn
+pass-more zero t p s h = absurd (omega arith)
+pass-more (suc n) t p s h = let e : suc n - 1 ≡ n = omega arith in rw e
+
+-- of a window of cross: document 000's passes, p from w / 2 down to 2, are log2 w - 1
+pub passes-many : (t : Target) (s : Seen) (w : ℕ) → T (crossWindow w) → passesIn (log2 w - 1) t (w / 2) s ≡ passes w t (w / 2) s
+unfolding passes passesIn trailingZeros
+passes-many t s = cross-elim (λ w. passesIn (log2 w - 1) t (w / 2) s ≡ passes w t (w / 2) s) refl refl refl refl
+
+pub log2-some : (w : ℕ) → T (crossWindow w) → 1 ≤ log2 w
+unfolding trailingZeros
+log2-some = cross-elim (λ w. 1 ≤ log2 w) (lit≤ tt) (lit≤ tt) (lit≤ tt) (lit≤ tt)
+
+pub record Passing (t : Target) (w : ℕ) (first best : Held) (p left : ℕ) : Type 0 where
   pub less : p ≤ w / 2
   pub down : best .y ≤ 32
   pub across : best .x ≤ 32
-  pub few : best .count + 9 * p ≤ first .count + 9 * (w / 2)
-  pub leads : (m : ℕ) × (p ≤ m) × (passes m t p (seenOf best) ≡ passes w t (w / 2) (seenOf first))
+  pub few : best .count + 9 * left ≤ first .count + 27
+  pub leads : passesIn left t p (seenOf best) ≡ passes w t (w / 2) (seenOf first)
 
 module _ (t : Target) (w : ℕ) (first : Held) where
-  pub passing-none : first .y ≤ 32 → first .x ≤ 32 → Passing t w first first (w / 2)
-  passing-none h k = record { less = omega arith; down = h; across = k; few = omega arith; leads = (w, omega arith, refl) }
+  pub passing-none : T (crossWindow w) → first .y ≤ 32 → first .x ≤ 32 → Passing t w first first (w / 2) (log2 w - 1)
+  passing-none c h k = record {
+    less = omega arith;
+    down = h;
+    across = k;
+    few = omega (arith, window w c .few);
+    leads = passes-many t (seenOf first) w c;
+  }
 
-  module _ (best : Held) (p : ℕ) (g : Passing t w first best p) where
-    pub passing-more : (r : Held) → 1 < p → Holds r (pass t p (seenOf best)) (best .count + 9) → Passing t w first r (p / 2)
+  module _ (best : Held) (p left : ℕ) (g : Passing t w first best p left) where
+    pub passing-more : (r : Held) → 0 < left → Holds r (pass t p (seenOf best)) (best .count + 9) → Passing t w first r (p / 2) (left - 1)
     passing-more r h k =
-        let a = g .leads in
-        let e = passes-turn (a .0) t p (seenOf best) h (a .1) in
         record {
           less = let l = g .less in omega arith;
           down = k .down;
           across = k .across;
           few = let f = g .few in let q = k .few in omega arith;
-          leads = (e .0, e .1, ap (passes (e .0) t (p / 2)) (k .is) ∙ e .2 ∙ a .2);
+          leads = ap (passesIn (left - 1) t (p / 2)) (k .is) ∙ sym (pass-more left t p (seenOf best) h) ∙ g .leads;
         }
 
-    pub passing-done : p ≤ 1 → Holds best (passes w t (w / 2) (seenOf first)) (first .count + 9 * (w / 2))
+    pub passing-done : left ≤ 0 → Holds best (passes w t (w / 2) (seenOf first)) (first .count + 27)
     passing-done h =
-        let a = g .leads in
         record {
-          is = sym (passes-done (a .0) t p (seenOf best) h) ∙ a .2;
+          is = sym (pass-done left t p (seenOf best) h) ∙ g .leads;
           down = g .down;
           across = g .across;
           few = let f = g .few in omega arith;

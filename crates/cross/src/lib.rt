@@ -2,6 +2,8 @@
 
 ghost use mathlib.Core.Path.{_≡_};
 ghost use Prim.Native.Nat.{_+_, _/_, _≤_};
+ghost use lib.Dec.{T};
+ghost use Rattle.frame.specs.Cross.{crossWindow};
 ghost use Rattle.search.specs.Weighing.{Ready, targetOf};
 ghost use Rattle.probe.specs.Held.{point, seenOf, Ongoing, Holds, foundOf};
 ghost use Rattle.cross.specs.Cross.{pass, passes, onDiagonal, ended, finished, cross};
@@ -25,16 +27,18 @@ fn pass_at(older: &[u8], newer: &[u8], b: Spot, s: Held, p: u32) -> Held
     probe::pattern(older, newer, b, s, &t, p)
 }
 
-// Steps 2 to 5: passes at w / 2, w / 4 and so on, down to 2.
+// Steps 2 to 5: passes at w / 2, w / 4 and so on, down to 2. w is halved log2 w times, the last time to 1.
 fn all_passes(older: &[u8], newer: &[u8], b: Spot, s: Held) -> Held
-    requires { ⌜ Ongoing (now older) (now newer) b s 72 ⌝ }
-    ensures { λ r. ⌜ Holds r (passes (b .w) (targetOf (now (older .entry)) (now (newer .entry)) b) (b .w / 2) (seenOf s)) (s .count + 72) ⌝ }
+    requires { ⌜ Ongoing (now older) (now newer) b s 27 × T (crossWindow (b .w)) ⌝ }
+    ensures { λ r. ⌜ Holds r (passes (b .w) (targetOf (now (older .entry)) (now (newer .entry)) b) (b .w / 2) (seenOf s)) (s .count + 27) ⌝ }
 {
     let mut best = s;
     let mut p = (b.w / 2) as u32;
-    while 1 < p {
+    let mut left = frame::log2_window(b.w) - 1;
+    while 0 < left {
         best = pass_at(older, newer, b, best, p);
         p = p / 2;
+        left -= 1;
     }
     best
 }
@@ -72,7 +76,7 @@ fn finish(older: &[u8], newer: &[u8], b: Spot, s: Held) -> Held
 
 // The search: step 1, then the rest.
 pub fn search(older: &[u8], newer: &[u8], b: Spot, t: u32) -> Found
-    requires { ⌜ Ready (now older) (now newer) b ⌝ }
+    requires { ⌜ Ready (now older) (now newer) b × T (crossWindow (b .w)) ⌝ }
     ensures { λ r. ⌜ r ≡ foundOf (cross (targetOf (now (older .entry)) (now (newer .entry)) b) t (b .w)) ⌝ }
 {
     let s = probe::first(older, newer, b);

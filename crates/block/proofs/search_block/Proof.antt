@@ -4,7 +4,7 @@ use native.Mathlib.Omega.{arith}
 use borrow.Author.Needs.{needs}
 use denote.Ref.{now}
 use lib.ListN.{length}
-use Rattle.frame.specs.Refusals.{sizesOf, window-small}
+use Rattle.frame.specs.Refusals.{windowOk, sizesOf, window-small}
 use Rattle.frame.specs.Pictures.{pairOf}
 use Rattle.search.specs.Weighing.{Ready}
 use Rattle.block.specs.Block.{searchRefusal, blockFound, searched, searched-full, searched-pruned, searched-four-step, searched-cross, searchable, block-refused, block-accepted}
@@ -52,7 +52,10 @@ returns-2 c =
     (rw (z .sizes-of .ensures) at (c .search .ensures)) ∙ sym (accepted z ∙ searched-four-step _ _ _ _ (c .before .if2 .taken))
 
 search-requires-2 : tie.Need-search-requires-2
-search-requires-2 c κs = ready (c .before .before .before .before)
+unfolding windowOk
+search-requires-2 c κs =
+    let z = c .before .before .before .before in
+    (ready z, rw (c .if3 .taken) at (searchable _ _ _ _ _ (zero-is (z .before)) .asked .window))
 
 returns-3 : tie.Need-returns-3
 returns-3 c =

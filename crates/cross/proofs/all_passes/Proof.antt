@@ -1,38 +1,49 @@
 -- `all_passes`: the passes left lead to where all lead.
-use mathlib.Core.Path.{refl}
 use native.Mathlib.Omega.{arith}
 use borrow.Author.Needs.{needs}
 use Rattle.search.specs.Weighing.{targetOf}
-use Rattle.probe.proofs.Looks.{holds-by}
-use Rattle.cross.proofs.Passes.{Passing, passing-none, passing-more, passing-done}
+use Rattle.cross.proofs.Passes.{Passing, log2-some, passing-none, passing-more, passing-done}
 use Rattle.cross.proofs.all_passes.Statement.{statement}
 use Rattle.cross.proofs.all_passes.Tie as tie
 
 abbrev Inv-loop : tie.InvT-loop
-Inv-loop older newer b best₀ p₀ best p = Passing (targetOf older newer b) (b .w) best₀ best p
+Inv-loop older newer b best₀ p₀ left₀ best p left = Passing (targetOf older newer b) (b .w) best₀ best p left
 
 abbrev μ-loop : tie.MeasureT-loop
-μ-loop older newer b best₀ p₀ best p = p
+μ-loop older newer b best₀ p₀ left₀ best p left = left
 
 cast-p : tie.Need-cast-p Inv-loop μ-loop
-cast-p c = omega arith
+cast-p c = search needs
+
+log2-window-requires : tie.Need-log2-window-requires Inv-loop μ-loop
+log2-window-requires c κs = search needs
+
+sub-left : tie.Need-sub-left Inv-loop μ-loop
+sub-left c = omega (arith, c .log2-window .ensures, log2-some _ (c .before .before .before .before .pre .1))
 
 loop-holds : tie.Need-loop-holds Inv-loop μ-loop
-loop-holds c = let q = c .before .before .before .pre in passing-none _ _ _ (q .down) (q .across)
+loop-holds c =
+    let q = c .before .before .before .before .pre in
+    rw (c .log2-window .ensures) (passing-none _ _ _ (q .1) (q .0 .down) (q .0 .across))
 
 pass-at-requires : tie.Need-pass-at-requires Inv-loop μ-loop
 pass-at-requires c κs =
     let g = c .before .loop .inv in
-    (record { ready = c .before .before .before .before .before .pre .ready; down = g .down; across = g .across; room = omega arith }, omega arith)
+    let q = c .before .before .before .before .before .before .pre .0 in
+    (record { ready = q .ready; down = g .down; across = g .across; room = omega arith }, omega (arith, q .ready .window))
+
+sub-left-2 : tie.Need-sub-left-2 Inv-loop μ-loop
+sub-left-2 c = search needs
 
 loop-less : tie.Need-loop-less Inv-loop μ-loop
 loop-less c = search needs
 
 loop-again : tie.Need-loop-again Inv-loop μ-loop
-loop-again c = passing-more _ _ _ _ _ (c .before .before .loop .inv) _ (omega arith) (c .pass-at .ensures)
+loop-again c = passing-more _ _ _ _ _ _ (c .before .before .loop .inv) _ (c .before .loop-test .taken) (c .pass-at .ensures)
 
 returns : tie.Need-returns Inv-loop μ-loop
-returns c = holds-by (passing-done _ _ _ _ _ (c .before .loop .inv) (omega arith)) refl (omega arith)
+returns c = passing-done _ _ _ _ _ _ (c .before .loop .inv) (omega arith)
 
 pub all-passes-spec : {M : Type 1} → statement M
-all-passes-spec = tie.close (tie.spec Inv-loop μ-loop cast-p loop-holds pass-at-requires loop-less loop-again returns)
+all-passes-spec =
+    tie.close (tie.spec Inv-loop μ-loop cast-p log2-window-requires sub-left loop-holds pass-at-requires sub-left-2 loop-less loop-again returns)
