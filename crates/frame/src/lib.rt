@@ -267,13 +267,16 @@ pub fn request_refusal(older: usize, newer: usize, q: Request) -> u32
     if refusal != 0 {
         return refusal;
     }
-    if !search_ok(q.search) {
+    let search = search_ok(q.search);
+    let window = window_ok(q.search, q.w);
+    let threshold = threshold_ok(q.search, q.t);
+    if !search {
         return 4;
     }
-    if !window_ok(q.search, q.w) {
+    if !window {
         return 5;
     }
-    if !threshold_ok(q.search, q.t) {
+    if !threshold {
         return 6;
     }
     0

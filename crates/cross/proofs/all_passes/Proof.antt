@@ -39,7 +39,7 @@ loop-less : tie.Need-loop-less Inv-loop μ-loop
 loop-less c = search needs
 
 loop-again : tie.Need-loop-again Inv-loop μ-loop
-loop-again c = passing-more _ _ _ _ _ _ (c .before .before .loop .inv) _ (c .before .loop-test .taken) (c .pass-at .ensures)
+loop-again c = passing-more _ _ _ _ _ _ (c .before .before .loop .inv) _ (omega arith) (c .pass-at .ensures)
 
 returns : tie.Need-returns Inv-loop μ-loop
 returns c = passing-done _ _ _ _ _ _ (c .before .loop .inv) (omega arith)

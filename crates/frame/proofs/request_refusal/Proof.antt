@@ -30,41 +30,46 @@ returns c = rw (← (gave (c .before))) (sym (first-some _ _ (c .if1 .taken)))
 search-ok-requires : tie.Need-search-ok-requires
 search-ok-requires c κs = search needs
 
-returns-2 : tie.Need-returns-2
-returns-2 c = rw (rest (c .before .before), failed (c .before .search-ok .ensures) (c .if2 .taken))
-
 window-ok-requires : tie.Need-window-ok-requires
 window-ok-requires c κs = search needs
-
-returns-3 : tie.Need-returns-3
-returns-3 c =
-    let s = c .before .before in
-    rw (rest (s .before .before), passed (s .before .search-ok .ensures) (s .if2 .left), failed (c .before .window-ok .ensures) (c .if3 .taken))
 
 threshold-ok-requires : tie.Need-threshold-ok-requires
 threshold-ok-requires c κs = search needs
 
+returns-2 : tie.Need-returns-2
+returns-2 c =
+    let t = c .before in
+    rw (rest (t .before .before .before), failed (t .before .before .search-ok .ensures) (c .if2 .taken))
+
+returns-3 : tie.Need-returns-3
+returns-3 c =
+    let s = c .before in
+    let t = s .before in
+    rw (rest (t .before .before .before), passed (t .before .before .search-ok .ensures) (s .if2 .left), failed (t .before .window-ok .ensures) (c .if3 .taken))
+
 returns-4 : tie.Need-returns-4
 returns-4 c =
-    let w = c .before .before in
-    let s = w .before .before in
+    let w = c .before in
+    let s = w .before in
+    let t = s .before in
     rw (
-      rest (s .before .before),
-      passed (s .before .search-ok .ensures) (s .if2 .left),
-      passed (w .before .window-ok .ensures) (w .if3 .left),
-      failed (c .before .threshold-ok .ensures) (c .if4 .taken),
+      rest (t .before .before .before),
+      passed (t .before .before .search-ok .ensures) (s .if2 .left),
+      passed (t .before .window-ok .ensures) (w .if3 .left),
+      failed (t .threshold-ok .ensures) (c .if4 .taken),
     )
 
 returns-5 : tie.Need-returns-5
 returns-5 c =
-    let w = c .before .before in
-    let s = w .before .before in
+    let w = c .before in
+    let s = w .before in
+    let t = s .before in
     rw (
-      rest (s .before .before),
-      passed (s .before .search-ok .ensures) (s .if2 .left),
-      passed (w .before .window-ok .ensures) (w .if3 .left),
-      passed (c .before .threshold-ok .ensures) (c .if4 .left),
+      rest (t .before .before .before),
+      passed (t .before .before .search-ok .ensures) (s .if2 .left),
+      passed (t .before .window-ok .ensures) (w .if3 .left),
+      passed (t .threshold-ok .ensures) (c .if4 .left),
     )
 
 pub request-refusal-spec : {M : Type 1} → statement M
-request-refusal-spec = tie.close (tie.spec sizes-of-requires pair-refusal-requires returns search-ok-requires returns-2 window-ok-requires returns-3 threshold-ok-requires returns-4 returns-5)
+request-refusal-spec = tie.close (tie.spec sizes-of-requires pair-refusal-requires returns search-ok-requires window-ok-requires threshold-ok-requires returns-2 returns-3 returns-4 returns-5)
