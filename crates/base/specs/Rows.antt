@@ -1,16 +1,45 @@
--- A list filled row by row, as a loop over rows leaves it.
---   Rowed   p rows of k numbers each are filled, as f says; behind them is what was there
-use Prim.Native.Nat.{ℕ, _+_, _*_, _≤_}
-use mathlib.Core.Path.{_≡_, refl, ap, _∙_}
-use mathlib.Core.List.{List, _++_, append-nil}
-use native.Mathlib.Nat.{zero-mul}
-use lib.ListN.{length, drop, drop-of-length-le}
-use Rattle.base.specs.Index.{row-next}
-use Rattle.base.specs.Lists.{listTo, concatTo, fillTo, length-listTo, concatTo-more, length-concatTo, length-fill, fill-join}
+-- Numbers in rows, one row behind the other, and a list filled with them as a loop over rows leaves it.
+--   grid    p rows of k numbers each, as f says
+--   Rowed   p rows of k numbers each are filled; behind them is what was there
+use Prim.Native.Nat.{ℕ, zero, suc, _+_, _*_, _≤_, _<_}
+use mathlib.Core.Path.{_≡_, refl, sym, ap, _∙_}
+use mathlib.Core.List.{List, _++_, append-nil, append-assoc}
+use native.Mathlib.Nat.{zero-mul, suc-mul}
+use native.Mathlib.Omega.{arith}
+use lib.ListN.{length, getD, drop, drop-of-length-le, List·getD-append}
+use Rattle.base.specs.Index.{row-next, row-fits}
+use Rattle.base.specs.Lists.{listTo, concatTo, fillTo, length-listTo, listTo-ext, getD-listTo, concatTo-more, concatTo-ext, length-concatTo, getD-concatTo, length-fill, fill-join, front-behind}
+use Rattle.base.specs.Fronts.{drop-front}
+
+abbrev pub grid : (ℕ → ℕ → ℕ) → ℕ → ℕ → List ℕ
+grid f p k = concatTo (λ i. listTo (f i) k) p
+
+pub length-grid : (f : ℕ → ℕ → ℕ) (p k : ℕ) → length (grid f p k) ≡ p * k
+length-grid f p k = length-concatTo (λ i. listTo (f i) k) k (λ i. length-listTo _ k) p
+
+pub grid-ext : (f g : ℕ → ℕ → ℕ) (p k : ℕ) → ((i j : ℕ) → i < p → j < k → f i j ≡ g i j) → grid f p k ≡ grid g p k
+grid-ext f g p k e = concatTo-ext _ _ p (λ i hi. listTo-ext (f i) (g i) k (λ j hj. e i j hi hj))
+
+-- place i * k + j holds entry j of row i, whatever lies behind the rows
+pub grid-at : (f : ℕ → ℕ → ℕ) (k p i j : ℕ) (d : List ℕ) → i < p → j < k → getD (grid f p k ++ d) (i * k + j) 0 ≡ f i j
+grid-at f k p i j d h l =
+    let short : i * k + j < length (grid f p k) = rw (length-grid f p k) (omega (arith, row-fits i p k h)) in
+    List·getD-append (grid f p k) d 0 (i * k + j) short
+    ∙ getD-concatTo _ k (λ i. length-listTo _ k) p i j 0 h l
+    ∙ getD-listTo _ k j 0 l
+
+-- any list that is long enough begins with rows
+pub grid-self : (l : List ℕ) (p k : ℕ) → p * k ≤ length l → l ≡ grid (λ i j. getD l (i * k + j) 0) p k ++ drop (p * k) l
+unfolding concatTo
+grid-self l zero k h = rw zero-mul
+grid-self l (suc p) k h =
+    let more = suc-mul p k in
+    grid-self l p k (omega arith)
+    ∙ rw more (ap (_++_ (grid (λ i j. getD l (i * k + j) 0) p k)) (drop-front l (p * k) k 0 (omega arith)) ∙ sym (append-assoc (grid (λ i j. getD l (i * k + j) 0) p k) (listTo (λ i. getD l (p * k + i) 0) k) (drop (p * k + k) l)))
 
 pub record Rowed (f : ℕ → ℕ → ℕ) (k : ℕ) (before list : List ℕ) (p : ℕ) : Type 0 where
   pub long : length list ≡ length before
-  pub filled : list ≡ concatTo (λ i. listTo (f i) k) p ++ drop (p * k) before
+  pub filled : list ≡ grid f p k ++ drop (p * k) before
 
 module _ (f : ℕ → ℕ → ℕ) (k : ℕ) (before : List ℕ) where
   pub rowed-none : Rowed f k before before 0
@@ -23,9 +52,13 @@ module _ (f : ℕ → ℕ → ℕ) (k : ℕ) (before : List ℕ) where
     filled =
         rw (h, e)
         (ap (λ (t : List ℕ). fillTo t (p * k) (f p) k) (g .filled)
-        ∙ rw (fill-join (concatTo (λ i. listTo (f i) k) p) before (p * k) k (f p) (length-concatTo _ k (λ i. length-listTo _ k) p), concatTo-more _ p, row-next p k));
+        ∙ rw (fill-join (grid f p k) before (p * k) k (f p) (length-grid f p k), concatTo-more _ p, row-next p k));
   }
 
+  -- what is not filled yet is as it was
+  pub rowed-behind : (list : List ℕ) (p i : ℕ) → Rowed f k before list p → p * k ≤ i → getD list i 0 ≡ getD before i 0
+  rowed-behind list p i g h = rw (g .filled) (front-behind (grid f p k) before (p * k) i 0 (length-grid f p k) h)
+
   -- the whole list
-  pub rowed-all : (list : List ℕ) (p : ℕ) → Rowed f k before list p → length before ≤ p * k → list ≡ concatTo (λ i. listTo (f i) k) p
+  pub rowed-all : (list : List ℕ) (p : ℕ) → Rowed f k before list p → length before ≤ p * k → list ≡ grid f p k
   rowed-all list p g h = g .filled ∙ rw (drop-of-length-le before {i = p * k} h) (append-nil _)

@@ -2,12 +2,13 @@
 -- its squares add up to its distance.
 use Prim.Native.Nat.{ℕ, zero, suc, _+_, _-_, _*_, _≤_, _<_}
 use mathlib.Core.Path.{_≡_, sym, ap, ap₂, fun-ext, _∙_}
-use mathlib.Core.List.{List}
+use mathlib.Core.List.{List, _++_}
 use native.Mathlib.Nat.{zero-mul, suc-mul, add-mul, mul-le-mul}
 use native.Mathlib.Omega.{arith}
 use lib.ListN.{getD}
 use Rattle.base.specs.Sum.{sumTo}
 use Rattle.base.specs.Index.{row-fits}
+use Rattle.base.specs.Rows.{grid, grid-at}
 use Rattle.signed.specs.Int.{parts}
 use Rattle.order.specs.declared.Vector.{Vector}
 use Rattle.order.specs.Preference.{preferred}
@@ -21,7 +22,6 @@ use Rattle.distance.specs.declared.Origin.{Origin}
 use Rattle.reach.specs.Reach.{Standing, reachOf}
 use Rattle.reach.proofs.Windows.{ready-standing, ready-size}
 use Rattle.squares.specs.Squares.{Cut, gapAt, Compared}
-use Rattle.spread.specs.Spread.{Summed}
 use Rattle.search.specs.Weighing.{Past, candidate-past}
 use Rattle.distance.specs.Remaining.{placeOf, Reached, distanceOf, Tested}
 use Rattle.squares.proofs.Cuts.{squares-few, compared, distance-is}
@@ -117,13 +117,12 @@ module _ (older newer : List ℕ) (b : Spot) (sums : List ℕ) (a : Window) (m :
     module _ (r c : ℕ) (hr : r + n ≤ a .rows) (hc : c + n ≤ a .columns) where
       pub compared-at : Compared block steps sums (m * (a .columns + 1)) m (k * k) (r * (a .columns + 1) + c)
       compared-at =
-          compared own (blockAt older width (a .top) (a .left)) (a .rows) (a .columns) m k block steps sums (t .table) cut
-          (λ i j. nb _) (λ i j. ob _) (t .two) r c (rw (whole) hr) (rw (whole) hc) (rw (whole) size)
+          compared own (blockAt older width (a .top) (a .left)) (a .rows) (a .columns) m k block steps sums (t .table) cut r c (rw (whole) hr) (rw (whole) hc)
+          (λ i j. nb _) (λ i j. ob _) (t .two) (rw (whole) size)
 
       distance-at : number (r * (a .columns + 1) + c) ≡ distanceBy absolute n m own (λ i j. blockAt older width (a .top) (a .left) (r + i) (c + j))
       distance-at =
-          distance-is own (blockAt older width (a .top) (a .left)) (a .rows) (a .columns) m k block steps sums (t .table) cut
-          (λ i j. nb _) (λ i j. ob _) (t .two) r c (rw (whole) hr) (rw (whole) hc) (rw (whole) size)
+          distance-is own (blockAt older width (a .top) (a .left)) (a .rows) (a .columns) m k block steps sums (t .table) cut r c (rw (whole) hr) (rw (whole) hc) (omega (arith, t .two))
           ∙ ap (λ (s : ℕ). distanceBy absolute s m own (λ i j. blockAt older width (a .top) (a .left) (r + i) (c + j))) (whole)
 
     module _ (i : ℕ) (h : i < count) where
@@ -220,8 +219,8 @@ module _ (older newer : List ℕ) (b : Spot) (sums : List ℕ) (a : Window) (m :
             let run : w .left - a .left + (C i h - w .left) ≡ C i h - a .left = omega (arith, p .1, reach-is .left) in
             sym (place-is (R i h - w .top) (C i h - w .left)) ∙ ap₂ (λ r c. r * (a .columns + 1) + c) rise run
 
-        pub number-reach : (before part : List ℕ) → Summed (λ r c. number (corner + r * (a .columns + 1) + c)) (w .rows) (w .columns) before part
+        pub number-reach : (part d : List ℕ) → part ≡ grid (λ r c. number (corner + r * (a .columns + 1) + c)) (w .rows) (w .columns) ++ d
             → getD part (placeOf counted (vector i)) 0 ≡ distanceOf older newer b m (getD alive i 0)
-        number-reach before part s =
+        number-reach part d s =
             let p = within in
-            s .at (R i h - w .top) (C i h - w .left) (p .2) (p .3) ∙ ap number same-place ∙ number-table i h
+            rw s (grid-at (λ r c. number (corner + r * (a .columns + 1) + c)) (w .columns) (w .rows) (R i h - w .top) (C i h - w .left) d (p .2) (p .3)) ∙ ap number same-place ∙ number-table i h

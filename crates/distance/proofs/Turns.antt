@@ -1,28 +1,32 @@
--- A number for each remaining candidate: one more is filled in.
-use Prim.Native.Nat.{ℕ, _+_, _<_}
+-- A number for each remaining candidate: one more is filled in, in front of what the array held.
+--   Filling   the first i of count places hold g of their place
+use Prim.Native.Nat.{ℕ, _+_, _*_, _≤_, _<_}
 use mathlib.Core.Path.{_≡_, _∙_}
-use mathlib.Core.Logic.{⊎-elim}
-use mathlib.Core.List.{List}
-use native.Mathlib.Nat.{eq-or-lt-of-le, le-of-suc-le-suc, not-suc-le-zero}
-use native.Mathlib.Numerals.{add-one}
+use mathlib.Core.List.{List, _++_}
 use native.Mathlib.Omega.{arith}
-use lib.ListN.{length, getD, set, length-set}
-use lib.Seq.{getD-set-same, getD-set-other}
-use Rattle.remaining.specs.Gathered.{Filled}
+use lib.ListN.{length, set, drop, length-set}
+use Rattle.base.specs.Lists.{fillTo, fill-none, fill-front, length-over}
+use Rattle.base.specs.Rows.{grid, length-grid}
 
-pub filled-none : (f : ℕ → ℕ) (alive dist : List ℕ) → length dist ≡ 1089 → Filled f alive 0 dist
-filled-none f alive dist h = record { long = h; value = λ i l. absurd (not-suc-le-zero l) }
+pub record Filling (g : ℕ → ℕ) (count : ℕ) (before dist : List ℕ) (i : ℕ) : Type 0 where
+  pub low : i ≤ count
+  pub long : length dist ≡ 1089
+  pub room : length before ≡ 1089
+  pub filled : dist ≡ fillTo before 0 g i
 
-pub filled-more : {f : ℕ → ℕ} {alive dist : List ℕ} {i : ℕ} (v : ℕ) → Filled f alive i dist → i < 1089 → v ≡ f (getD alive i 0) → Filled f alive (i + 1) (set dist i v)
-filled-more {f} {alive} {dist} {i} v g h e = record {
-  long = length-set dist i v ∙ g .long;
-  value = λ j l.
-      ⊎-elim
-      (λ (q : j ≡ i). rw q (getD-set-same dist i v 0 (omega arith) ∙ e))
-      (λ (q : j < i). getD-set-other dist i j v 0 (omega arith) ∙ g .value j q)
-      (eq-or-lt-of-le (le-of-suc-le-suc (rw add-one at l)));
+pub filling-none : (g : ℕ → ℕ) (count : ℕ) (before : List ℕ) → length before ≡ 1089 → Filling g count before before 0
+filling-none g count before h = record { low = omega arith; long = h; room = h; filled = fill-none before 0 g }
+
+pub filling-more : {g : ℕ → ℕ} {count : ℕ} {before dist : List ℕ} {i : ℕ} (v : ℕ) → Filling g count before dist i → i < count → count ≤ 1089 → v ≡ g i
+    → Filling g count before (set dist i v) (i + 1)
+filling-more {g} {count} {before} {dist} {i} v f h few e = record {
+  low = omega arith;
+  long = length-set dist i v ∙ f .long;
+  room = f .room;
+  filled = rw (e, f .filled) (fill-front before g i (omega (arith, f .room)));
 }
 
--- the same numbers by another rule
-pub filled-as : {f g : ℕ → ℕ} {alive dist : List ℕ} {count : ℕ} → Filled f alive count dist → ((i : ℕ) → i < count → f (getD alive i 0) ≡ g (getD alive i 0)) → Filled g alive count dist
-filled-as d e = record { long = d .long; value = λ i h. d .value i h ∙ e i h }
+-- rows in front of what was there
+pub over-long : (f : ℕ → ℕ → ℕ) (rows columns : ℕ) (before after : List ℕ) → after ≡ grid f rows columns ++ drop (rows * columns) before → rows * columns ≤ length before
+    → length after ≡ length before
+over-long f rows columns before after e h = rw e (length-over (grid f rows columns) before (rows * columns) (length-grid f rows columns) h)

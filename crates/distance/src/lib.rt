@@ -4,10 +4,10 @@ ghost use mathlib.Core.Path.{_≡_};
 ghost use Prim.Native.Nat.{ℕ, _+_, _*_, _≤_, _<_};
 ghost use lib.ListN.{length, getD};
 ghost use Rattle.base.specs.Sum.{sumTo};
+ghost use Rattle.base.specs.Lists.{fillTo};
 ghost use Rattle.order.specs.Preference.{preference, preferred, flat};
 ghost use Rattle.distortion.specs.Blocks.{blockAt};
 ghost use Rattle.squares.specs.Squares.{OwnSums, Cut, gapAt, Compared};
-ghost use Rattle.remaining.specs.Gathered.{Filled};
 ghost use Rattle.distance.specs.Remaining.{Reached, placeOf, distanceOf, Tested};
 use search::Spot;
 use sums::Window;
@@ -47,7 +47,7 @@ fn fill_few(
 )
     requires { ⌜ (now order ≡ flat preference) × (length (now dist) ≡ 1089) × (length (now alive) ≡ 1089) × (count ≤ 1089) ⌝ }
     requires { ⌜ ((i : ℕ) → i < count → (getD (now alive) i 0 < 1089) × Reached o (preferred (getD (now alive) i 0)) × Compared (now block) (now steps) (now sums) low m squares (placeOf o (preferred (getD (now alive) i 0)))) ⌝ }
-    ensures { λ _. ⌜ Filled (λ k. sumTo (gapAt (now (block .entry)) (now (steps .entry)) (now (sums .entry)) low m (placeOf o (preferred k))) squares) (now (alive .entry)) count (now (dist .exit)) ⌝ }
+    ensures { λ _. ⌜ now (dist .exit) ≡ fillTo (now (dist .entry)) 0 (λ i. sumTo (gapAt (now (block .entry)) (now (steps .entry)) (now (sums .entry)) low m (placeOf o (preferred (getD (now (alive .entry)) i 0)))) squares) count ⌝ }
 {
     let mut i: usize = 0;
     while i < count {
@@ -68,7 +68,7 @@ fn pick(
 )
     requires { ⌜ (now order ≡ flat preference) × (length (now dist) ≡ 1089) × (length (now alive) ≡ 1089) × (length (now part) ≡ 1089) × (count ≤ 1089) ⌝ }
     requires { ⌜ ((i : ℕ) → i < count → (getD (now alive) i 0 < 1089) × Reached o (preferred (getD (now alive) i 0)) × (placeOf o (preferred (getD (now alive) i 0)) < 1089)) ⌝ }
-    ensures { λ _. ⌜ Filled (λ k. getD (now (part .entry)) (placeOf o (preferred k)) 0) (now (alive .entry)) count (now (dist .exit)) ⌝ }
+    ensures { λ _. ⌜ now (dist .exit) ≡ fillTo (now (dist .entry)) 0 (λ i. getD (now (part .entry)) (placeOf o (preferred (getD (now (alive .entry)) i 0))) 0) count ⌝ }
 {
     let mut i: usize = 0;
     while i < count {
@@ -95,7 +95,7 @@ fn fill_many(
 )
     requires { ⌜ (now order ≡ flat preference) × (length (now dist) ≡ 1089) × Tested (now older) (now newer) b (now sums) a m (now alive) count ⌝ }
     requires { ⌜ (k * m ≡ b .sizes .n) × Cut (blockAt (now newer) (b .sizes .width) (b .y) (b .x)) m k (a .columns + 1) (now block) (now steps) ⌝ }
-    ensures { λ _. ⌜ Filled (distanceOf (now (older .entry)) (now (newer .entry)) b m) (now (alive .entry)) count (now (dist .exit)) ⌝ }
+    ensures { λ _. ⌜ now (dist .exit) ≡ fillTo (now (dist .entry)) 0 (λ i. distanceOf (now (older .entry)) (now (newer .entry)) b m (getD (now (alive .entry)) i 0)) count ⌝ }
 {
     let y = b.y;
     let x = b.x;
@@ -146,7 +146,7 @@ pub fn fill_distances(
 )
     requires { ⌜ (now order ≡ flat preference) × (length (now dist) ≡ 1089) × Tested (now older) (now newer) b (now sums) a m (now alive) count
         × OwnSums (now newer) b (now own) ⌝ }
-    ensures { λ _. ⌜ Filled (distanceOf (now (older .entry)) (now (newer .entry)) b m) (now (alive .entry)) count (now (dist .exit)) ⌝ }
+    ensures { λ _. ⌜ now (dist .exit) ≡ fillTo (now (dist .entry)) 0 (λ i. distanceOf (now (older .entry)) (now (newer .entry)) b m (getD (now (alive .entry)) i 0)) count ⌝ }
 {
     let s = b.sizes;
     let y = b.y;

@@ -4,14 +4,14 @@ use Prim.Native.Nat.{ℕ, zero, suc, _≤_, _<_}
 use mathlib.Core.Path.{_≡_, refl, sym, ap, _∙_}
 use mathlib.Core.Bool.{Bool, true, false, cond}
 use mathlib.Core.List.{List, [], _∷_, _++_}
-use native.Mathlib.Nat.{le-refl, not-suc-le-zero}
+use native.Mathlib.Nat.{le-refl, zero-add, not-suc-le-zero}
 use native.Mathlib.Numerals.{add-one}
 use native.Mathlib.Omega.{arith}
 use lib.Dec.{leb, ltb}
 use lib.ListN.{length, getD, take, drop, length-append, length-drop, length-set}
 use lib.Seq.{getD-take, take-at, take-suc}
 use Rattle.base.specs.Tests.{true-T}
-use Rattle.base.specs.Lists.{listTo, length-listTo}
+use Rattle.base.specs.Lists.{listTo, fillTo, length-listTo, length-fill, fill-in}
 use Rattle.base.specs.Least.{_∈_, leastOf, leastFrom, leastOf-more, getD-mem}
 use Rattle.base.specs.Picks.{pick, picked, pick-few}
 use Rattle.search.specs.declared.Spot.{Spot}
@@ -92,6 +92,14 @@ pub nearest-mem : (alive dist : List ℕ) (count : ℕ) → 0 < count → (i : �
 unfolding nearestOf
 nearest-mem alive dist zero h = absurd (not-suc-le-zero h)
 nearest-mem alive dist (suc n) h = (_, least-place (λ i. getD dist i 0) (λ i. getD dist i 0) (λ i. i) n (λ i k. refl) .0, refl)
+
+-- an array filled with f of the candidates
+pub filled-is : (f : ℕ → ℕ) (alive before dist : List ℕ) (count : ℕ) → dist ≡ fillTo before 0 (λ i. f (getD alive i 0)) count → length before ≡ 1089 → count ≤ 1089
+    → Filled f alive count dist
+filled-is f alive before dist count e h few = record {
+  long = rw e (length-fill before 0 _ count (omega arith) ∙ h);
+  value = λ i l. rw e (rw zero-add at (fill-in before 0 (λ i. f (getD alive i 0)) count i 0 (omega arith) l));
+}
 
 module _ (f : ℕ → ℕ) (alive dist : List ℕ) where
   pub nearest-filled : (count : ℕ) → Filled f alive count dist → 0 < count → count ≤ length alive → nearestOf alive count dist ≡ leastOf f (take count alive)

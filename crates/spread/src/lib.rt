@@ -1,13 +1,15 @@
 // The distances of all older blocks whose corners stand in so many rows and columns of the summed-area table, square by square.
 
 ghost use mathlib.Core.Path.{_≡_};
+ghost use mathlib.Core.List.{_++_};
 ghost use Prim.Native.Nat.{ℕ, _+_, _*_, _≤_, _<_};
-ghost use lib.ListN.{length, getD};
+ghost use lib.ListN.{length, getD, drop};
 ghost use Rattle.base.specs.Sum.{sumTo};
 ghost use Rattle.base.specs.Lists.{fillTo};
+ghost use Rattle.base.specs.Rows.{grid};
 ghost use Rattle.signed.specs.Values.{absDiff};
-ghost use Rattle.squares.specs.Squares.{looked, Looked, gapAt, Compared};
-ghost use Rattle.spread.specs.Spread.{Added, Summed};
+ghost use Rattle.squares.specs.Squares.{looked, Looked, gapAt, Compared, IsDistance};
+ghost use Rattle.spread.specs.Spread.{raised};
 
 // Adds the differences at one square to `columns` places from `from` on.
 fn add_run(
@@ -45,7 +47,7 @@ fn add_square(
 )
     requires { ⌜ (value ≤ 65280) × (0 < columns) × (rows * columns ≤ length (now part)) × (stride ≤ 1025) ⌝ }
     requires { ⌜ ((i j : ℕ) → i < rows → j < columns → Looked (now sums) low m (at + i * stride + j) × (getD (now part) (i * columns + j) 0 ≤ 4177920)) ⌝ }
-    ensures { λ _. ⌜ Added (λ i j. absDiff value (looked (now (sums .entry)) low m (at + i * stride + j))) rows columns (now (part .entry)) (now (part .exit)) ⌝ }
+    ensures { λ _. ⌜ now (part .exit) ≡ grid (raised (λ i j. absDiff value (looked (now (sums .entry)) low m (at + i * stride + j))) columns (now (part .entry))) rows columns ++ drop (rows * columns) (now (part .entry)) ⌝ }
 {
     let mut i: usize = 0;
     let mut here = at;
@@ -74,7 +76,8 @@ pub fn spread(
 )
     requires { ⌜ (0 < rows) × (0 < columns) × (rows * columns ≤ length (now part)) × (stride ≤ 1025) ⌝ }
     requires { ⌜ ((i j : ℕ) → i < rows → j < columns → Compared (now block) (now steps) (now sums) low m count (at + i * stride + j) × (getD (now part) (i * columns + j) 0 ≡ 0)) ⌝ }
-    ensures { λ _. ⌜ Summed (λ i j. sumTo (gapAt (now (block .entry)) (now (steps .entry)) (now (sums .entry)) low m (at + i * stride + j)) count) rows columns (now (part .entry)) (now (part .exit)) ⌝ }
+    ensures { λ _. ⌜ (now (part .exit) ≡ grid (λ i j. sumTo (gapAt (now (block .entry)) (now (steps .entry)) (now (sums .entry)) low m (at + i * stride + j)) count) rows columns ++ drop (rows * columns) (now (part .entry)))
+        × ((i j : ℕ) → i < rows → j < columns → IsDistance (now (block .entry)) (now (steps .entry)) (now (sums .entry)) low m count (at + i * stride + j) (getD (now (part .exit)) (i * columns + j) 0)) ⌝ }
 {
     let mut s: usize = 0;
     while s < count {

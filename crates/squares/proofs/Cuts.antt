@@ -2,23 +2,18 @@
 -- is, the differences at all squares add up to the distance.
 use Prim.Native.Nat.{ℕ, zero, suc, _+_, _*_, _/_, _%_, _≤_, _<_}
 use mathlib.Core.Path.{_≡_, refl, ap₂, subst, _∙_}
-use mathlib.Core.List.{List}
+use mathlib.Core.List.{List, _++_}
 use native.Mathlib.Nat.{add-assoc, add-mul, zero-mul, mul-comm, mul-le-mul, le-refl, mod-lt, div-add-mod, div-lt-iff-lt-mul, mul-div-cancel}
 use native.Mathlib.Omega.{arith}
-use lib.ListN.{getD}
+use lib.ListN.{getD, length-append}
 use Rattle.base.specs.Sum.{sumTo, sumTo-group, sumOver-ext, sumOver-bound}
 use Rattle.base.specs.Index.{row-fits}
-use Rattle.base.specs.Rows.{Rowed}
+use Rattle.base.specs.Rows.{length-grid, grid-at}
 use Rattle.distortion.specs.Blocks.{Block, absolute}
 use Rattle.pruning.specs.Distance.{squareSum, distanceBy}
-use Rattle.sums.specs.Area.{SumsOf, rows-at}
-use Rattle.sums.specs.Square.{squareAt, Square, squared}
-use Rattle.squares.specs.Squares.{looked, Looked, Cut, gapAt, Compared}
-
--- ---- a list filled row by row
-
-pub rowed-at : (f : ℕ → ℕ → ℕ) (k : ℕ) (before list : List ℕ) (n : ℕ) → Rowed f k before list n → (p q : ℕ) → p < n → q < k → getD list (p * k + q) 0 ≡ f p q
-rowed-at f k before list n g p q hp hq = rw (g .filled) (rows-at f k n p q _ hp hq)
+use Rattle.sums.specs.Area.{SumsOf}
+use Rattle.sums.specs.Square.{squareAt, leftSum, Square, squared}
+use Rattle.squares.specs.Squares.{looked, Looked, IsSquare, squareSums, squareSteps, Cut, gapAt, Compared, IsDistance}
 
 -- what holds at each place of k rows of k holds at each number below k * k
 by-rows : (P : ℕ → Type 0) (k : ℕ) → ((p q : ℕ) → p < k → q < k → P (p * k + q)) → (s : ℕ) → s < k * k → P s
@@ -56,62 +51,92 @@ square-small g m r c b h =
     let k : m * (m * 255) ≤ 16 * (16 * 255) = mul-le-mul {n₂ = 16} {m₂ = 16 * 255} h (omega arith) in
     omega (arith, sumOver-bound 255 m m (λ i j. g (r + i) (c + j)) (λ i j hi hj. b _ _))
 
-module _ (g : Block) (rows columns : ℕ) (sums : List ℕ) (t : SumsOf g rows columns sums) (b : (i j : ℕ) → g i j ≤ 255) (m : ℕ) (sixteen : m ≤ 16) where
-  -- at the square's own row and column
-  look-at : (r c : ℕ) → r + m ≤ rows → c + m ≤ columns
-      → Looked sums (m * (columns + 1)) m (r * (columns + 1) + c) × (looked sums (m * (columns + 1)) m (r * (columns + 1) + c) ≡ squareAt g m r c)
+-- at the square's own row and column
+module _ (g : Block) (rows columns : ℕ) (sums : List ℕ) (t : SumsOf g rows columns sums) (m r c : ℕ) (hr : r + m ≤ rows) (hc : c + m ≤ columns) where
+  abbrev at : ℕ
+  at = r * (columns + 1) + c
+
+  abbrev low : ℕ
+  low = m * (columns + 1)
+
+  here : Square g columns sums r c m
+  here = squared g rows columns sums r c m t hr hc
+
+  lower : (r + m) * (columns + 1) + c ≡ at + low
+  lower = omega (arith, add-mul r m (columns + 1))
+
+  left : getD sums (at + low) 0 ≡ getD sums at 0 + leftSum g r c m
+  left = rw lower at (here .left)
+
+  right : getD sums (at + low + m) 0 ≡ getD sums (at + m) 0 + (leftSum g r c m + squareAt g m r c)
+  right = rw lower at (here .right)
+
+  pub look-is : looked sums low m at ≡ squareAt g m r c
   unfolding looked
-  look-at r c hr hc =
-      let q : Square g columns sums r c m = squared g rows columns sums r c m t hr hc in
-      let e : (r + m) * (columns + 1) + c ≡ r * (columns + 1) + c + m * (columns + 1) = omega (arith, add-mul r m (columns + 1)) in
-      let left = rw e at (q .left) in
-      let right = rw e at (q .right) in
-      let value : looked sums (m * (columns + 1)) m (r * (columns + 1) + c) ≡ squareAt g m r c = omega (arith, left, right) in (
-        record {
-          inside = omega (arith, q .low, q .across, e);
-          left = omega (arith, left);
-          right = omega (arith, right);
-          wider = omega (arith, left, right);
-          value = refl;
-          small = omega (arith, value, square-small g m r c b sixteen);
-        },
-        value,
-      )
+  look-is = omega (arith, left, right)
+
+  -- of bytes
+  look-asks : ((i j : ℕ) → g i j ≤ 255) → m ≤ 16 → Looked sums low m at
+  unfolding looked
+  look-asks b sixteen = record {
+    inside = omega (arith, here .low, here .across, lower);
+    left = omega (arith, left);
+    right = omega (arith, right);
+    wider = omega (arith, left, right);
+    small = rw look-is (square-small g m r c b sixteen);
+  }
 
 -- ---- the distance
 
-module _ (a g : Block) (rows columns m k : ℕ) (block steps sums : List ℕ) where
-  abbrev corner : ℕ → ℕ → ℕ
-  corner r c = r * (columns + 1) + c
+-- lists that begin with the squares' sums and their steps
+pub cut-is : (a : Block) (m k stride : ℕ) (block steps d e : List ℕ) → block ≡ squareSums a m k ++ d → steps ≡ squareSteps m k stride ++ e → Cut a m k stride block steps
+cut-is a m k stride block steps d e sums far = record {
+  sums-long = rw sums (omega (arith, length-append (squareSums a m k) d, length-grid (λ p q. squareSum a m p q) k k));
+  steps-long = rw far (omega (arith, length-append (squareSteps m k stride) e, length-grid (λ p q. p * m * stride + q * m) k k));
+  sum = λ p q hp hq. rw sums (grid-at _ k k p q d hp hq);
+  step = λ p q hp hq. rw far (grid-at _ k k p q e hp hq);
+}
 
-  module _ (t : SumsOf g rows columns sums) (cut : Cut a m k (columns + 1) block steps)
-      (ab : (i j : ℕ) → a i j ≤ 255) (gb : (i j : ℕ) → g i j ≤ 255) (two : 2 ≤ m) (r c : ℕ) (hr : r + k * m ≤ rows) (hc : c + k * m ≤ columns) (sixteen : k * m ≤ 16) where
+-- whatever m and k are
+module _ (a g : Block) (rows columns m k : ℕ) (block steps sums : List ℕ) (t : SumsOf g rows columns sums) (cut : Cut a m k (columns + 1) block steps)
+    (r c : ℕ) (hr : r + k * m ≤ rows) (hc : c + k * m ≤ columns)
+  where
+    abbrev corner : ℕ → ℕ → ℕ
+    corner y x = y * (columns + 1) + x
+
     -- square (p, q) of the older block
     square-place : (p q : ℕ) → corner r c + (p * m * (columns + 1) + q * m) ≡ corner (r + p * m) (c + q * m)
     square-place p q = omega (arith, add-mul r (p * m) (columns + 1))
 
-    at-square : (p q : ℕ) → p < k → q < k →
-        Looked sums (m * (columns + 1)) m (corner r c + getD steps (p * k + q) 0)
-        × (looked sums (m * (columns + 1)) m (corner r c + getD steps (p * k + q) 0) ≡ squareAt g m (r + p * m) (c + q * m))
+    at-square : (p q : ℕ) → p < k → q < k → looked sums (m * (columns + 1)) m (corner r c + getD steps (p * k + q) 0) ≡ squareAt g m (r + p * m) (c + q * m)
     at-square p q hp hq =
-        let fits = row-fits p k m hp in
-        let fits' = row-fits q k m hq in
         rw (cut .step p q hp hq, square-place p q)
-        (look-at g rows columns sums t gb m (omega (arith, fits)) (r + p * m) (c + q * m) (omega (arith, fits)) (omega (arith, fits')))
+        (look-is g rows columns sums t m (r + p * m) (c + q * m) (omega (arith, row-fits p k m hp)) (omega (arith, row-fits q k m hq)))
 
-    pub compared : Compared block steps sums (m * (columns + 1)) m (k * k) (corner r c)
-    compared = record {
+    pub distance-is : 0 < m → sumTo (gapAt block steps sums (m * (columns + 1)) m (corner r c)) (k * k) ≡ distanceBy absolute (k * m) m a (λ i j. g (r + i) (c + j))
+    unfolding distanceBy
+    distance-is some =
+        sumTo-group _ k k
+        ∙ rw (mul-div-cancel k some)
+        (sumOver-ext k k _ _ (λ p q hp hq. rw (cut .sum p q hp hq, at-square p q hp hq, square-within) refl))
+
+    -- of bytes, and N at most 16: the numbers fit the code's
+    pub compared : ((i j : ℕ) → a i j ≤ 255) → ((i j : ℕ) → g i j ≤ 255) → 2 ≤ m → k * m ≤ 16 → Compared block steps sums (m * (columns + 1)) m (k * k) (corner r c)
+    compared ab gb two sixteen = record {
       few = squares-few k m two sixteen;
       sums-long = cut .sums-long;
       steps-long = cut .steps-long;
       small = by-rows (λ s. getD block s 0 ≤ 65280) k (λ p q hp hq. rw (cut .sum p q hp hq, square-is) (square-small a m _ _ ab (omega (arith, row-fits p k m hp))));
-      each = by-rows (λ s. Looked sums (m * (columns + 1)) m (corner r c + getD steps s 0)) k (λ p q hp hq. at-square p q hp hq .0);
+      each = by-rows (λ s. Looked sums (m * (columns + 1)) m (corner r c + getD steps s 0)) k (λ p q hp hq.
+          rw (cut .step p q hp hq, square-place p q)
+          (look-asks g rows columns sums t m (r + p * m) (c + q * m) (omega (arith, row-fits p k m hp)) (omega (arith, row-fits q k m hq)) gb (omega (arith, row-fits p k m hp))));
     }
 
-    pub distance-is : sumTo (gapAt block steps sums (m * (columns + 1)) m (corner r c)) (k * k) ≡ distanceBy absolute (k * m) m a (λ i j. g (r + i) (c + j))
-    unfolding distanceBy
-    distance-is =
-        let some : 0 < m = omega arith in
-        sumTo-group _ k k
-        ∙ rw (mul-div-cancel k some)
-        (sumOver-ext k k _ _ (λ p q hp hq. rw (cut .sum p q hp hq, at-square p q hp hq .1, square-within) refl))
+-- ---- what the contracts say of the numbers
+
+pub is-square : (sums : List ℕ) (low m at : ℕ) → IsSquare sums low m at (looked sums low m at)
+is-square sums low m at g rows columns y x t el ea hy hx = rw (el, ea) (look-is g rows columns sums t m y x hy hx)
+
+pub is-distance : (block steps sums : List ℕ) (low m count at : ℕ) → IsDistance block steps sums low m count at (sumTo (gapAt block steps sums low m at) count)
+is-distance block steps sums low m count at a g rows columns k y x cut t some ec el ea hy hx =
+    rw (ec, el, ea) (distance-is a g rows columns m k block steps sums t cut y x hy hx some)

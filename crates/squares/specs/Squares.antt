@@ -1,21 +1,26 @@
 -- 01, "The four searches", search 2: "Cut a block into m × m squares; its distance at m is the sum over squares of the absolute difference of
 -- pel sums." How that is worked out over the summed-area table: the newer block's squares one behind the other, row by row, and each older square
 -- by four look-ups, its place in the table told from the place of the older block's corner.
---   looked    the sum of the square at a place of the table; Looked: what the four look-ups ask
---   ownWindow the newer block as a part of its frame; OwnSums: a summed-area table of that part
---   Cut       the newer block's squares: their sums, and how far from the corner's place each stands
---   gapAt     the absolute difference at square s
---   Compared  what working out the differences at all squares asks
+--   looked       the sum of the square at a place of the table; Looked: what the four look-ups ask
+--   IsSquare     r is that sum: wherever the table is a part's and the place a square's in it, r is the square's pel sum
+--   ownWindow    the newer block as a part of its frame; OwnSums: a summed-area table of that part
+--   squareSums   the newer block's squares: their sums; squareSteps: how far from the corner's place each stands
+--   Cut          lists that begin with these
+--   gapAt        the absolute difference at square s
+--   Compared     what working out the differences at all squares asks
+--   IsDistance   r is their sum: wherever the squares are a block's and the place an older block's corner, r is the distance of the two
 use Prim.Native.Nat.{ℕ, _+_, _-_, _*_, _≤_, _<_}
 use mathlib.Core.Path.{_≡_}
 use mathlib.Core.List.{List}
 use lib.ListN.{length, getD}
+use Rattle.base.specs.Rows.{grid}
 use Rattle.signed.specs.Values.{absDiff}
-use Rattle.distortion.specs.Blocks.{Block, blockAt}
-use Rattle.pruning.specs.Distance.{squareSum}
+use Rattle.distortion.specs.Blocks.{Block, absolute, blockAt}
+use Rattle.pruning.specs.Distance.{squareSum, distanceBy}
 use Rattle.search.specs.declared.Spot.{Spot}
 use Rattle.sums.specs.declared.Window.{Window}
 use Rattle.sums.specs.Area.{SumsOf}
+use Rattle.sums.specs.Square.{squareAt}
 
 -- the square's lower corner stands `low` places behind its upper one
 unfoldable pub looked : List ℕ → ℕ → ℕ → ℕ → ℕ
@@ -26,14 +31,24 @@ pub record Looked (sums : List ℕ) (low m at : ℕ) : Type 0 where
   pub left : getD sums at 0 ≤ getD sums (at + low) 0
   pub right : getD sums (at + m) 0 ≤ getD sums (at + low + m) 0
   pub wider : getD sums (at + low) 0 - getD sums at 0 ≤ getD sums (at + low + m) 0 - getD sums (at + m) 0
-  pub value : looked sums low m at ≡ (getD sums (at + low + m) 0 - getD sums (at + m) 0) - (getD sums (at + low) 0 - getD sums at 0)
   pub small : looked sums low m at ≤ 65280
+
+abbrev pub IsSquare : List ℕ → ℕ → ℕ → ℕ → ℕ → Type 0
+IsSquare sums low m at r =
+    (g : Block) (rows columns y x : ℕ) → SumsOf g rows columns sums → low ≡ m * (columns + 1) → at ≡ y * (columns + 1) + x → y + m ≤ rows → x + m ≤ columns
+    → r ≡ squareAt g m y x
 
 abbrev pub ownWindow : Spot → Window
 ownWindow b = record { top = b .y; left = b .x; rows = b .sizes .n; columns = b .sizes .n }
 
 abbrev pub OwnSums : List ℕ → Spot → List ℕ → Type 0
 OwnSums newer b own = SumsOf (blockAt newer (b .sizes .width) (b .y) (b .x)) (b .sizes .n) (b .sizes .n) own
+
+abbrev pub squareSums : Block → ℕ → ℕ → List ℕ
+squareSums a m k = grid (λ p q. squareSum a m p q) k k
+
+abbrev pub squareSteps : ℕ → ℕ → ℕ → List ℕ
+squareSteps m k stride = grid (λ p q. p * m * stride + q * m) k k
 
 pub record Cut (a : Block) (m k stride : ℕ) (block steps : List ℕ) : Type 0 where
   pub sums-long : k * k ≤ length block
@@ -51,3 +66,9 @@ pub record Compared (block steps sums : List ℕ) (low m count at : ℕ) : Type 
   pub steps-long : count ≤ length steps
   pub small : (s : ℕ) → s < count → getD block s 0 ≤ 65280
   pub each : (s : ℕ) → s < count → Looked sums low m (at + getD steps s 0)
+
+-- k × k squares of m × m pels, of the block a and of the block whose corner stands at row y and column x of g
+abbrev pub IsDistance : List ℕ → List ℕ → List ℕ → ℕ → ℕ → ℕ → ℕ → ℕ → Type 0
+IsDistance block steps sums low m count at r =
+    (a g : Block) (rows columns k y x : ℕ) → Cut a m k (columns + 1) block steps → SumsOf g rows columns sums → 0 < m → count ≡ k * k → low ≡ m * (columns + 1)
+    → at ≡ y * (columns + 1) + x → y + k * m ≤ rows → x + k * m ≤ columns → r ≡ distanceBy absolute (k * m) m a (λ i j. g (y + i) (x + j))

@@ -1,22 +1,23 @@
 // A block's m × m squares: the sums of the newer block's, and the distance of an older block by look-ups in its summed-area table.
 
 ghost use mathlib.Core.Path.{_≡_};
+ghost use mathlib.Core.List.{_++_};
 ghost use Prim.Native.Nat.{_+_, _*_, _≤_, _<_};
-ghost use lib.ListN.{length};
+ghost use lib.ListN.{length, drop};
 ghost use Rattle.base.specs.Sum.{sumTo};
 ghost use Rattle.base.specs.Lists.{fillTo};
 ghost use Rattle.signed.specs.Values.{absDiff};
 ghost use Rattle.distortion.specs.Blocks.{blockAt};
 ghost use Rattle.pruning.specs.Distance.{squareSum};
 ghost use Rattle.sums.specs.Area.{SumsOf};
-ghost use Rattle.squares.specs.Squares.{looked, Looked, ownWindow, OwnSums, Cut, gapAt, Compared};
+ghost use Rattle.squares.specs.Squares.{looked, Looked, IsSquare, ownWindow, OwnSums, squareSums, squareSteps, gapAt, Compared, IsDistance};
 use search::Spot;
 use sums::Window;
 
 // The sum of the square at place `at` of the table, by four look-ups.
 pub fn look(sums: &[u32], low: usize, m: usize, at: usize) -> u32
     requires { ⌜ Looked (now sums) low m at ⌝ }
-    ensures { λ r. ⌜ (r ≡ looked (now (sums .entry)) low m at) × (r ≤ 65280) ⌝ }
+    ensures { λ r. ⌜ (r ≡ looked (now (sums .entry)) low m at) × (r ≤ 65280) × IsSquare (now (sums .entry)) low m at r ⌝ }
 {
     let right = sums[at + low + m] - sums[at + m];
     let beside = sums[at + low] - sums[at];
@@ -65,7 +66,7 @@ fn cut_block(
 )
     requires { ⌜ SumsOf (blockAt (now newer) width (a .top) (a .left)) (a .rows) (a .columns) (now own) × (k * m ≤ a .rows) × (k * m ≤ a .columns) × (a .rows ≤ 16) × (a .columns ≤ 16) × (stride ≤ 1025) ⌝ }
     requires { ⌜ (k * k ≤ length (now block)) × (k * k ≤ length (now steps)) ⌝ }
-    ensures { λ _. ⌜ Cut (blockAt (now (newer .entry)) width (a .top) (a .left)) m k stride (now (block .exit)) (now (steps .exit)) ⌝ }
+    ensures { λ _. ⌜ (now (block .exit) ≡ squareSums (blockAt (now (newer .entry)) width (a .top) (a .left)) m k ++ drop (k * k) (now (block .entry))) × (now (steps .exit) ≡ squareSteps m k stride ++ drop (k * k) (now (steps .entry))) ⌝ }
 {
     let mut p: usize = 0;
     let mut from: usize = 0;
@@ -105,7 +106,7 @@ pub fn cut(
 )
     requires { ⌜ OwnSums (now newer) b (now own) × (b .sizes .n ≤ 16) × (k * m ≡ b .sizes .n) × (stride ≤ 1025) ⌝ }
     requires { ⌜ (k * k ≤ length (now block)) × (k * k ≤ length (now steps)) ⌝ }
-    ensures { λ _. ⌜ Cut (blockAt (now (newer .entry)) (b .sizes .width) (b .y) (b .x)) m k stride (now (block .exit)) (now (steps .exit)) ⌝ }
+    ensures { λ _. ⌜ (now (block .exit) ≡ squareSums (blockAt (now (newer .entry)) (b .sizes .width) (b .y) (b .x)) m k ++ drop (k * k) (now (block .entry))) × (now (steps .exit) ≡ squareSteps m k stride ++ drop (k * k) (now (steps .entry))) ⌝ }
 {
     let s = b.sizes;
     let width = s.width;
@@ -124,7 +125,7 @@ pub fn distance_from(
     at: usize,
 ) -> u32
     requires { ⌜ Compared (now block) (now steps) (now sums) low m count at ⌝ }
-    ensures { λ r. ⌜ r ≡ sumTo (gapAt (now (block .entry)) (now (steps .entry)) (now (sums .entry)) low m at) count ⌝ }
+    ensures { λ r. ⌜ (r ≡ sumTo (gapAt (now (block .entry)) (now (steps .entry)) (now (sums .entry)) low m at) count) × IsDistance (now (block .entry)) (now (steps .entry)) (now (sums .entry)) low m count at r ⌝ }
 {
     let mut sum: u32 = 0;
     let mut s: usize = 0;

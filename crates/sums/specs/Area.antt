@@ -5,13 +5,13 @@
 --   summed   the whole table
 --   SumsOf   what a list that begins with the table has at each place
 use Prim.Native.Nat.{ℕ, _+_, _*_, _≤_, _<_}
-use mathlib.Core.Path.{_≡_, _∙_}
+use mathlib.Core.Path.{_≡_}
 use mathlib.Core.List.{List, _++_}
 use native.Mathlib.Omega.{arith}
-use lib.ListN.{length, getD, length-append, List·getD-append}
+use lib.ListN.{length, getD, length-append}
 use Rattle.base.specs.Sum.{sumOver}
-use Rattle.base.specs.Index.{row-fits}
-use Rattle.base.specs.Lists.{listTo, concatTo, length-listTo, getD-listTo, length-concatTo, getD-concatTo}
+use Rattle.base.specs.Lists.{listTo, concatTo, length-listTo, length-concatTo}
+use Rattle.base.specs.Rows.{grid-at}
 use Rattle.distortion.specs.Blocks.{Block}
 
 abbrev pub area : Block → ℕ → ℕ → ℕ
@@ -31,20 +31,12 @@ pub record SumsOf (g : Block) (rows columns : ℕ) (table : List ℕ) : Type 0 w
   pub long : (rows + 1) * (columns + 1) ≤ length table
   pub at : (r c : ℕ) → r ≤ rows → c ≤ columns → getD table (r * (columns + 1) + c) 0 ≡ area g r c
 
--- lists of w one behind the other: place r * w + c holds entry c of list r, whatever lies behind them
-pub rows-at : (f : ℕ → ℕ → ℕ) (w n r c : ℕ) (d : List ℕ) → r < n → c < w → getD (concatTo (λ i. listTo (f i) w) n ++ d) (r * w + c) 0 ≡ f r c
-rows-at f w n r c d h l =
-    let short : r * w + c < length (concatTo (λ i. listTo (f i) w) n) = rw (length-concatTo (λ i. listTo (f i) w) w (λ i. length-listTo _ w) n) (omega (arith, row-fits r n w h)) in
-    List·getD-append (concatTo (λ i. listTo (f i) w) n) d 0 (r * w + c) short
-    ∙ getD-concatTo _ w (λ i. length-listTo _ w) n r c 0 h l
-    ∙ getD-listTo _ w c 0 l
-
 module _ (g : Block) (columns : ℕ) where
   pub length-sums : (n : ℕ) → length (sumsTo g columns n) ≡ n * (columns + 1)
   length-sums n = length-concatTo _ (columns + 1) (λ r. length-listTo _ (columns + 1)) n
 
   pub sums-at : (n r c : ℕ) (d : List ℕ) → r < n → c ≤ columns → getD (sumsTo g columns n ++ d) (r * (columns + 1) + c) 0 ≡ area g r c
-  sums-at n r c d h l = rows-at (area g) (columns + 1) n r c d h (omega arith)
+  sums-at n r c d h l = grid-at (area g) (columns + 1) n r c d h (omega arith)
 
 -- a list that begins with the table
 pub sums-of : (g : Block) (rows columns : ℕ) (d table : List ℕ) → table ≡ summed g rows columns ++ d → SumsOf g rows columns table

@@ -1,13 +1,16 @@
 -- `fill_distances`: a candidate's number is its distance, whether worked out by itself or among all older blocks in reach.
-use Prim.Native.Nat.{ℕ, _/_, _≤_}
+use Prim.Native.Nat.{ℕ, _+_, _/_, _≤_}
+use mathlib.Core.Path.{_∙_}
 use native.Mathlib.Omega.{arith}
 use borrow.Author.Needs.{needs}
 use denote.Ref.{now}
 use lib.ListN.{getD}
+use Rattle.base.specs.Lists.{fill-ext}
+use Rattle.distortion.specs.Blocks.{blockAt}
 use Rattle.distance.specs.Remaining.{Tested}
-use Rattle.squares.proofs.Cuts.{squares-few}
-use Rattle.distance.proofs.Turns.{filled-as}
-use Rattle.distance.proofs.Candidates.{size, narrow, low-small, reached-table, compared-table, number-table}
+use Rattle.squares.specs.Squares.{Cut}
+use Rattle.squares.proofs.Cuts.{squares-few, cut-is}
+use Rattle.distance.proofs.Candidates.{size, narrow, low-small, few-squares, reached-table, compared-table, number-table}
 use Rattle.distance.proofs.fill_distances.Statement.{statement}
 use Rattle.distance.proofs.fill_distances.Tie as tie
 
@@ -25,6 +28,12 @@ olds c k = omega (arith, c .before .before .before .before .before .before .befo
 
 news : (c : tie.After-cut) (k : ℕ) → getD (now (start c .args .newer)) k 0 ≤ 255
 news c k = omega (arith, c .before .before .before .before .before .before .before .before .shared-slice-known2 .given k)
+
+-- the newer block's squares
+squares : (c : tie.After-cut) →
+    let a = start c .args in
+    Cut (blockAt (now (a .newer)) (a .b .sizes .width) (a .b .y) (a .b .x)) (a .m) (a .b .sizes .n / a .m) (a .a .columns + 1) (c .cut .last .1 .1 .1 .1 .1 .1 .0) (c .cut .last .1 .1 .1 .1 .1 .1 .1 .0)
+squares c = cut-is _ _ _ _ _ _ _ _ (c .cut .ensures .0) (c .cut .ensures .1)
 
 div-k : tie.Need-div-k
 div-k c = search needs
@@ -55,10 +64,10 @@ slice-aggregate-fill-few-2 : tie.Need-slice-aggregate-fill-few-2
 slice-aggregate-fill-few-2 c = search needs
 
 mul-fill-few : tie.Need-mul-fill-few
-mul-fill-few c = let k = c .before .before .before .before .before in omega (arith, low-small _ _ _ _ _ _ _ _ (tested k) _ _ _ (tested k .whole) (k .cut .ensures) (olds k) (news k))
+mul-fill-few c = let k = c .before .before .before .before .before in omega (arith, low-small _ _ _ _ _ _ _ _ (tested k) _ _ _ (tested k .whole) (squares k) (olds k) (news k))
 
 mul-fill-few-2 : tie.Need-mul-fill-few-2
-mul-fill-few-2 c = search needs
+mul-fill-few-2 c = let k = c .before .before .before .before .before in omega (arith, few-squares _ _ _ _ _ _ _ _ (tested k) _ _ _ (tested k .whole) (squares k) (olds k) (news k))
 
 fill-few-requires : tie.Need-fill-few-requires
 fill-few-requires c κs =
@@ -68,8 +77,8 @@ fill-few-requires c κs =
       (s .pre .0, s .pre .1, t .listed .long, t .listed .few),
       λ i h. (
         t .listed .each i h .0,
-        reached-table _ _ _ _ _ _ _ _ t _ _ _ (t .whole) (k .cut .ensures) (olds k) (news k) i h,
-        compared-table _ _ _ _ _ _ _ _ t _ _ _ (t .whole) (k .cut .ensures) (olds k) (news k) i h,
+        reached-table _ _ _ _ _ _ _ _ t _ _ _ (t .whole) (squares k) (olds k) (news k) i h,
+        compared-table _ _ _ _ _ _ _ _ t _ _ _ (t .whole) (squares k) (olds k) (news k) i h,
       ),
     )
 
@@ -82,12 +91,12 @@ slice-aggregate-fill-many-2 c = search needs
 fill-many-requires : tie.Need-fill-many-requires
 fill-many-requires c κs =
     let k = c .before .before .before .before .before .before in
-    ((start k .pre .0, start k .pre .1, tested k), (tested k .whole, k .cut .ensures))
+    ((start k .pre .0, start k .pre .1, tested k), (tested k .whole, squares k))
 
 returns : tie.Need-returns
 returns c =
     let k = c .before .before .before .before .before .before .before in
-    filled-as (c .fill-few .ensures) (λ i h. number-table _ _ _ _ _ _ _ _ (tested k) _ _ _ (tested k .whole) (k .cut .ensures) (olds k) (news k) i h)
+    c .fill-few .ensures ∙ fill-ext _ 0 _ _ _ (λ i h. number-table _ _ _ _ _ _ _ _ (tested k) _ _ _ (tested k .whole) (squares k) (olds k) (news k) i h)
 
 returns-2 : tie.Need-returns-2
 returns-2 c = c .fill-many .ensures

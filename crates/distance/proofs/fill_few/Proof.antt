@@ -1,4 +1,4 @@
--- `fill_few`: after i turns the first i candidates have their number (`Filled`).
+-- `fill_few`: after i turns the first i candidates have their number (`Filling`).
 use Prim.Native.Nat.{_-_, _≤_, _<_}
 use mathlib.Core.Path.{_≡_}
 use native.Mathlib.Omega.{arith}
@@ -8,15 +8,14 @@ use lib.ListN.{getD}
 use Rattle.base.specs.Sum.{sumTo}
 use Rattle.order.specs.Preference.{preferred}
 use Rattle.squares.specs.Squares.{gapAt, Compared}
-use Rattle.remaining.specs.Gathered.{Filled}
 use Rattle.distance.specs.Remaining.{Reached, placeOf}
-use Rattle.distance.proofs.Turns.{filled-none, filled-more}
+use Rattle.distance.proofs.Turns.{Filling, filling-none, filling-more}
 use Rattle.distance.proofs.fill_few.Statement.{statement}
 use Rattle.distance.proofs.fill_few.Tie as tie
 
 abbrev Inv-loop : tie.InvT-loop
 Inv-loop block steps sums low m squares order o alive count dist₀ i₀ dist i =
-    (i ≤ count) × Filled (λ k. sumTo (gapAt block steps sums low m (placeOf o (preferred k))) squares) alive i dist
+    Filling (λ j. sumTo (gapAt block steps sums low m (placeOf o (preferred (getD alive j 0)))) squares) count dist₀ dist i
 
 abbrev μ-loop : tie.MeasureT-loop
 μ-loop block steps sums low m squares order o alive count dist₀ i₀ dist i = count - i
@@ -29,7 +28,7 @@ candidate : (b : tie.In-loop Inv-loop μ-loop) →
 candidate b = b .before .before .before .before .before .pre .1 (b .before .loop .i) (b .loop-test .taken)
 
 loop-holds : tie.Need-loop-holds Inv-loop μ-loop
-loop-holds c = (search needs, filled-none _ _ _ (c .before .before .before .pre .0 .1))
+loop-holds c = filling-none _ _ _ (c .before .before .before .pre .0 .1)
 
 mul-wide : tie.Need-mul-wide Inv-loop μ-loop
 mul-wide c = search needs
@@ -64,14 +63,14 @@ loop-less c = search needs
 loop-again : tie.Need-loop-again Inv-loop μ-loop
 loop-again c =
     let l = c .before .before .before .before .before .loop in
-    let e = rw (c .before .place-of .ensures, c .before .before .wide .ensures) at (c .distance-from .ensures) in
-    (search needs, filled-more _ (l .inv .1) (omega arith) e)
+    let e = rw (c .before .place-of .ensures, c .before .before .wide .ensures) at (c .distance-from .ensures .0) in
+    filling-more _ (l .inv) (c .before .before .before .before .loop-test .taken) (omega arith) e
 
 returns : tie.Need-returns Inv-loop μ-loop
 returns c =
     let l = c .before .loop in
     let e : l .i ≡ c .before .before .before .before .before .args .count = omega arith in
-    rw e at (l .inv .1)
+    rw e at (l .inv .filled)
 
 pub fill-few-spec : {M : Type 1} → statement M
 fill-few-spec =

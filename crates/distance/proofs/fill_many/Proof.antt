@@ -7,10 +7,11 @@ use borrow.Author.Needs.{needs}
 use denote.Ref.{now}
 use lib.ListN.{getD, getD-replicate, length-replicate}
 use Rattle.base.specs.Index.{row-fits}
+use Rattle.base.specs.Lists.{fill-ext}
 use Rattle.distortion.specs.Blocks.{blockAt}
 use Rattle.squares.specs.Squares.{Cut}
 use Rattle.distance.specs.Remaining.{Tested}
-use Rattle.distance.proofs.Turns.{filled-as}
+use Rattle.distance.proofs.Turns.{over-long}
 use Rattle.distance.proofs.Candidates.{Reach, standing, narrow, low-small, few-squares, reach-is, few, compared-reach, reached-reach, place-reach, number-reach}
 use Rattle.distance.proofs.fill_many.Statement.{statement}
 use Rattle.distance.proofs.fill_many.Tie as tie
@@ -100,8 +101,9 @@ pick-requires c κs =
     let r = c .before .before .before .before .before .before .before in
     let t = tested r in
     let w = r .reach .result in
-    let filled = c .before .before .before .spread .ensures .long in (
-      (start r .pre .0 .0, start r .pre .0 .1, t .listed .long, filled ∙ length-replicate {A = ℕ} 1089 0, t .listed .few),
+    let many = few _ _ _ _ _ _ _ _ t _ _ _ (whole r) (squares r) (olds r) (news r) w (r .reach .ensures) in
+    let long = over-long _ (w .rows) (w .columns) _ _ (c .before .before .before .spread .ensures .0) (rw (length-replicate {A = ℕ} 1089 0) many) in (
+      (start r .pre .0 .0, start r .pre .0 .1, t .listed .long, long ∙ length-replicate {A = ℕ} 1089 0, t .listed .few),
       λ i h. (
         t .listed .each i h .0,
         reached-reach _ _ _ _ _ _ _ _ t _ _ _ (whole r) (squares r) (olds r) (news r) w (r .reach .ensures) i h,
@@ -112,8 +114,9 @@ pick-requires c κs =
 returns : tie.Need-returns
 returns c =
     let r = c .before .before .before .before .before .before .before .before in
-    filled-as (c .pick .ensures)
-    (λ i h. number-reach _ _ _ _ _ _ _ _ (tested r) _ _ _ (whole r) (squares r) (olds r) (news r) (r .reach .result) (r .reach .ensures) i h _ _ (c .before .before .before .before .spread .ensures))
+    c .pick .ensures
+    ∙ fill-ext _ 0 _ _ _
+    (λ i h. number-reach _ _ _ _ _ _ _ _ (tested r) _ _ _ (whole r) (squares r) (olds r) (news r) (r .reach .result) (r .reach .ensures) i h _ _ (c .before .before .before .before .spread .ensures .0))
 
 pub fill-many-spec : {M : Type 1} → statement M
 fill-many-spec =

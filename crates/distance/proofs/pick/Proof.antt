@@ -1,4 +1,4 @@
--- `pick`: after i turns the first i candidates have their number (`Filled`).
+-- `pick`: after i turns the first i candidates have their number (`Filling`).
 use Prim.Native.Nat.{ℕ, _-_, _≤_, _<_}
 use mathlib.Core.Path.{_≡_, ap}
 use native.Mathlib.Omega.{arith}
@@ -6,14 +6,13 @@ use borrow.Author.Needs.{needs}
 use denote.Ref.{now}
 use lib.ListN.{getD}
 use Rattle.order.specs.Preference.{preferred}
-use Rattle.remaining.specs.Gathered.{Filled}
 use Rattle.distance.specs.Remaining.{Reached, placeOf}
-use Rattle.distance.proofs.Turns.{filled-none, filled-more}
+use Rattle.distance.proofs.Turns.{Filling, filling-none, filling-more}
 use Rattle.distance.proofs.pick.Statement.{statement}
 use Rattle.distance.proofs.pick.Tie as tie
 
 abbrev Inv-loop : tie.InvT-loop
-Inv-loop part order o alive count dist₀ i₀ dist i = (i ≤ count) × Filled (λ k. getD part (placeOf o (preferred k)) 0) alive i dist
+Inv-loop part order o alive count dist₀ i₀ dist i = Filling (λ j. getD part (placeOf o (preferred (getD alive j 0))) 0) count dist₀ dist i
 
 abbrev μ-loop : tie.MeasureT-loop
 μ-loop part order o alive count dist₀ i₀ dist i = count - i
@@ -36,7 +35,7 @@ at-place c =
     (e, rw e (candidate (c .before .before .before) .2))
 
 loop-holds : tie.Need-loop-holds Inv-loop μ-loop
-loop-holds c = (search needs, filled-none _ _ _ (c .pre .0 .1))
+loop-holds c = filling-none _ _ _ (c .pre .0 .1)
 
 mul-wide : tie.Need-mul-wide Inv-loop μ-loop
 mul-wide c = search needs
@@ -74,13 +73,13 @@ loop-less c = search needs
 loop-again : tie.Need-loop-again Inv-loop μ-loop
 loop-again c =
     let l = c .before .before .before .before .before .loop in
-    (search needs, filled-more _ (l .inv .1) (omega arith) (ap (λ (k : ℕ). getD (now (c .before .before .before .before .before .before .args .part)) k 0) (at-place (c .before) .0)))
+    filling-more _ (l .inv) (c .before .before .before .before .loop-test .taken) (omega arith) (ap (λ (k : ℕ). getD (now (c .before .before .before .before .before .before .args .part)) k 0) (at-place (c .before) .0))
 
 returns : tie.Need-returns Inv-loop μ-loop
 returns c =
     let l = c .before .loop in
     let e : l .i ≡ c .before .before .args .count = omega arith in
-    rw e at (l .inv .1)
+    rw e at (l .inv .filled)
 
 pub pick-spec : {M : Type 1} → statement M
 pick-spec =

@@ -2,6 +2,7 @@
 use Prim.Native.Nat.{_<_}
 use native.Mathlib.Omega.{arith}
 use borrow.Author.Needs.{needs}
+use Rattle.remaining.proofs.Listing.{filled-is}
 use Rattle.pruned.proofs.State.{sift-alone}
 use Rattle.pruned.proofs.level.Statement.{statement}
 use Rattle.pruned.proofs.level.Tie as tie
@@ -30,7 +31,8 @@ returns-2 c =
     let e = c .before .before .before .before .before .before .before .before .before in
     let r = e .before .before .before .before .before .args .r in
     let more : 1 < r .count = omega (arith, e .before .before .before .before .before .pre .4, e .if1 .left) in
-    let f = c .before .before .before .before .before .before .fill-distances .ensures in
+    let p = e .before .before .before .before .before .pre in
+    let f = filled-is _ _ _ _ _ (c .before .before .before .before .before .before .fill-distances .ensures) (p .1) (p .2 .listed .few) in
     let q = c .before .before .before .lowered .ensures in (
       record { step = λ z s h some. let low = q .0 z _ s _ h f in c .sifted .ensures z _ _ _ low (low .bound (rw (q .1) more)) (rw (q .1) f) },
       f .long,

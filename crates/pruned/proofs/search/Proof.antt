@@ -17,7 +17,7 @@ use Rattle.distance.specs.Remaining.{distanceOf}
 use Rattle.remaining.specs.Gathered.{passes}
 use Rattle.full.specs.Full.{distortionOf}
 use Rattle.pruned.proofs.Blocks.{own-fillable, divides, two-least, safe-at}
-use Rattle.remaining.proofs.Listing.{gathered-few, gathered-long, gathered-listed}
+use Rattle.remaining.proofs.Listing.{gathered-few, gathered-long, gathered-listed, filled-is}
 use Rattle.pruned.proofs.Rounds.{Going, going-start, going-some, going-few, going-room, going-divides, going-listed, going-more, going-done}
 use Rattle.pruned.proofs.search.Statement.{statement}
 use Rattle.pruned.proofs.search.Tie as tie
@@ -92,7 +92,7 @@ loop-holds c =
     let s = start (c .before .before .before .before .before .before .before .before .before .before .before) in
     let a = c .before .before .before .before .before .before .before .before .gather .ensures in
     let f = c .before .before .before .before .before .before .before .begin .ensures in
-    let d = c .before .before .before .fill-distances .ensures in
+    let d = filled-is _ _ _ _ _ (c .before .before .before .fill-distances .ensures) refl (gathered-few _ a) in
     let r = s .pre .0 .ready in
     let p = pairOf (now (s .args .older)) (now (s .args .newer)) (s .args .b .sizes) in (
       going-start _ _ _ (still-passes p _ _ _ (r .window) (r .placed .down) (r .placed .across)) refl a f _

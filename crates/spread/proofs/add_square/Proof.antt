@@ -1,13 +1,13 @@
 -- `add_square`: after i turns the differences are added in the first i rows (`Adding`).
 use Prim.Native.Nat.{ℕ, _+_, _-_, _*_, _≤_, _<_}
-use mathlib.Core.Path.{ap}
+use mathlib.Core.Path.{_≡_, ap}
 use native.Mathlib.Omega.{arith}
 use borrow.Author.Needs.{needs}
 use denote.Ref.{now}
 use lib.ListN.{getD}
 use Rattle.signed.specs.Values.{absDiff}
 use Rattle.squares.specs.Squares.{looked, Looked}
-use Rattle.spread.proofs.Adding.{Adding, adding-none, adding-room, adding-step, adding-done}
+use Rattle.spread.proofs.Adding.{Adding, adding-none, adding-read, adding-room, adding-step}
 use Rattle.spread.proofs.add_square.Statement.{statement}
 use Rattle.spread.proofs.add_square.Tie as tie
 
@@ -27,7 +27,7 @@ row b c h =
     let l = b .before .loop in
     let s = b .before .before .before .before in
     let p = s .pre .1 (l .i) c (b .loop-test .taken) h in
-    (rw (l .inv .here-is) (p .0), rw (l .inv .rest (l .from + c) (omega (arith, l .inv .from-is)), l .inv .from-is) (p .1))
+    (rw (l .inv .here-is) (p .0), rw (adding-read _ _ _ _ _ _ _ _ _ _ (l .inv) c) (p .1))
 
 loop-holds : tie.Need-loop-holds Inv-loop μ-loop
 loop-holds c = adding-none _ _ _ _ _ _
@@ -66,10 +66,13 @@ loop-again c =
     (λ j. ap (λ (h : ℕ). absDiff (s .args .value) (looked (now (s .args .sums)) (s .args .low) (s .args .m) (h + j))) (l .inv .here-is)))
 
 same-length : tie.Need-same-length Inv-loop μ-loop
-same-length c = c .before .loop .inv .long
+same-length c = c .before .loop .inv .rowed .long
 
 returns : tie.Need-returns Inv-loop μ-loop
-returns c = adding-done _ _ _ _ _ _ _ _ _ _ (c .loop-test .left) (c .before .loop .inv)
+returns c =
+    let l = c .before .loop in
+    let e : l .i ≡ c .before .before .before .before .args .rows = omega (arith, l .inv .low) in
+    rw e at (l .inv .rowed .filled)
 
 pub add-square-spec : {M : Type 1} → statement M
 add-square-spec =

@@ -1,4 +1,4 @@
--- `spread`: after s turns each place holds the sum of the differences at the first s squares (`Summed`), each at most 65,280.
+-- `spread`: after s turns each place holds the sum of the differences at the first s squares (`Rowed`), each at most 65,280.
 use Prim.Native.Nat.{ℕ, _+_, _-_, _*_, _≤_, _<_}
 use mathlib.Core.Path.{_≡_, sym, ap}
 use native.Mathlib.Nat.{zero-mul, mul-le-mul}
@@ -7,16 +7,17 @@ use borrow.Author.Needs.{needs}
 use denote.Ref.{now}
 use lib.ListN.{length, getD}
 use Rattle.base.specs.Sum.{sumTo, sumTo-bound}
+use Rattle.base.specs.Rows.{Rowed, grid-at}
 use Rattle.signed.specs.Values.{absDiff}
 use Rattle.squares.specs.Squares.{looked, Looked, gapAt, Compared}
-use Rattle.spread.specs.Spread.{Summed}
+use Rattle.squares.proofs.Cuts.{is-distance}
 use Rattle.spread.proofs.Adding.{summed-none, summed-step}
 use Rattle.spread.proofs.spread.Statement.{statement}
 use Rattle.spread.proofs.spread.Tie as tie
 
 abbrev Inv-loop : tie.InvT-loop
 Inv-loop block steps sums low m count at stride rows columns part₀ s₀ part s =
-    (s ≤ count) × Summed (λ i j. sumTo (gapAt block steps sums low m (at + i * stride + j)) s) rows columns part₀ part
+    (s ≤ count) × Rowed (λ i j. sumTo (gapAt block steps sums low m (at + i * stride + j)) s) columns part₀ part rows
 
 abbrev μ-loop : tie.MeasureT-loop
 μ-loop block steps sums low m count at stride rows columns part₀ s₀ part s = count - s
@@ -47,12 +48,12 @@ square b i j hi hj =
     let few : l .s * 65280 ≤ 64 * 65280 = mul-le-mul {n₂ = 64} {m₂ = 65280} (omega (arith, p .few)) (omega arith) in
     let each = sumTo-bound 65280 (gapAt (now (s .args .block)) (now (s .args .steps)) (now (s .args .sums)) (s .args .low) (s .args .m) (s .args .at + i * s .args .stride + j)) (l .s)
     (λ k h. let t : k < s .args .count = omega arith in omega (arith, p .small k t, p .each k t .small)) in
-    (rw (moved b i j) at (p .each (l .s) (b .loop-test .taken)), rw (l .inv .1 .at i j hi hj) (omega (arith, each, few)))
+    (rw (moved b i j) at (p .each (l .s) (b .loop-test .taken)), rw (l .inv .1 .filled, grid-at _ _ _ i j _ hi hj) (omega (arith, each, few)))
 
 loop-holds : tie.Need-loop-holds Inv-loop μ-loop
 loop-holds c =
     let s = c .before .before .before .before in
-    (search needs, summed-none _ _ _ _ (λ i j hi hj. s .pre .1 i j hi hj .1))
+    (search needs, summed-none _ _ _ _ (s .pre .0 .2) (λ i j hi hj. s .pre .1 i j hi hj .1))
 
 mul-add-square : tie.Need-mul-add-square Inv-loop μ-loop
 mul-add-square c = omega (arith, corner c .few)
@@ -91,7 +92,7 @@ loop-again c =
     let l = b .before .loop in
     let a = b .before .before .before .before .before .before .args in (
       search needs,
-      summed-step _ _ _ _ _ _ _ _ (l .inv .1) (c .before .before .add-square .ensures)
+      summed-step _ _ _ _ (b .before .before .before .before .before .before .pre .0 .2) _ _ _ _ (l .inv .1) (c .before .before .add-square .ensures)
           (λ i j.
           ap (λ (h : ℕ). absDiff (getD (now (a .block)) (l .s) 0) (looked (now (a .sums)) (a .low) (a .m) h)) (sym (moved b i j))),
     )
@@ -102,8 +103,14 @@ same-length c = c .before .loop .inv .1 .long
 returns : tie.Need-returns Inv-loop μ-loop
 returns c =
     let l = c .before .loop in
-    let e : l .s ≡ c .before .before .before .before .before .before .args .count = omega arith in
-    rw e at (l .inv .1)
+    let a = c .before .before .before .before .before .before .args in
+    let e : l .s ≡ a .count = omega arith in
+    let sums = rw e at (l .inv .1 .filled) in (
+      sums,
+      λ i j hi hj.
+          rw (sums, grid-at (λ r q. sumTo (gapAt (now (a .block)) (now (a .steps)) (now (a .sums)) (a .low) (a .m) (a .at + r * a .stride + q)) (a .count)) (a .columns) (a .rows) i j _ hi hj)
+          (is-distance (now (a .block)) (now (a .steps)) (now (a .sums)) (a .low) (a .m) (a .count) (a .at + i * a .stride + j)),
+    )
 
 pub spread-spec : {M : Type 1} → statement M
 spread-spec =

@@ -9,7 +9,6 @@ use Rattle.base.specs.Index.{row-next, row-fits}
 use Rattle.distortion.specs.Blocks.{blockAt}
 use Rattle.pruning.specs.Distance.{squareSum}
 use Rattle.base.specs.Rows.{Rowed, rowed-none, rowed-step}
-use Rattle.squares.proofs.Cuts.{rowed-at}
 use Rattle.squares.proofs.cut_block.Statement.{statement}
 use Rattle.squares.proofs.cut_block.Tie as tie
 
@@ -76,16 +75,9 @@ same-length-2 c = c .before .loop .inv .2 .1 .long
 returns : tie.Need-returns Inv-loop μ-loop
 returns c =
     let l = c .before .loop in
-    let s = c .before .before .before .before .before .before in
-    let e : l .p ≡ s .args .k = omega arith in
-    let sums = rw e at (l .inv .2 .0) in
-    let steps = rw e at (l .inv .2 .1) in
-    record {
-      sums-long = omega (arith, sums .long, s .pre .1 .0);
-      steps-long = omega (arith, steps .long, s .pre .1 .1);
-      sum = rowed-at _ _ _ _ _ sums;
-      step = rowed-at _ _ _ _ _ steps;
-    }
+    let e : l .p ≡ c .before .before .before .before .before .before .args .k = omega arith in
+    let done = rw e at (l .inv .2) in
+    (done .0 .filled, done .1 .filled)
 
 pub cut-block-spec : {M : Type 1} → statement M
 cut-block-spec =

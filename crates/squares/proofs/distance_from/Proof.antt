@@ -7,6 +7,7 @@ use denote.Ref.{now}
 use lib.ListN.{getD}
 use Rattle.base.specs.Sum.{sumTo, sumTo-none, sumTo-more}
 use Rattle.squares.specs.Squares.{gapAt, Looked}
+use Rattle.squares.proofs.Cuts.{is-distance}
 use Rattle.squares.proofs.distance_from.Statement.{statement}
 use Rattle.squares.proofs.distance_from.Tie as tie
 
@@ -81,7 +82,8 @@ returns : tie.Need-returns Inv-loop μ-loop
 returns c =
     let l = c .before .loop in
     let e : l .s ≡ c .before .before .before .before .before .args .count = omega arith in
-    rw e at (l .inv .2)
+    let sum = rw e at (l .inv .2) in
+    (sum, rw sum (is-distance _ _ _ _ _ _ _))
 
 pub distance-from-spec : {M : Type 1} → statement M
 distance-from-spec =
