@@ -12,7 +12,7 @@ use crate::question::{Cursor, Head, LogRead, Walked, Written};
 use std::fmt;
 
 /// The longest text of a log: the header's GAUGE_TEXT_MOST.
-const TEXT_MOST: i64 = 393_236;
+pub const TEXT_MOST: i64 = 393_236;
 
 /// Calls of the walker after its first refusal.
 const CALLS_AFTER: usize = 3;
@@ -346,6 +346,14 @@ fn good_list(chance: &mut Chance, head: &Head) -> Vec<i32> {
     list
 }
 
+/// A log that is accepted, with its head.
+pub fn good_log(chance: &mut Chance) -> (Head, Vec<u8>) {
+    let head = good_head(chance);
+    let list = good_list(chance, &head);
+    let log = bytes_of(&head, &list);
+    (head, log)
+}
+
 /// One number of a head set wrong, or at least elsewhere.
 fn spoil_head(chance: &mut Chance, head: &mut Head) {
     let far = [usize::MAX, 1 << 63, 1 << 32, (1 << 32) + 8, 65_536 + 8];
@@ -586,17 +594,20 @@ fn damage(chance: &mut Chance, head: &Head, log: &mut Vec<u8>) -> &'static str {
     }
 }
 
-/// Logs damaged once or more.
+/// A log damaged once or more, and what was done last.
+pub fn damaged_log(chance: &mut Chance) -> (&'static str, Vec<u8>) {
+    let (head, mut log) = good_log(chance);
+    let mut what = damage(chance, &head, &mut log);
+    for _ in 0..chance.one_of(&[0, 0, 0, 1, 2]) {
+        what = damage(chance, &head, &mut log);
+    }
+    (what, log)
+}
+
 fn damaged(logs: &mut Logs) {
     for seed in 400_000..480_000 {
         let chance = &mut Chance::new(seed);
-        let head = good_head(chance);
-        let list = good_list(chance, &head);
-        let mut log = bytes_of(&head, &list);
-        let mut what = damage(chance, &head, &mut log);
-        for _ in 0..chance.one_of(&[0, 0, 0, 1, 2]) {
-            what = damage(chance, &head, &mut log);
-        }
+        let (what, log) = damaged_log(chance);
         logs.look_at(chance, what, seed, &log);
     }
 }
@@ -605,9 +616,7 @@ fn damaged(logs: &mut Logs) {
 fn fronts(logs: &mut Logs) {
     for seed in 320_000..320_100 {
         let chance = &mut Chance::new(seed);
-        let head = good_head(chance);
-        let list = good_list(chance, &head);
-        let log = bytes_of(&head, &list);
+        let (_, log) = good_log(chance);
         for length in 0..=log.len().min(300) {
             logs.look_at(chance, "a front of a log", seed, &log[..length]);
         }
@@ -654,9 +663,7 @@ fn any_cursor(chance: &mut Chance, head: &Head, log: &[u8]) -> Cursor {
 fn cursors(logs: &mut Logs) {
     for seed in 330_000..370_000 {
         let chance = &mut Chance::new(seed);
-        let head = good_head(chance);
-        let list = good_list(chance, &head);
-        let mut log = bytes_of(&head, &list);
+        let (head, mut log) = good_log(chance);
         if chance.between(0, 2) == 0 {
             damage(chance, &head, &mut log);
         }
@@ -1081,17 +1088,35 @@ fn still_then_far(head: &Head, still: usize) -> Vec<i32> {
     list
 }
 
+/// The most blocks there are.
+const MOST_BLOCKS: Head = Head {
+    width: 1024,
+    height: 1024,
+    n: 4,
+    w: 16,
+    search: 2,
+};
+
+/// 253 × 255 blocks, 252 of them no still blocks: an accepted log of 65,536 bytes.
+pub fn log_of_65536() -> Vec<u8> {
+    let head = Head {
+        width: 1023,
+        height: 1012,
+        ..MOST_BLOCKS
+    };
+    bytes_of(&head, &still_then_far(&head, 253 * 255 - 252))
+}
+
+/// Still blocks alone, as many as there can be: a log of 65,549 bytes. No text is longer for its bytes.
+pub fn still_log() -> Vec<u8> {
+    bytes_of(&MOST_BLOCKS, &[0; 3 * 65_536])
+}
+
 /// The most blocks there are, and logs of 65,536 bytes and one more.
 fn longest(logs: &mut Logs) -> u64 {
     let mut group = Group::new("logs, the longest");
     let chance = &mut Chance::new(399_000);
-    let whole = Head {
-        width: 1024,
-        height: 1024,
-        n: 4,
-        w: 16,
-        search: 2,
-    };
+    let whole = MOST_BLOCKS;
     let blocks = blocks_of(&whole);
     group.same("the grid of 1,024 × 1,024 with N 4", blocks, 65_536);
     for still in [0, 1, blocks / 2, blocks - 1, blocks] {
@@ -1120,14 +1145,7 @@ fn longest(logs: &mut Logs) -> u64 {
         }
     }
 
-    // 253 × 255 blocks, 252 of them no still blocks: 65,536 bytes.
-    let head = Head {
-        width: 1023,
-        height: 1012,
-        ..whole
-    };
-    let list = still_then_far(&head, 253 * 255 - 252);
-    let log = bytes_of(&head, &list);
+    let log = log_of_65536();
     group.same("a log of 65,536 bytes", log.len(), 65_536);
     let joined = [&log[..], &[0]].concat();
     let mut text = vec![0; TEXT_MOST as usize];

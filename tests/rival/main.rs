@@ -4,7 +4,8 @@
 //! of the archive's source is used. Worked pairs, the edges of every range, some thousands of made-up pairs, lists of calls and logs
 //! with fixed seeds are put to both, and every field of every answer must agree, and every place of lent memory. One line is printed
 //! a group, and the inputs and both answers of a mismatch. The exit status is 0 only if all agree. Compiled and started by the
-//! script `run` beside it.
+//! script `run` beside it, with the path of the program that prints logs; with the word `program` behind it that program's cases
+//! are run alone.
 
 mod archive;
 mod calls;
@@ -15,6 +16,7 @@ mod log_cases;
 mod logs;
 mod measuring;
 mod pictures;
+mod program;
 mod question;
 mod reckoning;
 mod rival;
@@ -23,14 +25,27 @@ mod worked;
 
 use std::process::ExitCode;
 
-fn main() -> ExitCode {
-    let mismatches = worked::run()
+/// All groups of the archive's calls.
+fn archive_cases() -> u64 {
+    worked::run()
         + edges::run()
         + measuring::run()
         + searching::run()
         + fields::run()
         + calls::run()
-        + log_cases::run();
+        + log_cases::run()
+}
+
+fn main() -> ExitCode {
+    let words: Vec<String> = std::env::args().skip(1).collect();
+    let mismatches = match &words[..] {
+        [program] => archive_cases() + program::run_all(program),
+        [program, only] if only == "program" => program::run_all(program),
+        _ => {
+            println!("rival PROGRAM [program]");
+            return ExitCode::FAILURE;
+        }
+    };
     if mismatches > 0 {
         println!("rival: {mismatches} cases do not agree");
         return ExitCode::FAILURE;
