@@ -1,10 +1,10 @@
--- A block that is ready to be searched: it has a table of its own, every resolution divides N, and at one that does no test drops the winner.
+-- A block that is ready to be searched: it has a table of its own, N is a power of two, and at a resolution that divides N no test drops the winner.
 use Prim.Native.Nat.{ℕ, _≤_, _∣_}
-use mathlib.Core.List.{List, _∷_}
+use mathlib.Core.Path.{refl}
+use mathlib.Core.List.{List}
 use native.Mathlib.Nat.{le-trans, mul-le-mul, mul-le-mul-right}
 use native.Mathlib.Omega.{arith}
 use lib.Dec.{T}
-use Rattle.base.specs.Least.{_∈_}
 use Rattle.order.specs.Preference.{preferred}
 use Rattle.frame.specs.Pictures.{Pair}
 use Rattle.frame.specs.Refusals.{listed, listed-elim}
@@ -14,10 +14,9 @@ use Rattle.search.specs.Weighing.{Ready}
 use Rattle.sums.specs.Filling.{Fillable}
 use Rattle.reach.proofs.Windows.{ready-standing, ready-size}
 use Rattle.squares.specs.Squares.{ownWindow}
-use Rattle.pruning.specs.Prune.{resolutions}
 use Rattle.pruning.proofs.Blocks.{absolute-lawful}
 use Rattle.pruning.proofs.Pruned.{Safe}
-use Rattle.pruning.proofs.Search.{safe, resolutions-divide}
+use Rattle.pruning.proofs.Search.{PowerOfTwo, safe}
 use Rattle.pruned.specs.Answer.{distortionAt, distanceAt}
 
 pub own-fillable : (older newer : List ℕ) (b : Spot) → Ready older newer b → Fillable newer (b .sizes .width) (ownWindow b) 289
@@ -32,8 +31,9 @@ own-fillable older newer b r =
       table = mul-le-mul {n₂ = 17} {m₂ = 17} (omega (arith, n)) (omega (arith, n));
     }
 
-pub divides : (n : ℕ) → T (listed n) → (m : ℕ) → m ∈ n ∷ resolutions n → m ∣ n
-divides = listed-elim (λ n. (m : ℕ) → m ∈ n ∷ resolutions n → m ∣ n) (resolutions-divide 2) (resolutions-divide 3) (resolutions-divide 4)
+-- 01's N are powers of two
+pub listed-power : (n : ℕ) → T (listed n) → PowerOfTwo n
+listed-power = listed-elim PowerOfTwo (1, refl) (2, refl) (3, refl)
 
 pub two-least : (n : ℕ) → T (listed n) → 2 ≤ n
 two-least = listed-elim (λ n. 2 ≤ n) (omega arith) (omega arith) (omega arith)

@@ -1,5 +1,5 @@
--- What search 2's answer is worth, at a block that stands wholly inside: it is the exhaustive best, because no test drops it; what is dropped is
--- strictly worse; dropped and finally measured are all candidates.
+-- What search 2's answer is worth. Whatever N is, dropped and finally measured are all candidates. Where N is a power of two, at a block that stands
+-- wholly inside, the answer is the exhaustive best, because no test drops it, and what is dropped is strictly worse. The laws for 01's N follow.
 use Prim.Native.Nat.{ℕ, _+_, _≤_, _<_}
 use mathlib.Core.Path.{_≡_, refl, ap, _∙_}
 use native.Mathlib.Omega.{arith}
@@ -14,13 +14,13 @@ use Rattle.distortion.specs.Blocks.{absolute, distortion, newerBlock, olderBloc
 use Rattle.search.specs.Found.{vectorIn, probes}
 use Rattle.search.specs.Exhaustive.{Best, places, best}
 use Rattle.search.proofs.Exhaustive.{best-below, best-is, best-unique, still-passes}
-use Rattle.pruning.specs.Prune.{halves, resolutions}
+use Rattle.pruning.specs.Prune.{resolutions}
 use Rattle.pruning.proofs.Blocks.{absolute-lawful}
 use Rattle.pruning.proofs.Counts.{Counted, prune-counted, search-counts, counts-few, dropped-few, last-count}
 use Rattle.pruning.proofs.Pruned.{Holds, prune-holds}
-use Rattle.pruning.proofs.Search.{search-best, search-drops}
+use Rattle.pruning.proofs.Search.{PowerOfTwo, resolutions-divide, resolutions-many, search-best, search-drops}
 use Rattle.pruned.specs.Answer.{distortionAt, pruning, chosen, prunedFound}
-use Rattle.pruned.proofs.Blocks.{divides, safe-at}
+use Rattle.pruned.proofs.Blocks.{listed-power, safe-at}
 
 -- whatever the block is
 module _ (p : Pair) (w y x : ℕ) where
@@ -41,45 +41,69 @@ module _ (p : Pair) (w y x : ℕ) where
   unfolding prunedFound pruning
   dropped-at-most = dropped-few _ _ _ _ _ _
 
+  -- dropped and finally measured are all candidates
+  pub all-counted : prunedFound p w y x .dropped + length (pruning p w y x .left) ≡ length (places (p .sizes) w y x)
+  unfolding prunedFound pruning
+  all-counted = search-counts _ _ _ _ _ _
+
+  -- where N leaves at most three resolutions, five counts are enough: the last, at m = 1, is how many are finally measured
+  pub measured : length (resolutions (p .sizes .n)) ≤ 3 → probes (prunedFound p w y x) ≡ length (pruning p w y x .left)
+  unfolding prunedFound pruning
+  measured few = last-count _ _ _ _ _ _ few
+
+-- N a power of two, and the block wholly inside
+module _ (p : Pair) (w y x : ℕ) (power : PowerOfTwo (p .sizes .n)) (small : w ≤ 16) (down : y + p .sizes .n ≤ p .sizes .height) (across : x + p .sizes .n ≤ p .sizes .width) where
+  some : 0 < length (places (p .sizes) w y x)
+  some = pick-head _ 1088 (still-passes p w y x small down across) .0
+
+  -- what holds of the candidates left and those dropped
+  pub power-holds : Holds (distortionAt p y x) (places (p .sizes) w y x) (pruning p w y x)
+  unfolding pruning
+  power-holds = prune-holds _ _ _ _ _ _ some (λ m i. safe-at p y x m (resolutions-divide (p .sizes .n) power m i))
+
+  -- the answer is the exhaustive best
+  pub power-best : Best p w y x (vectorIn (prunedFound p w y x))
+  unfolding prunedFound chosen distortion
+  power-best =
+      best-below p w y x small (chosen p w y x)
+      (search-best absolute absolute-lawful (p .sizes .n) (newerBlock p y x) (λ k. olderBlock p y x (preferred k)) (resolutions (p .sizes .n))
+      (resolutions-divide (p .sizes .n) power) _ 1088 (still-passes p w y x small down across))
+
+  -- which is one vector: what the full search answers with
+  pub power-is-best : vectorIn (prunedFound p w y x) ≡ best p w y x
+  power-is-best = best-unique p w y x small _ _ power-best (best-is p w y x small down across)
+
+  -- every candidate dropped has strictly more
+  pub power-drops : {k : ℕ} → k ∈ pruning p w y x .dropped → prunedFound p w y x .distortion < distortion p y x (preferred k)
+  unfolding prunedFound chosen pruning distortion
+  power-drops i =
+      search-drops absolute absolute-lawful (p .sizes .n) (newerBlock p y x) (λ k. olderBlock p y x (preferred k)) (resolutions (p .sizes .n))
+      (places (p .sizes) w y x) some (resolutions-divide (p .sizes .n) power) i
+
+-- ---- 01's N
+
 few-rounds : (n : ℕ) → T (listed n) → length (resolutions n) ≤ 3
-unfolding halves
-few-rounds = listed-elim (λ n. length (resolutions n) ≤ 3) (omega arith) (omega arith) (omega arith)
+few-rounds = listed-elim (λ n. length (resolutions n) ≤ 3) (rw (resolutions-many 1) (omega arith)) (rw (resolutions-many 2) (omega arith)) (rw (resolutions-many 3) (omega arith))
 
 module _ (p : Pair) (w y x : ℕ) (allowed : T (listed (p .sizes .n))) where
-  -- the count at m = 1 is how many are finally measured
   pub pruned-probes : probes (prunedFound p w y x) ≡ length (pruning p w y x .left)
-  unfolding prunedFound pruning
-  pruned-probes = last-count _ _ _ _ _ _ (few-rounds (p .sizes .n) allowed)
+  pruned-probes = measured p w y x (few-rounds (p .sizes .n) allowed)
 
-  -- dropped and finally measured are all candidates
   pub pruned-adds : prunedFound p w y x .dropped + probes (prunedFound p w y x) ≡ length (places (p .sizes) w y x)
-  unfolding prunedFound pruning
-  pruned-adds = ap (_+_ _) pruned-probes ∙ search-counts _ _ _ _ _ _
+  pruned-adds = ap (_+_ _) pruned-probes ∙ all-counted p w y x
+
+  power : PowerOfTwo (p .sizes .n)
+  power = listed-power (p .sizes .n) allowed
 
   module _ (small : w ≤ 16) (down : y + p .sizes .n ≤ p .sizes .height) (across : x + p .sizes .n ≤ p .sizes .width) where
-    some : 0 < length (places (p .sizes) w y x)
-    some = pick-head _ 1088 (still-passes p w y x small down across) .0
-
-    -- what holds of the candidates left and those dropped
     pub pruned-holds : Holds (distortionAt p y x) (places (p .sizes) w y x) (pruning p w y x)
-    unfolding pruning
-    pruned-holds = prune-holds _ _ _ _ _ _ some (λ m i. safe-at p y x m (divides (p .sizes .n) allowed m i))
+    pruned-holds = power-holds p w y x power small down across
 
-    -- the answer is the exhaustive best
     pub pruned-best : Best p w y x (vectorIn (prunedFound p w y x))
-    unfolding prunedFound chosen distortion
-    pruned-best =
-        best-below p w y x small (chosen p w y x)
-        (search-best absolute absolute-lawful (p .sizes .n) (newerBlock p y x) (λ k. olderBlock p y x (preferred k)) (resolutions (p .sizes .n))
-        (divides (p .sizes .n) allowed) _ 1088 (still-passes p w y x small down across))
+    pruned-best = power-best p w y x power small down across
 
-    -- which is one vector: what the full search answers with
     pub pruned-is-best : vectorIn (prunedFound p w y x) ≡ best p w y x
-    pruned-is-best = best-unique p w y x small _ _ pruned-best (best-is p w y x small down across)
+    pruned-is-best = power-is-best p w y x power small down across
 
-    -- every candidate dropped has strictly more
     pub pruned-drops : {k : ℕ} → k ∈ pruning p w y x .dropped → prunedFound p w y x .distortion < distortion p y x (preferred k)
-    unfolding prunedFound chosen pruning distortion
-    pruned-drops i =
-        search-drops absolute absolute-lawful (p .sizes .n) (newerBlock p y x) (λ k. olderBlock p y x (preferred k)) (resolutions (p .sizes .n))
-        (places (p .sizes) w y x) some (divides (p .sizes .n) allowed) i
+    pruned-drops i = power-drops p w y x power small down across i

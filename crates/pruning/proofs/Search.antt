@@ -5,7 +5,7 @@ use mathlib.Core.Path.{_≡_, refl, sym, ap, _∙_, subst, subst⁻¹}
 use mathlib.Core.Logic.{_⊎_, ⊎-elim}
 use mathlib.Core.Bool.{Bool, true, false, cond}
 use mathlib.Core.List.{List, [], _∷_, List·Memᴰ·cases-cons, List·Memᴰ·not-nil}
-use native.Mathlib.Nat.{dvd-refl, dvd-trans, dvd-mul-right, pow-suc, mul-div-cancel, zero-lt-suc}
+use native.Mathlib.Nat.{dvd-refl, dvd-trans, dvd-mul-right, pow-suc, one-le-pow, mul-div-cancel, zero-lt-suc}
 use native.Mathlib.Omega.{arith}
 use borrow.Author.Tests.{lt-ltb, le-ltb, ltb-false}
 use lib.Dec.{ltb}
@@ -39,15 +39,16 @@ halves-divide (suc n) (suc j) {m} i =
     (λ r. dvd-trans m (halves-divide n j (subst (λ (x : ℕ). m ∈ halves n x) (half-pow j) r)) (pow-dvd j))
     (in-cond (ltb (2 ^ suc j) 2) i)
 
+-- a power of two from 2 on: 4, 8 and 16 are such, and so is 32
+abbrev pub PowerOfTwo : ℕ → Type 0
+PowerOfTwo N = (j : ℕ) × (N ≡ 2 ^ suc j)
+
 -- the block size and the resolutions of the rounds divide the block size
-pub resolutions-divide : (j : ℕ) (m : ℕ) → m ∈ 2 ^ j ∷ resolutions (2 ^ j) → m ∣ 2 ^ j
-unfolding halves
-resolutions-divide j m i =
-    ⊎-elim (λ q. subst (λ (x : ℕ). x ∣ 2 ^ j) (sym q) (dvd-refl (2 ^ j))) (λ r. rest j r) (List·Memᴰ·cases-cons i)
-  where
-    rest : (j : ℕ) → m ∈ resolutions (2 ^ j) → m ∣ 2 ^ j
-    rest zero r = absurd (List·Memᴰ·not-nil r)
-    rest (suc j) r = dvd-trans m (halves-divide (2 ^ j) j (subst (λ (x : ℕ). m ∈ halvings x) (half-pow j) r)) (pow-dvd j)
+pub resolutions-divide : (N : ℕ) → PowerOfTwo N → (m : ℕ) → m ∈ N ∷ resolutions N → m ∣ N
+resolutions-divide N (j, e) m i =
+    ⊎-elim (λ q. subst (λ (x : ℕ). x ∣ N) (sym q) (dvd-refl N))
+    (λ r. rw e (dvd-trans m (halves-divide (2 ^ j) j (rw (e, half-pow j) at r)) (pow-dvd j)))
+    (List·Memᴰ·cases-cons i)
 
 -- a bound that is enough is as good as any other
 halves-enough : (f g m : ℕ) → m ≤ f → m ≤ g → halves f m ≡ halves g m
@@ -73,6 +74,13 @@ pub halvings-none : (m : ℕ) → m < 2 → halvings m ≡ []
 unfolding halves
 halvings-none zero h = refl
 halvings-none (suc n) h = ap (λ (t : Bool). cond t [] (suc n ∷ halves n (suc n / 2))) (lt-ltb (suc n) 2 h)
+
+-- after N = 2 ^ (j + 1) there are j resolutions: of the five counts, two more are N's own and that at m = 1
+pub resolutions-many : (j : ℕ) → length (resolutions (2 ^ suc j)) ≡ j
+resolutions-many zero = rw (half-pow 0, halvings-none 1 (omega arith))
+resolutions-many (suc j) =
+    let two : 2 ≤ 2 ^ suc j = omega (arith, pow-suc 2 j, one-le-pow j 2 (omega arith)) in
+    rw (half-pow (suc j), halvings-more (2 ^ suc j) two) (ap suc (resolutions-many j))
 
 -- so the rounds that a loop at m still has before it
 pub rounds-more : (D : ℕ → ℕ) (dist limit : ℕ → ℕ → ℕ) (m : ℕ) (s : Pruning) → 2 ≤ m

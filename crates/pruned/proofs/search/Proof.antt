@@ -12,11 +12,12 @@ use Rattle.frame.specs.Pictures.{pairOf}
 use Rattle.squares.specs.Squares.{OwnSums}
 use Rattle.sums.specs.Area.{sums-of}
 use Rattle.search.proofs.Exhaustive.{still-passes}
+use Rattle.pruning.proofs.Search.{resolutions-divide}
 use Rattle.pruned.specs.Answer.{pruning, chosen, prunedFound}
 use Rattle.distance.specs.Remaining.{distanceOf}
 use Rattle.remaining.specs.Gathered.{passes}
 use Rattle.full.specs.Full.{distortionOf}
-use Rattle.pruned.proofs.Blocks.{own-fillable, divides, two-least, safe-at}
+use Rattle.pruned.proofs.Blocks.{own-fillable, listed-power, two-least, safe-at}
 use Rattle.remaining.proofs.Listing.{gathered-few, gathered-long, gathered-listed, filled-is}
 use Rattle.pruned.proofs.Rounds.{Going, going-start, going-some, going-few, going-room, going-divides, going-listed, going-more, going-done}
 use Rattle.pruned.proofs.search.Statement.{statement}
@@ -97,7 +98,7 @@ loop-holds c =
     let p = pairOf (now (s .args .older)) (now (s .args .newer)) (s .args .b .sizes) in (
       going-start _ _ _ (still-passes p _ _ _ (r .window) (r .placed .down) (r .placed .across)) refl a f _
           (λ h e. c .sifted .ensures _ _ _ _ h e (rw (f .count) d)) (d .long) (safe-at p _ _ _ (dvd-refl _))
-          (λ i k. divides _ (r .placed .paired .allowed) i (List·Memᴰ·tail k)),
+          (λ i k. resolutions-divide _ (listed-power _ (r .placed .paired .allowed)) i (List·Memᴰ·tail k)),
       sym (a .many),
     )
 
