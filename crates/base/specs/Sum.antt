@@ -50,6 +50,19 @@ sumTo-scale c f (suc n) = let ih = sumTo-scale c f n in omega (arith, mul-add c 
 pub sumTo-bound : (c : ℕ) (f : ℕ → ℕ) (n : ℕ) → ((i : ℕ) → i < n → f i ≤ c) → sumTo f n ≤ n * c
 sumTo-bound c f n h = omega (arith, sumTo-mono f (λ i. c) n h, sumTo-const c n)
 
+-- terms that are all 0
+pub sumTo-zero : (f : ℕ → ℕ) (n : ℕ) → ((i : ℕ) → i < n → f i ≡ 0) → sumTo f n ≡ 0
+sumTo-zero f n h = sumTo-ext f (λ i. 0) n h ∙ sumTo-const 0 n ∙ mul-zero n
+
+-- terms that are all 0 but for one
+pub sumTo-one : (f : ℕ → ℕ) (n i : ℕ) → i < n → ((k : ℕ) → k < n → (k ≡ i → ⊥) → f k ≡ 0) → sumTo f n ≡ f i
+unfolding sumTo
+sumTo-one f zero i h z = absurd (omega arith)
+sumTo-one f (suc n) i h z =
+    ⊎-elim (λ (e : i ≡ n). omega (arith, ap f e, sumTo-zero f n (λ k l. z k (le-step l) (λ q. omega arith))))
+    (λ (l : i < n). omega (arith, sumTo-one f n i l (λ k m. z k (le-step m)), z n (lt-suc-self n) (λ q. omega arith)))
+    (eq-or-lt-of-le (le-of-suc-le-suc h))
+
 -- a sum is at least each of its terms
 pub sumTo-term : (f : ℕ → ℕ) (n i : ℕ) → i < n → f i ≤ sumTo f n
 unfolding sumTo

@@ -1,12 +1,12 @@
--- Search 1 answers with the exhaustive best, its distortion, and the number of candidates: its definition says so.
+-- Search 1 answers with the exhaustive best, its distortion, and the number of candidates, as counted without the table.
 use Prim.Native.Nat.{ℕ, _+_, _≤_}
 use mathlib.Core.Path.{_≡_, refl}
-use lib.ListN.{length}
 use Rattle.frame.specs.Pictures.{Pair}
 use Rattle.distortion.specs.Blocks.{distortion}
 use Rattle.search.specs.Found.{vectorIn, probes}
-use Rattle.search.specs.Exhaustive.{Best, places}
+use Rattle.search.specs.Exhaustive.{Best, candidates}
 use Rattle.search.proofs.Exhaustive.{best-is}
+use Rattle.search.proofs.Counted.{places-counted}
 use Rattle.full.specs.Full.{fullFound}
 
 module _ (p : Pair) (w y x : ℕ) (small : w ≤ 16) (down : y + p .sizes .n ≤ p .sizes .height) (across : x + p .sizes .n ≤ p .sizes .width) where
@@ -18,6 +18,6 @@ module _ (p : Pair) (w y x : ℕ) (small : w ≤ 16) (down : y + p .sizes .n ≤
   unfolding fullFound
   full-distortion = refl
 
-  pub full-count : probes (fullFound p w y x) ≡ length (places (p .sizes) w y x)
+  pub full-count : probes (fullFound p w y x) ≡ candidates (p .sizes) w y x
   unfolding fullFound
-  full-count = refl
+  full-count = places-counted (p .sizes) w y x

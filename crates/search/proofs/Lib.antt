@@ -1,1 +1,2 @@
 pub mod Exhaustive
+pub mod Counted

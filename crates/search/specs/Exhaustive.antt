@@ -4,14 +4,19 @@
 --   passing   the vectors of window 16 that pass a test, as places in the preference table, in preference order
 --   places    the block's candidates, so
 --   best      the first of least distortion among them
-use Prim.Native.Nat.{ℕ, _≤_}
+--   howOften  how often a vector stands at such places
+--   candidates  the number of candidates, counted over the vectors of window 16 without the table
+-- That places has each candidate of a window up to 16 once and nothing else, and candidates in number: proofs/Counted.antt.
+use Prim.Native.Nat.{ℕ, _+_, _≤_}
 use mathlib.Core.Path.{_≡_}
-use mathlib.Core.Bool.{Bool}
-use mathlib.Core.List.{List}
+use mathlib.Core.Bool.{Bool, cond}
+use mathlib.Core.List.{List, [], _∷_}
+use Rattle.base.specs.Sum.{sumOver}
 use Rattle.base.specs.Least.{leastOf}
 use Rattle.base.specs.Picks.{pick}
+use Rattle.signed.specs.Values.{unbias}
 use Rattle.order.specs.declared.Vector.{Vector}
-use Rattle.order.specs.Vectors.{Precedes}
+use Rattle.order.specs.Vectors.{vec, Precedes, same?}
 use Rattle.order.specs.Preference.{preferred}
 use Rattle.frame.specs.declared.Sizes.{Sizes}
 use Rattle.frame.specs.Pictures.{Pair}
@@ -31,3 +36,14 @@ places s w y x = passing (candidate s w y x)
 
 unfoldable pub best : Pair → ℕ → ℕ → ℕ → Vector
 best p w y x = preferred (leastOf (λ k. distortion p y x (preferred k)) (places (p .sizes) w y x))
+
+unfoldable pub howOften : Vector → List ℕ → ℕ
+howOften v [] = 0
+howOften v (k ∷ ks) = cond (same? (preferred k) v) 1 0 + howOften v ks
+
+-- the vector in row i, column j of window 16
+abbrev pub gridVector : ℕ → ℕ → Vector
+gridVector i j = vec (unbias 16 i) (unbias 16 j)
+
+unfoldable pub candidates : Sizes → ℕ → ℕ → ℕ → ℕ
+candidates s w y x = sumOver 33 33 (λ i j. cond (candidate s w y x (gridVector i j)) 1 0)
