@@ -6,8 +6,8 @@ use native.Mathlib.Omega.{arith}
 use lib.Dec.{T}
 use lib.ListN.{length, getD}
 use Rattle.base.specs.Least.{_∈_}
-use Rattle.base.specs.Picks.{pick-head}
 use Rattle.order.specs.Preference.{preferred}
+use Rattle.order.proofs.Order.{first-still}
 use Rattle.frame.specs.Pictures.{Pair}
 use Rattle.frame.specs.Refusals.{listed, listed-elim}
 use Rattle.distortion.specs.Blocks.{absolute, distortion, newerBlock, olderBlock}
@@ -17,9 +17,9 @@ use Rattle.search.proofs.Exhaustive.{best-below, best-is, best-unique, still-pa
 use Rattle.pruning.specs.Prune.{resolutions}
 use Rattle.pruning.proofs.Blocks.{absolute-lawful}
 use Rattle.pruning.proofs.Counts.{Counted, prune-counted, search-counts, counts-few, dropped-few, last-count}
-use Rattle.pruning.proofs.Pruned.{Holds, prune-holds}
+use Rattle.pruning.proofs.Pruned.{Attained, still-attained, Holds, prune-holds}
 use Rattle.pruning.proofs.Search.{PowerOfTwo, resolutions-divide, resolutions-many, search-best, search-drops}
-use Rattle.pruned.specs.Answer.{distortionAt, pruning, chosen, prunedFound}
+use Rattle.pruned.specs.Answer.{distortionAt, stillAt, pruning, chosen, prunedFound}
 use Rattle.pruned.proofs.Blocks.{listed-power, safe-at}
 
 -- whatever the block is
@@ -30,44 +30,48 @@ module _ (p : Pair) (w y x : ℕ) where
 
   pub pruned-counted : Counted (places (p .sizes) w y x) (pruning p w y x)
   unfolding pruning
-  pruned-counted = prune-counted _ _ _ _ _ _
+  pruned-counted = prune-counted _ _ _ _ _ _ _
 
   -- no count exceeds the number of candidates
   pub counts-at-most : (j : ℕ) → getD (prunedFound p w y x .counts) j 0 ≤ length (places (p .sizes) w y x)
   unfolding prunedFound pruning
-  counts-at-most = counts-few _ _ _ _ _ _
+  counts-at-most = counts-few _ _ _ _ _ _ _
 
   pub dropped-at-most : prunedFound p w y x .dropped ≤ length (places (p .sizes) w y x)
   unfolding prunedFound pruning
-  dropped-at-most = dropped-few _ _ _ _ _ _
+  dropped-at-most = dropped-few _ _ _ _ _ _ _
 
   -- dropped and finally measured are all candidates
   pub all-counted : prunedFound p w y x .dropped + length (pruning p w y x .left) ≡ length (places (p .sizes) w y x)
   unfolding prunedFound pruning
-  all-counted = search-counts _ _ _ _ _ _
+  all-counted = search-counts _ _ _ _ _ _ _
 
   -- where N leaves at most three resolutions, five counts are enough: the last, at m = 1, is how many are finally measured
   pub measured : length (resolutions (p .sizes .n)) ≤ 3 → probes (prunedFound p w y x) ≡ length (pruning p w y x .left)
   unfolding prunedFound pruning
-  measured few = last-count _ _ _ _ _ _ few
+  measured few = last-count _ _ _ _ _ _ _ few
 
 -- N a power of two, and the block wholly inside
 module _ (p : Pair) (w y x : ℕ) (power : PowerOfTwo (p .sizes .n)) (small : w ≤ 16) (down : y + p .sizes .n ≤ p .sizes .height) (across : x + p .sizes .n ≤ p .sizes .width) where
-  some : 0 < length (places (p .sizes) w y x)
-  some = pick-head _ 1088 (still-passes p w y x small down across) .0
+  -- E begins as the distortion of (0,0), the candidate at place 0
+  still-is : distortionAt p y x 0 ≡ stillAt p y x
+  still-is = ap (distortion p y x) first-still
+
+  given : Attained (distortionAt p y x) (places (p .sizes) w y x) (stillAt p y x)
+  given = still-attained (distortionAt p y x) _ 1088 (stillAt p y x) (still-passes p w y x small down across) still-is
 
   -- what holds of the candidates left and those dropped
   pub power-holds : Holds (distortionAt p y x) (places (p .sizes) w y x) (pruning p w y x)
   unfolding pruning
-  power-holds = prune-holds _ _ _ _ _ _ some (λ m i. safe-at p y x m (resolutions-divide (p .sizes .n) power m i))
+  power-holds = prune-holds _ _ _ _ _ _ _ given (λ m i. safe-at p y x m (resolutions-divide (p .sizes .n) power m i))
 
   -- the answer is the exhaustive best
   pub power-best : Best p w y x (vectorIn (prunedFound p w y x))
   unfolding prunedFound chosen distortion
   power-best =
       best-below p w y x small (chosen p w y x)
-      (search-best absolute absolute-lawful (p .sizes .n) (newerBlock p y x) (λ k. olderBlock p y x (preferred k)) (resolutions (p .sizes .n))
-      (resolutions-divide (p .sizes .n) power) _ 1088 (still-passes p w y x small down across))
+      (search-best absolute absolute-lawful (p .sizes .n) (newerBlock p y x) (λ k. olderBlock p y x (preferred k)) (resolutions (p .sizes .n)) (stillAt p y x)
+      (resolutions-divide (p .sizes .n) power) _ 1088 (still-passes p w y x small down across) still-is)
 
   -- which is one vector: what the full search answers with
   pub power-is-best : vectorIn (prunedFound p w y x) ≡ best p w y x
@@ -78,7 +82,7 @@ module _ (p : Pair) (w y x : ℕ) (power : PowerOfTwo (p .sizes .n)) (small : w 
   unfolding prunedFound chosen pruning distortion
   power-drops i =
       search-drops absolute absolute-lawful (p .sizes .n) (newerBlock p y x) (λ k. olderBlock p y x (preferred k)) (resolutions (p .sizes .n))
-      (places (p .sizes) w y x) some (resolutions-divide (p .sizes .n) power) i
+      (places (p .sizes) w y x) (stillAt p y x) given (resolutions-divide (p .sizes .n) power) i
 
 -- ---- 01's N
 

@@ -1,14 +1,14 @@
 -- The loop over the resolutions: what is in memory is where the search stands, and the rounds still ahead lead from there to the search's end.
 use Prim.Native.Nat.{ℕ, zero, suc, _+_, _-_, _/_, _≤_, _<_, _∣_}
 use mathlib.Core.Path.{_≡_, refl, sym, ap, _∙_}
-use mathlib.Core.Bool.{Bool, true}
+use mathlib.Core.Bool.{Bool}
 use mathlib.Core.List.{List, [], _∷_, _++_, append-nil, append-assoc, List·Memᴰ·head, List·Memᴰ·tail}
 use native.Mathlib.Nat.{not-suc-le-zero, le-of-suc-le-suc}
 use native.Mathlib.Omega.{arith}
 use lib.ListN.{length, take, set, length-set, length-append, replicate}
 use lib.Seq.{take-suc-set, take-all}
 use Rattle.base.specs.Least.{_∈_, leastOf}
-use Rattle.base.specs.Picks.{pick, pick-few, pick-head}
+use Rattle.base.specs.Picks.{pick, pick-few}
 use Rattle.order.specs.Preference.{preferred}
 use Rattle.distortion.specs.Blocks.{absolute}
 use Rattle.search.specs.declared.Spot.{Spot}
@@ -16,7 +16,7 @@ use Rattle.search.specs.declared.Found.{Found}
 use Rattle.search.specs.Found.{foundAs}
 use Rattle.pruning.specs.Prune.{Pruning, start, lower, sift, rounds, prune, prunedBest, counts, halvings, resolutions}
 use Rattle.pruning.proofs.Counts.{Counted, counted-length, start-counted, lower-counted, sift-counted}
-use Rattle.pruning.proofs.Pruned.{Safe, Holds, holds-some, start-holds, first-bound, lower-holds, sift-holds}
+use Rattle.pruning.proofs.Pruned.{Attained, Safe, Holds, holds-some, start-holds, lower-holds, sift-holds}
 use Rattle.pruning.proofs.Search.{halvings-more, halvings-none, rounds-more, rounds-none}
 use Rattle.pruned.specs.declared.Rest.{Rest}
 use Rattle.remaining.specs.Gathered.{passes, Front, Listed}
@@ -34,29 +34,29 @@ filled-up z cs t slot x e f g h =
     ∙ append-assoc (replicate z 0) t (x ∷ [])
     ∙ ap (λ (k : ℕ). replicate k 0 ++ (t ++ (x ∷ []))) n
 
--- for the distortions D, the distances d and the block size N: the rounds from m on lead from the state in memory to the end
-pub record Going (D : ℕ → ℕ) (d : ℕ → ℕ → ℕ) (N : ℕ) (p : ℕ → Bool) (m : ℕ) (alive dist : List ℕ) (r : Rest) : Type 0 where
+-- for the distortion e of (0,0), the distortions D, the distances d and the block size N: the rounds from m on lead from the state in memory to the end
+pub record Going (e : ℕ) (D : ℕ → ℕ) (d : ℕ → ℕ → ℕ) (N : ℕ) (p : ℕ → Bool) (m : ℕ) (alive dist : List ℕ) (r : Rest) : Type 0 where
   pub unused : ℕ
   pub state : Pruning
   pub held : InMemory unused state alive r
   pub holds : Holds D (pick p 1089) state
   pub counted : Counted (pick p 1089) state
-  pub ahead : prune D d (absolute .limit) N (resolutions N) (pick p 1089) ≡ rounds D d (absolute .limit) (halvings m) state
+  pub ahead : prune e D d (absolute .limit) N (resolutions N) (pick p 1089) ≡ rounds D d (absolute .limit) (halvings m) state
   pub divides : (i : ℕ) → i ∈ halvings m → i ∣ N
   pub slots : r .slot + length (halvings m) ≡ 4
   pub wide : length dist ≡ 1089
 
-module _ (D : ℕ → ℕ) (d : ℕ → ℕ → ℕ) (N : ℕ) (p : ℕ → Bool) where
+module _ (e : ℕ) (D : ℕ → ℕ) (d : ℕ → ℕ → ℕ) (N : ℕ) (p : ℕ → Bool) where
   abbrev ended : Pruning
-  ended = prune D d (absolute .limit) N (resolutions N) (pick p 1089)
+  ended = prune e D d (absolute .limit) N (resolutions N) (pick p 1089)
 
   abbrev best : ℕ
-  best = prunedBest D d (absolute .limit) N (resolutions N) (pick p 1089)
+  best = prunedBest e D d (absolute .limit) N (resolutions N) (pick p 1089)
 
   abbrev pub answered : Found
   answered = foundAs (preferred best) (D best) (counts ended) (length (ended .dropped))
 
-module _ {D : ℕ → ℕ} {d : ℕ → ℕ → ℕ} {N : ℕ} {p : ℕ → Bool} {m : ℕ} {alive dist : List ℕ} {r : Rest} (g : Going D d N p m alive dist r) where
+module _ {e : ℕ} {D : ℕ → ℕ} {d : ℕ → ℕ → ℕ} {N : ℕ} {p : ℕ → Bool} {m : ℕ} {alive dist : List ℕ} {r : Rest} (g : Going e D d N p m alive dist r) where
   -- at least one remains
   pub going-some : 0 < r .count
   going-some = rw (← g .held .many) (holds-some (g .holds))
@@ -76,7 +76,7 @@ module _ {D : ℕ → ℕ} {d : ℕ → ℕ → ℕ} {N : ℕ} {p : ℕ → Bool
       → ((z : ℕ) (s : Pruning) → InMemory z s alive r → 0 < length (sift d (absolute .limit) m (lower D d m s) .left)
       → InMemory z (sift d (absolute .limit) m (lower D d m s)) after q)
       → length dist′ ≡ 1089
-      → Going D d N p (m / 2) after dist′ q
+      → Going e D d N p (m / 2) after dist′ q
   unfolding lower sift
   going-more after dist′ q safe h steps wide =
       let holds = sift-holds D d (pick p 1089) (absolute .limit) m _ (safe m (going-divides h)) (lower-holds D d (pick p 1089) m _ (g .holds)) in
@@ -94,10 +94,10 @@ module _ {D : ℕ → ℕ} {d : ℕ → ℕ → ℕ} {N : ℕ} {p : ℕ → Bool
       }
 
   -- no round is left: the answer made of memory is the search's
-  pub going-done : (all : ℕ) → m < 2 → length (pick p 1089) ≡ all → finished D alive all r ≡ answered D d N p
+  pub going-done : (all : ℕ) → m < 2 → length (pick p 1089) ≡ all → finished D alive all r ≡ answered e D d N p
   unfolding prunedBest counts
-  going-done all h e =
-      let at-end : ended D d N p ≡ g .state = g .ahead ∙ rounds-none D d (absolute .limit) m (g .state) h in
+  going-done all h same =
+      let at-end : ended e D d N p ≡ g .state = g .ahead ∙ rounds-none D d (absolute .limit) m (g .state) h in
       let last : r .slot ≡ 4 = omega (arith, g .slots, ap length (halvings-none m h)) in
       let five = filled-up (g .unused) (r .counts) (g .state .tested) (r .slot) (r .count) last (g .held .five) (g .held .slot) (g .held .tested) in
       let gone : all - r .count ≡ length (g .state .dropped) = omega (arith, g .held .many, counted-length (g .counted)) in
@@ -105,7 +105,7 @@ module _ {D : ℕ → ℕ} {d : ℕ → ℕ → ℕ} {N : ℕ} {p : ℕ → Bool
       (ap (λ (cs : List ℕ). foundAs (preferred (leastOf D (g .state .left))) (D (leastOf D (g .state .left))) cs (length (g .state .dropped))) five)
 
 -- those that remain are candidates
-pub going-listed : {D : ℕ → ℕ} {d : ℕ → ℕ → ℕ} {N : ℕ} {b : Spot} {m : ℕ} {alive dist : List ℕ} {r : Rest} → Going D d N (passes b) m alive dist r → Listed b alive (r .count)
+pub going-listed : {e : ℕ} {D : ℕ → ℕ} {d : ℕ → ℕ → ℕ} {N : ℕ} {b : Spot} {m : ℕ} {alive dist : List ℕ} {r : Rest} → Going e D d N (passes b) m alive dist r → Listed b alive (r .count)
 going-listed {b = b} {alive = alive} {r = r} g =
     listed-front b alive (g .state .left) (r .count) (g .held .long) (g .held .many) (g .held .left) (omega (arith, going-few g, pick-few (passes b) 1089)) (λ k i. g .holds .left-from i)
 
@@ -116,40 +116,39 @@ take-zeros zero n h = refl
 take-zeros (suc z) zero h = absurd (not-suc-le-zero h)
 take-zeros (suc z) (suc n) h = ap (λ (ks : List ℕ). 0 ∷ ks) (take-zeros z n (le-of-suc-le-suc h))
 
-module _ (D : ℕ → ℕ) (N : ℕ) (b : Spot) (zero-passes : passes b 0 ≡ true) {before alive : List ℕ} {all : ℕ} {r : Rest} (long : length before ≡ 1089) (a : Front (pick (passes b) 1089) before alive all) (f : Begun (D 0) N all r) where
-  start-bound : r .bound ≡ start D (pick (passes b) 1089) .bound
-  start-bound = f .bound ∙ sym (first-bound D (passes b) 1088 zero-passes)
+module _ (e : ℕ) (D : ℕ → ℕ) (N : ℕ) (b : Spot) {before alive : List ℕ} {all : ℕ} {r : Rest} (long : length before ≡ 1089)
+    (a : Front (pick (passes b) 1089) before alive all) (f : Begun e N all r)
+  where
+    -- all candidates are in memory, and E
+    start-held : InMemory (r .slot) (start e (pick (passes b) 1089)) alive r
+    unfolding start
+    start-held = record {
+      long = gathered-long b a long;
+      bound = λ _. f .bound;
+      many = sym (f .count ∙ a .many);
+      left = rw (f .count) (front-take a);
+      slot = omega arith;
+      five = ap length (f .counts);
+      tested = rw (f .counts) (take-zeros (r .slot) 5 (omega (arith, f .slot)) ∙ sym (append-nil _));
+    }
 
-  -- all candidates are in memory, and E
-  start-held : InMemory (r .slot) (start D (pick (passes b) 1089)) alive r
-  unfolding start
-  start-held = record {
-    long = gathered-long b a long;
-    bound = λ _. start-bound;
-    many = sym (f .count ∙ a .many);
-    left = rw (f .count) (front-take a);
-    slot = omega arith;
-    five = ap length (f .counts);
-    tested = rw (f .counts) (take-zeros (r .slot) 5 (omega (arith, f .slot)) ∙ sym (append-nil _));
-  }
-
-  -- after the test at N the rounds from N / 2 on lead to the end
-  pub going-start : (d : ℕ → ℕ → ℕ) {after dist : List ℕ} {q : Rest}
-      → (InMemory (r .slot) (start D (pick (passes b) 1089)) alive r → r .bound ≡ start D (pick (passes b) 1089) .bound
-      → InMemory (r .slot) (sift d (absolute .limit) N (start D (pick (passes b) 1089))) after q)
-      → length dist ≡ 1089 → Safe D d (absolute .limit) N → ((i : ℕ) → i ∈ resolutions N → i ∣ N)
-      → Going D d N (passes b) (N / 2) after dist q
-  unfolding prune sift start
-  going-start d steps wide safe divides =
-      let held = steps start-held start-bound in
-      record {
-        unused = r .slot;
-        state = sift d (absolute .limit) N (start D (pick (passes b) 1089));
-        held = held;
-        holds = sift-holds D d (pick (passes b) 1089) (absolute .limit) N _ safe (start-holds D (pick (passes b) 1089) (pick-head (passes b) 1088 zero-passes .0));
-        counted = sift-counted D d (absolute .limit) (pick (passes b) 1089) N _ (start-counted D (pick (passes b) 1089));
-        ahead = refl;
-        divides = divides;
-        slots = omega (arith, held .slot, f .slot);
-        wide = wide;
-      }
+    -- after the test at N the rounds from N / 2 on lead to the end
+    pub going-start : (d : ℕ → ℕ → ℕ) {after dist : List ℕ} {q : Rest}
+        → (InMemory (r .slot) (start e (pick (passes b) 1089)) alive r → r .bound ≡ start e (pick (passes b) 1089) .bound
+        → InMemory (r .slot) (sift d (absolute .limit) N (start e (pick (passes b) 1089))) after q)
+        → length dist ≡ 1089 → Attained D (pick (passes b) 1089) e → Safe D d (absolute .limit) N → ((i : ℕ) → i ∈ resolutions N → i ∣ N)
+        → Going e D d N (passes b) (N / 2) after dist q
+    unfolding prune sift start
+    going-start d steps wide given safe divides =
+        let held = steps start-held (f .bound) in
+        record {
+          unused = r .slot;
+          state = sift d (absolute .limit) N (start e (pick (passes b) 1089));
+          held = held;
+          holds = sift-holds D d (pick (passes b) 1089) (absolute .limit) N _ safe (start-holds e D (pick (passes b) 1089) given);
+          counted = sift-counted D d (absolute .limit) (pick (passes b) 1089) N _ (start-counted e (pick (passes b) 1089));
+          ahead = refl;
+          divides = divides;
+          slots = omega (arith, held .slot, f .slot);
+          wide = wide;
+        }

@@ -43,9 +43,9 @@ pub record Counted (ks : List ℕ) (s : Pruning) : Type 0 where
 pub counted-length : {ks : List ℕ} {s : Pruning} → Counted ks s → length (s .dropped) + length (s .left) ≡ length ks
 counted-length {ks} {s} c = omega (arith, c .parts (λ k. 1), total-length ks, total-length (s .left), total-length (s .dropped))
 
-pub start-counted : (D : ℕ → ℕ) (ks : List ℕ) → Counted ks (start D ks)
+pub start-counted : (e : ℕ) (ks : List ℕ) → Counted ks (start e ks)
 unfolding start total
-start-counted D ks = record { parts = λ g. omega arith; tested = none-most _ }
+start-counted e ks = record { parts = λ g. omega arith; tested = none-most _ }
 
 module _ (D : ℕ → ℕ) (dist limit : ℕ → ℕ → ℕ) (ks : List ℕ) where
   pub lower-counted : (m : ℕ) (s : Pruning) → Counted ks s → Counted ks (lower D dist m s)
@@ -81,32 +81,32 @@ last-of-five t l h =
     ∙ getD-append-add (replicate (5 - length (t ++ (l ∷ []))) 0) (t ++ (l ∷ [])) (length t) 0
     ∙ getD-append-seam t l [] 0
 
-module _ (D : ℕ → ℕ) (dist limit : ℕ → ℕ → ℕ) (N : ℕ) (ms ks : List ℕ) where
-  pub prune-counted : Counted ks (prune D dist limit N ms ks)
+module _ (e : ℕ) (D : ℕ → ℕ) (dist limit : ℕ → ℕ → ℕ) (N : ℕ) (ms ks : List ℕ) where
+  pub prune-counted : Counted ks (prune e D dist limit N ms ks)
   unfolding prune
-  prune-counted = rounds-counted D dist limit ks ms _ (sift-counted D dist limit ks N _ (start-counted D ks))
+  prune-counted = rounds-counted D dist limit ks ms _ (sift-counted D dist limit ks N _ (start-counted e ks))
 
   -- dropped and finally measured are all of them
-  pub search-counts : length (prune D dist limit N ms ks .dropped) + length (prune D dist limit N ms ks .left) ≡ length ks
+  pub search-counts : length (prune e D dist limit N ms ks .dropped) + length (prune e D dist limit N ms ks .left) ≡ length ks
   search-counts = counted-length prune-counted
 
-  pub dropped-few : length (prune D dist limit N ms ks .dropped) ≤ length ks
+  pub dropped-few : length (prune e D dist limit N ms ks .dropped) ≤ length ks
   dropped-few = omega (arith, search-counts)
 
-  pub counts-few : (j : ℕ) → getD (counts (prune D dist limit N ms ks)) j 0 ≤ length ks
+  pub counts-few : (j : ℕ) → getD (counts (prune e D dist limit N ms ks)) j 0 ≤ length ks
   unfolding counts AtMost
   counts-few =
-      let s = prune D dist limit N ms ks in
+      let s = prune e D dist limit N ms ks in
       let c = s .tested ++ (length (s .left) ∷ []) in
       let rest : length (s .left) ≤ length ks = omega (arith, search-counts) in
       append-most (length ks) (replicate (5 - length c) 0) c (zeros-most (length ks) (5 - length c))
       (append-most (length ks) (s .tested) (length (s .left) ∷ []) (prune-counted .tested) (one-most (length ks) (length (s .left)) rest))
 
-  tested-few : length ms ≤ 3 → length (prune D dist limit N ms ks .tested) ≤ 4
+  tested-few : length ms ≤ 3 → length (prune e D dist limit N ms ks .tested) ≤ 4
   unfolding prune start sift
-  tested-few h = omega (arith, tested-rounds D dist limit ms (sift dist limit N (start D ks)))
+  tested-few h = omega (arith, tested-rounds D dist limit ms (sift dist limit N (start e ks)))
 
   -- the count at m = 1 is how many are finally measured
-  pub last-count : length ms ≤ 3 → getD (counts (prune D dist limit N ms ks)) 4 0 ≡ length (prune D dist limit N ms ks .left)
+  pub last-count : length ms ≤ 3 → getD (counts (prune e D dist limit N ms ks)) 4 0 ≡ length (prune e D dist limit N ms ks .left)
   unfolding counts
-  last-count h = last-of-five (prune D dist limit N ms ks .tested) (length (prune D dist limit N ms ks .left)) (tested-few h)
+  last-count h = last-of-five (prune e D dist limit N ms ks .tested) (length (prune e D dist limit N ms ks .left)) (tested-few h)

@@ -1,23 +1,27 @@
 -- A test that drops no candidate of a distortion up to E keeps the first least of all: so E stays the distortion of a candidate, what is dropped
 -- is strictly worse than E, and the answer is the full search's.
 use Prim.Native.Nat.{ℕ, suc, _≤_, _<_, min}
-use mathlib.Core.Path.{_≡_, refl, sym, ap, _∙_, subst}
+use mathlib.Core.Path.{_≡_, refl, sym, _∙_, subst}
 use mathlib.Core.Logic.{⊎-elim}
 use mathlib.Core.Bool.{Bool, true}
 use mathlib.Core.List.{List, [], _∷_, List·Memᴰ·head, List·Memᴰ·tail, List·Memᴰ·not-nil, List·Memᴰ·append-cases}
-use native.Mathlib.Nat.{lt-of-not-le, not-le-of-lt, lt-of-le-of-lt, min-le-left, min-eq-left, min-eq-right, le-of-lt}
+use native.Mathlib.Nat.{lt-of-not-le, not-le-of-lt, lt-of-le-of-lt, min-le-left, min-eq-left, min-eq-right, le-of-lt, zero-lt-suc}
 use native.Mathlib.Decide.{decLe}
-use lib.ListN.{length, getD}
-use Rattle.base.specs.Least.{_∈_, leastOf, FirstLeast, first-mem, leastOf-first, leastOf-unique, leastOf-mem, leastOf-le, getD-mem, mem-length}
-use Rattle.base.specs.Picks.{pick, pick-head}
+use lib.ListN.{length}
+use Rattle.base.specs.Least.{_∈_, leastOf, FirstLeast, first-mem, leastOf-first, leastOf-unique, leastOf-mem, leastOf-le, mem-length}
+use Rattle.base.specs.Picks.{pick, pick-mem}
 use Rattle.pruning.specs.Sift.{kept, over}
 use Rattle.pruning.specs.Prune.{Pruning, start, lower, sift, rounds, prune, prunedBest}
 use Rattle.pruning.proofs.Parts.{Parted, parted, parted-kept, parted-over, parted-first}
 
+-- e is the distortion of one of the candidates ks, as E is at each moment
+abbrev pub Attained : (ℕ → ℕ) → List ℕ → ℕ → Type 0
+Attained D ks e = (k : ℕ) × (k ∈ ks) × (D k ≡ e)
+
 -- what holds of the search at each moment, for the candidates ks with the distortions D
 pub record Holds (D : ℕ → ℕ) (ks : List ℕ) (s : Pruning) : Type 0 where
   -- E is the distortion of a candidate
-  pub attained : (k : ℕ) × (k ∈ ks) × (D k ≡ s .bound)
+  pub attained : Attained D ks (s .bound)
   -- the first least of all candidates is the first least of those left
   pub best : FirstLeast D (leastOf D ks) (s .left)
   -- those left are candidates
@@ -40,22 +44,21 @@ holds-some h = mem-length (first-mem (h .best))
 abbrev pub Safe : (D : ℕ → ℕ) (dist limit : ℕ → ℕ → ℕ) → ℕ → Type 0
 Safe D dist limit m = (k e : ℕ) → D k ≤ e → dist m k ≤ limit m e
 
-pub start-holds : (D : ℕ → ℕ) (ks : List ℕ) → 0 < length ks → Holds D ks (start D ks)
+pub start-holds : (e : ℕ) (D : ℕ → ℕ) (ks : List ℕ) → Attained D ks e → Holds D ks (start e ks)
 unfolding start
-start-holds D ks h =
+start-holds e D ks given =
     record {
-      attained = (getD ks 0 0, getD-mem ks 0 h, refl);
-      best = leastOf-first D ks h;
+      attained = given;
+      best = leastOf-first D ks (mem-length (given .1));
       left-from = λ m. m;
       dropped-from = λ m. absurd (List·Memᴰ·not-nil m);
       dropped-over = λ m. absurd (List·Memᴰ·not-nil m);
       apart = λ m d. List·Memᴰ·not-nil d;
     }
 
--- E begins as the distortion of 0, the place of (0,0) in the preference table, where that is a candidate
-pub first-bound : (D : ℕ → ℕ) (p : ℕ → Bool) (n : ℕ) → p 0 ≡ true → start D (pick p (suc n)) .bound ≡ D 0
-unfolding start
-first-bound D p n e = ap D (pick-head p n e .1)
+-- where the candidates are the numbers below n that pass, and 0, the place of (0,0) in the preference table, does: E may begin as its distortion
+pub still-attained : (D : ℕ → ℕ) (p : ℕ → Bool) (n e : ℕ) → p 0 ≡ true → D 0 ≡ e → Attained D (pick p (suc n)) e
+still-attained D p n e passes is = (0, pick-mem p (suc n) (zero-lt-suc n) passes, is)
 
 module _ (D : ℕ → ℕ) (dist : ℕ → ℕ → ℕ) (ks : List ℕ) where
   pub lower-holds : (m : ℕ) (s : Pruning) → Holds D ks s → Holds D ks (lower D dist m s)
@@ -73,7 +76,7 @@ module _ (D : ℕ → ℕ) (dist : ℕ → ℕ → ℕ) (ks : List ℕ) where
       near : ℕ
       near = leastOf (dist m) (s .left)
 
-      either-one : Dec (s .bound ≤ D near) → (k : ℕ) × (k ∈ ks) × (D k ≡ min (s .bound) (D near))
+      either-one : Dec (s .bound ≤ D near) → Attained D ks (min (s .bound) (D near))
       either-one (yes l) = let (k, i, e) = h .attained in (k, i, e ∙ sym (min-eq-left l))
       either-one (no l) = (near, h .left-from (leastOf-mem (dist m) (s .left) (holds-some h)), sym (min-eq-right (le-of-lt (lt-of-not-le l))))
 
@@ -107,21 +110,21 @@ module _ (D : ℕ → ℕ) (dist : ℕ → ℕ → ℕ) (ks : List ℕ) where
       rounds-holds limit ms _ (λ n i. safe n (List·Memᴰ·tail i))
       (sift-holds limit m _ (safe m (List·Memᴰ·head refl)) (lower-holds m s h))
 
--- the candidates ks, at least one, in preference order; every resolution used is safe
-module _ (D : ℕ → ℕ) (dist limit : ℕ → ℕ → ℕ) (N : ℕ) (ms ks : List ℕ) (some : 0 < length ks)
+-- the candidates ks in preference order; E begins as the distortion of one of them, and every resolution used is safe
+module _ (e : ℕ) (D : ℕ → ℕ) (dist limit : ℕ → ℕ → ℕ) (N : ℕ) (ms ks : List ℕ) (given : Attained D ks e)
     (safe : (m : ℕ) → m ∈ N ∷ ms → Safe D dist limit m)
   where
-    pub prune-holds : Holds D ks (prune D dist limit N ms ks)
+    pub prune-holds : Holds D ks (prune e D dist limit N ms ks)
     unfolding prune
     prune-holds =
         rounds-holds D dist ks limit ms _ (λ m i. safe m (List·Memᴰ·tail i))
-        (sift-holds D dist ks limit N _ (safe N (List·Memᴰ·head refl)) (start-holds D ks some))
+        (sift-holds D dist ks limit N _ (safe N (List·Memᴰ·head refl)) (start-holds e D ks given))
 
     -- the answer is the full search's, ties to the earliest included
-    pub pruned-is-full : prunedBest D dist limit N ms ks ≡ leastOf D ks
+    pub pruned-is-full : prunedBest e D dist limit N ms ks ≡ leastOf D ks
     unfolding prunedBest
     pruned-is-full = leastOf-unique (prune-holds .best)
 
     -- every dropped candidate is strictly worse than the answer
-    pub dropped-worse : {k : ℕ} → k ∈ prune D dist limit N ms ks .dropped → D (prunedBest D dist limit N ms ks) < D k
+    pub dropped-worse : {k : ℕ} → k ∈ prune e D dist limit N ms ks .dropped → D (prunedBest e D dist limit N ms ks) < D k
     dropped-worse i = rw pruned-is-full (lt-of-le-of-lt (bound-ge prune-holds) (prune-holds .dropped-over i))

@@ -10,13 +10,13 @@ use native.Mathlib.Omega.{arith}
 use borrow.Author.Tests.{lt-ltb, le-ltb, ltb-false}
 use lib.Dec.{ltb}
 use lib.ListN.{length}
-use Rattle.base.specs.Least.{_∈_, leastOf}
-use Rattle.base.specs.Picks.{pick, BestBelow, pick-head, leastOf-pick}
+use Rattle.base.specs.Least.{_∈_, leastOf, mem-length}
+use Rattle.base.specs.Picks.{pick, BestBelow, leastOf-pick}
 use Rattle.distortion.specs.Blocks.{Block, Measure}
 use Rattle.pruning.specs.Distance.{distortions, distances}
 use Rattle.pruning.specs.Prune.{Pruning, lower, sift, rounds, prune, prunedBest, halves, halvings, resolutions}
 use Rattle.pruning.proofs.Blocks.{Lawful}
-use Rattle.pruning.proofs.Pruned.{Safe, pruned-is-full, dropped-worse}
+use Rattle.pruning.proofs.Pruned.{Attained, Safe, still-attained, pruned-is-full, dropped-worse}
 
 -- ---- the resolutions
 
@@ -99,28 +99,28 @@ pub safe : (μ : Measure) → Lawful μ → (N : ℕ) (a : Block) (b : ℕ → B
     → Safe (distortions μ N a b) (distances μ N a b) (μ .limit) m
 safe μ lawful N a b m h k e l = lawful N m h a (b k) e l
 
--- over candidates ks, at least one, by a lawful measure and at resolutions ms that divide N
-module _ (μ : Measure) (lawful : Lawful μ) (N : ℕ) (a : Block) (b : ℕ → Block) (ms ks : List ℕ)
-    (some : 0 < length ks) (divide : (m : ℕ) → m ∈ N ∷ ms → m ∣ N)
+-- over candidates ks by a lawful measure and at resolutions ms that divide N, E beginning as the distortion e of one of them
+module _ (μ : Measure) (lawful : Lawful μ) (N : ℕ) (a : Block) (b : ℕ → Block) (ms ks : List ℕ) (e : ℕ)
+    (given : Attained (distortions μ N a b) ks e) (divide : (m : ℕ) → m ∈ N ∷ ms → m ∣ N)
   where
     all-safe : (m : ℕ) → m ∈ N ∷ ms → Safe (distortions μ N a b) (distances μ N a b) (μ .limit) m
     all-safe m i = safe μ lawful N a b m (divide m i)
 
     -- its answer is the full search's
-    pub search-is-full : prunedBest (distortions μ N a b) (distances μ N a b) (μ .limit) N ms ks ≡ leastOf (distortions μ N a b) ks
-    search-is-full = pruned-is-full _ _ _ N ms ks some all-safe
+    pub search-is-full : prunedBest e (distortions μ N a b) (distances μ N a b) (μ .limit) N ms ks ≡ leastOf (distortions μ N a b) ks
+    search-is-full = pruned-is-full e _ _ _ N ms ks given all-safe
 
     -- what it drops is strictly worse than its answer
-    pub search-drops : {k : ℕ} → k ∈ prune (distortions μ N a b) (distances μ N a b) (μ .limit) N ms ks .dropped
-        → distortions μ N a b (prunedBest (distortions μ N a b) (distances μ N a b) (μ .limit) N ms ks) < distortions μ N a b k
-    search-drops i = dropped-worse _ _ _ N ms ks some all-safe i
+    pub search-drops : {k : ℕ} → k ∈ prune e (distortions μ N a b) (distances μ N a b) (μ .limit) N ms ks .dropped
+        → distortions μ N a b (prunedBest e (distortions μ N a b) (distances μ N a b) (μ .limit) N ms ks) < distortions μ N a b k
+    search-drops i = dropped-worse e _ _ _ N ms ks given all-safe i
 
--- the same where the candidates are the numbers below n that pass the test p, and 0, the place of (0,0), is one:
+-- the same where the candidates are the numbers below n that pass the test p, and 0, the place of (0,0), is one, of distortion e:
 -- the answer is a candidate, none has a lower distortion, and none before it has the same
-pub search-best : (μ : Measure) → Lawful μ → (N : ℕ) (a : Block) (b : ℕ → Block) (ms : List ℕ) → ((m : ℕ) → m ∈ N ∷ ms → m ∣ N)
-    → (p : ℕ → Bool) (n : ℕ) → p 0 ≡ true
-    → BestBelow (distortions μ N a b) p (suc n) (prunedBest (distortions μ N a b) (distances μ N a b) (μ .limit) N ms (pick p (suc n)))
-search-best μ lawful N a b ms divide p n zero-passes =
-    let some = pick-head p n zero-passes .0 in
-    subst⁻¹ (BestBelow (distortions μ N a b) p (suc n)) (search-is-full μ lawful N a b ms (pick p (suc n)) some divide)
-    (leastOf-pick (distortions μ N a b) p (suc n) some)
+pub search-best : (μ : Measure) → Lawful μ → (N : ℕ) (a : Block) (b : ℕ → Block) (ms : List ℕ) (e : ℕ) → ((m : ℕ) → m ∈ N ∷ ms → m ∣ N)
+    → (p : ℕ → Bool) (n : ℕ) → p 0 ≡ true → distortions μ N a b 0 ≡ e
+    → BestBelow (distortions μ N a b) p (suc n) (prunedBest e (distortions μ N a b) (distances μ N a b) (μ .limit) N ms (pick p (suc n)))
+search-best μ lawful N a b ms e divide p n zero-passes is =
+    let given = still-attained (distortions μ N a b) p n e zero-passes is in
+    subst⁻¹ (BestBelow (distortions μ N a b) p (suc n)) (search-is-full μ lawful N a b ms (pick p (suc n)) e given divide)
+    (leastOf-pick (distortions μ N a b) p (suc n) (mem-length (given .1)))

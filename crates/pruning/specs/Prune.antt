@@ -1,6 +1,6 @@
 -- 01, "The four searches", search 2, step by step, over a list of candidates in preference order.
 --   Pruning       where the search stands: E, the candidates that remain, those dropped, and how many were tested at each m so far
---   start         "Begin with all candidates and E = distortion of (0,0)."
+--   start         "Begin with all candidates and E = distortion of (0,0)": that distortion is e
 --   lower         "find the remaining vector of least distance (equals: preference order), lower E to its distortion if that is less"
 --   sift          "then drop each whose distance exceeds E"
 --   rounds        lower and sift at each of the resolutions ms
@@ -8,13 +8,13 @@
 --   prunedBest    "Measure the rest and choose as full does."
 --   counts        "Each count is how many were tested at that m. Measurements made only for E are not counted."
 --   resolutions   "For m = N/2, then halved each time, down to 2"
--- D k is the distortion of candidate k and dist m k its distance at m. limit m e is how far a distance at m may go for E = e: the measure says it
+-- e is the distortion of (0,0), D k that of candidate k and dist m k its distance at m. limit m e is how far a distance at m may go for E = e: the measure says it
 -- (`limit` of Measure in distortion/specs/Blocks.antt), and for absolute differences it is e.
 use Prim.Native.Nat.{ℕ, zero, suc, _-_, _/_, min}
 use mathlib.Core.Bool.{cond}
 use mathlib.Core.List.{List, [], _∷_, _++_}
 use lib.Dec.{ltb}
-use lib.ListN.{length, getD, replicate}
+use lib.ListN.{length, replicate}
 use Rattle.base.specs.Least.{leastOf}
 use Rattle.pruning.specs.Sift.{kept, over}
 
@@ -28,9 +28,8 @@ pub record Pruning : Type 0 where
   -- how many were tested at each m so far
   pub tested : List ℕ
 
--- the first candidate in preference order is (0,0)
-unfoldable pub start : (D : ℕ → ℕ) → List ℕ → Pruning
-start D ks = record { bound = D (getD ks 0 0); left = ks; dropped = []; tested = [] }
+unfoldable pub start : (e : ℕ) → List ℕ → Pruning
+start e ks = record { bound = e; left = ks; dropped = []; tested = [] }
 
 unfoldable pub lower : (D : ℕ → ℕ) (dist : ℕ → ℕ → ℕ) → ℕ → Pruning → Pruning
 lower D dist m s =
@@ -49,11 +48,11 @@ unfoldable pub rounds : (D : ℕ → ℕ) (dist limit : ℕ → ℕ → ℕ) →
 rounds D dist limit [] s = s
 rounds D dist limit (m ∷ ms) s = rounds D dist limit ms (sift dist limit m (lower D dist m s))
 
-unfoldable pub prune : (D : ℕ → ℕ) (dist limit : ℕ → ℕ → ℕ) (N : ℕ) (ms ks : List ℕ) → Pruning
-prune D dist limit N ms ks = rounds D dist limit ms (sift dist limit N (start D ks))
+unfoldable pub prune : (e : ℕ) (D : ℕ → ℕ) (dist limit : ℕ → ℕ → ℕ) (N : ℕ) (ms ks : List ℕ) → Pruning
+prune e D dist limit N ms ks = rounds D dist limit ms (sift dist limit N (start e ks))
 
-unfoldable pub prunedBest : (D : ℕ → ℕ) (dist limit : ℕ → ℕ → ℕ) (N : ℕ) (ms ks : List ℕ) → ℕ
-prunedBest D dist limit N ms ks = leastOf D (prune D dist limit N ms ks .left)
+unfoldable pub prunedBest : (e : ℕ) (D : ℕ → ℕ) (dist limit : ℕ → ℕ → ℕ) (N : ℕ) (ms ks : List ℕ) → ℕ
+prunedBest e D dist limit N ms ks = leastOf D (prune e D dist limit N ms ks .left)
 
 -- "five counts, for m = 16, 8, 4, 2, 1. Unused ones are 0": the last is how many were finally measured
 unfoldable pub counts : Pruning → List ℕ

@@ -1,9 +1,11 @@
 -- `begin`: (0,0) is a candidate, and N has its first count.
-use mathlib.Core.Path.{refl}
+use mathlib.Core.Path.{refl, ap, _∙_}
 use native.Mathlib.Omega.{arith}
 use denote.Ref.{now}
 use Rattle.base.specs.Tests.{true-T}
+use Rattle.order.proofs.Order.{first-still}
 use Rattle.frame.specs.Pictures.{pairOf}
+use Rattle.distortion.specs.Blocks.{distortion}
 use Rattle.search.proofs.Exhaustive.{still-passes}
 use Rattle.remaining.specs.Gathered.{passes}
 use Rattle.pruned.proofs.begin.Statement.{statement}
@@ -21,7 +23,8 @@ first-slot-requires c κs = c .before .before .before .before .pre .0 .placed .p
 returns : tie.Need-returns
 returns c =
     let e = c .before .before .distortion-of .ensures in
-    record { bound = e .0 .below (e .1); count = refl; slot = c .first-slot .ensures; counts = refl }
+    let a = c .before .before .before .before .before .args in
+    record { bound = e .0 .below (e .1) ∙ ap (distortion (pairOf (now (a .older)) (now (a .newer)) (a .b .sizes)) (a .b .y) (a .b .x)) first-still; count = refl; slot = c .first-slot .ensures; counts = refl }
 
 pub begin-spec : {M : Type 1} → statement M
 begin-spec = tie.close (tie.spec distortion-of-requires first-slot-requires returns)

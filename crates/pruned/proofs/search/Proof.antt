@@ -1,19 +1,22 @@
 -- `search`: what is in memory follows the steps, and the rounds ahead lead to their end.
 use Prim.Native.Nat.{_≤_}
 use mathlib.Core.List.{List·Memᴰ·tail}
-use mathlib.Core.Path.{_≡_, refl, sym, _∙_}
+use mathlib.Core.Path.{_≡_, refl, sym, ap, _∙_}
 use native.Mathlib.Nat.{dvd-refl, div-mul-cancel}
 use native.Mathlib.Omega.{arith}
 use borrow.Author.Needs.{needs}
 use lib.ListN.{length}
 use denote.Ref.{now}
 use Rattle.base.specs.Picks.{pick}
+use Rattle.order.proofs.Order.{first-still}
 use Rattle.frame.specs.Pictures.{pairOf}
 use Rattle.squares.specs.Squares.{OwnSums}
 use Rattle.sums.specs.Area.{sums-of}
 use Rattle.search.proofs.Exhaustive.{still-passes}
+use Rattle.distortion.specs.Blocks.{distortion}
+use Rattle.pruning.proofs.Pruned.{still-attained}
 use Rattle.pruning.proofs.Search.{resolutions-divide}
-use Rattle.pruned.specs.Answer.{pruning, chosen, prunedFound}
+use Rattle.pruned.specs.Answer.{stillAt, pruning, chosen, prunedFound}
 use Rattle.distance.specs.Remaining.{distanceOf}
 use Rattle.remaining.specs.Gathered.{passes}
 use Rattle.full.specs.Full.{distortionOf}
@@ -25,7 +28,7 @@ use Rattle.pruned.proofs.search.Tie as tie
 
 abbrev Inv-loop : tie.InvT-loop
 Inv-loop older newer order b sums a alive₀ dist₀ n own total r₀ m₀ alive dist r m =
-    Going (distortionOf older newer b) (distanceOf older newer b) (b .sizes .n) (passes b) m alive dist r × (length (pick (passes b) 1089) ≡ total)
+    Going (stillAt (pairOf older newer (b .sizes)) (b .y) (b .x)) (distortionOf older newer b) (distanceOf older newer b) (b .sizes .n) (passes b) m alive dist r × (length (pick (passes b) 1089) ≡ total)
 
 abbrev μ-loop : tie.MeasureT-loop
 μ-loop older newer order b sums a alive₀ dist₀ n own total r₀ m₀ alive dist r m = m
@@ -96,8 +99,9 @@ loop-holds c =
     let d = filled-is _ _ _ _ _ (c .before .before .before .fill-distances .ensures) refl (gathered-few _ a) in
     let r = s .pre .0 .ready in
     let p = pairOf (now (s .args .older)) (now (s .args .newer)) (s .args .b .sizes) in (
-      going-start _ _ _ (still-passes p _ _ _ (r .window) (r .placed .down) (r .placed .across)) refl a f _
-          (λ h e. c .sifted .ensures _ _ _ _ h e (rw (f .count) d)) (d .long) (safe-at p _ _ _ (dvd-refl _))
+      going-start _ _ _ _ refl a f _
+          (λ h e. c .sifted .ensures _ _ _ _ h e (rw (f .count) d)) (d .long)
+          (still-attained _ _ _ _ (still-passes p _ _ _ (r .window) (r .placed .down) (r .placed .across)) (ap (distortion p _ _) first-still)) (safe-at p _ _ _ (dvd-refl _))
           (λ i k. resolutions-divide _ (listed-power _ (r .placed .paired .allowed)) i (List·Memᴰ·tail k)),
       sym (a .many),
     )
