@@ -21,7 +21,7 @@ use Rattle.sums.specs.declared.Window.{Window}
 use Rattle.distance.specs.declared.Origin.{Origin}
 use Rattle.reach.specs.Reach.{Standing, reachOf}
 use Rattle.reach.proofs.Windows.{ready-standing, ready-size}
-use Rattle.squares.specs.Squares.{Cut, gapAt, Compared}
+use Rattle.squares.specs.Squares.{mostSquares, Cut, gapAt, Compared}
 use Rattle.search.specs.Weighing.{Past, candidate-past}
 use Rattle.distance.specs.Remaining.{placeOf, Reached, distanceOf, Tested}
 use Rattle.squares.proofs.Cuts.{squares-few, compared, distance-is}
@@ -108,7 +108,7 @@ module _ (older newer : List ℕ) (b : Spot) (sums : List ℕ) (a : Window) (m :
         size-of zero h = absurd (omega (arith, zero-mul m, t .ready .placed .paired .fitting .some))
         size-of (suc q) h = omega (arith, suc-mul q m, size)
 
-    pub few-squares : k * k ≤ 64
+    pub few-squares : k * k ≤ mostSquares
     few-squares = squares-few k m (t .two) (rw whole size)
 
     abbrev number : ℕ → ℕ

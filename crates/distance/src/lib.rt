@@ -153,8 +153,8 @@ pub fn fill_distances(
     let x = b.x;
     let k = s.n / m;
     let stride = a.columns + 1;
-    let mut block = [0u32; 64];
-    let mut steps = [0usize; 64];
+    let mut block = [0u32; squares::MOST_SQUARES];
+    let mut steps = [0usize; squares::MOST_SQUARES];
     squares::cut(newer, b, own, m, k, stride, &mut block, &mut steps);
     if count <= 256 {
         let top = a.top;

@@ -11,7 +11,7 @@ use Rattle.frame.specs.Refusals.{listed, listed-elim}
 use Rattle.distortion.specs.Blocks.{absolute, distortion, newerBlock, olderBlock}
 use Rattle.search.specs.declared.Spot.{Spot}
 use Rattle.search.specs.Weighing.{Ready}
-use Rattle.sums.specs.Filling.{Fillable}
+use Rattle.sums.specs.Filling.{ownTable, Fillable}
 use Rattle.reach.proofs.Windows.{ready-standing, ready-size}
 use Rattle.squares.specs.Squares.{ownWindow}
 use Rattle.pruning.proofs.Blocks.{absolute-lawful}
@@ -19,7 +19,7 @@ use Rattle.pruning.proofs.Pruned.{Safe}
 use Rattle.pruning.proofs.Search.{PowerOfTwo, safe}
 use Rattle.pruned.specs.Answer.{distortionAt, distanceAt}
 
-pub own-fillable : (older newer : List ℕ) (b : Spot) → Ready older newer b → Fillable newer (b .sizes .width) (ownWindow b) 289
+pub own-fillable : (older newer : List ℕ) (b : Spot) → Ready older newer b → Fillable newer (b .sizes .width) (ownWindow b) ownTable
 own-fillable older newer b r =
     let s = ready-standing older newer b r in
     let n = ready-size older newer b r in

@@ -212,7 +212,7 @@ pub fn search(
     let mut dist = [0u32; 1089];
     let s = b.sizes;
     let n = s.n;
-    let mut own = [0u32; 289];
+    let mut own = [0u32; sums::OWN_TABLE];
     sums::fill_sums(newer, s.width, squares::own_window(b), &mut own);
     let total = remaining::gather(order, b, &mut alive);
     let first = begin(older, newer, order, b, total);

@@ -7,7 +7,7 @@ use lib.ListN.{length}
 use Rattle.frame.specs.Refusals.{listed-elim}
 use Rattle.search.specs.declared.Spot.{Spot}
 use Rattle.search.specs.Weighing.{Ready}
-use Rattle.sums.specs.Filling.{Fillable}
+use Rattle.sums.specs.Filling.{windowTable, Fillable}
 use Rattle.reach.specs.Reach.{Standing, windowOf, wholeFrame, Covers}
 
 pub covers-frame : (b : Spot) → Covers b (wholeFrame (b .sizes))
@@ -33,7 +33,7 @@ covers-window b s = record {
 
 -- room for N + 2 w ≤ 48 rows and columns
 pub window-fillable : (older : List ℕ) (b : Spot) → Standing b → b .sizes .n ≤ 16 → b .sizes .height * b .sizes .width ≤ length older
-    → Fillable older (b .sizes .width) (windowOf b) 2401
+    → Fillable older (b .sizes .width) (windowOf b) windowTable
 unfolding windowOf
 window-fillable older b s n h =
     let v = covers-window b s in

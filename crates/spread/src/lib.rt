@@ -8,7 +8,7 @@ ghost use Rattle.base.specs.Sum.{sumTo};
 ghost use Rattle.base.specs.Lists.{fillTo};
 ghost use Rattle.base.specs.Rows.{grid};
 ghost use Rattle.signed.specs.Values.{absDiff};
-ghost use Rattle.squares.specs.Squares.{looked, Looked, gapAt, Compared, IsDistance};
+ghost use Rattle.squares.specs.Squares.{largestSquareSum, mostSquares, looked, Looked, gapAt, Compared, IsDistance};
 ghost use Rattle.spread.specs.Spread.{raised};
 
 // Adds the differences at one square to `columns` places from `from` on.
@@ -22,8 +22,8 @@ fn add_run(
     part: &mut [u32],
     from: usize,
 )
-    requires { ⌜ (value ≤ 65280) × (from + columns ≤ length (now part)) ⌝ }
-    requires { ⌜ ((c : ℕ) → c < columns → Looked (now sums) low m (at + c) × (getD (now part) (from + c) 0 ≤ 4177920)) ⌝ }
+    requires { ⌜ (value ≤ largestSquareSum) × (from + columns ≤ length (now part)) ⌝ }
+    requires { ⌜ ((c : ℕ) → c < columns → Looked (now sums) low m (at + c) × (getD (now part) (from + c) 0 ≤ mostSquares * largestSquareSum)) ⌝ }
     ensures { λ _. ⌜ now (part .exit) ≡ fillTo (now (part .entry)) from (λ c. getD (now (part .entry)) (from + c) 0 + absDiff value (looked (now (sums .entry)) low m (at + c))) columns ⌝ }
 {
     let mut c: usize = 0;
@@ -45,8 +45,8 @@ fn add_square(
     columns: usize,
     part: &mut [u32],
 )
-    requires { ⌜ (value ≤ 65280) × (0 < columns) × (rows * columns ≤ length (now part)) × (stride ≤ 1025) ⌝ }
-    requires { ⌜ ((i j : ℕ) → i < rows → j < columns → Looked (now sums) low m (at + i * stride + j) × (getD (now part) (i * columns + j) 0 ≤ 4177920)) ⌝ }
+    requires { ⌜ (value ≤ largestSquareSum) × (0 < columns) × (rows * columns ≤ length (now part)) × (stride ≤ 1025) ⌝ }
+    requires { ⌜ ((i j : ℕ) → i < rows → j < columns → Looked (now sums) low m (at + i * stride + j) × (getD (now part) (i * columns + j) 0 ≤ mostSquares * largestSquareSum)) ⌝ }
     ensures { λ _. ⌜ now (part .exit) ≡ grid (raised (λ i j. absDiff value (looked (now (sums .entry)) low m (at + i * stride + j))) columns (now (part .entry))) rows columns ++ drop (rows * columns) (now (part .entry)) ⌝ }
 {
     let mut i: usize = 0;

@@ -12,8 +12,9 @@ use Rattle.base.specs.Rows.{length-grid, grid-at}
 use Rattle.distortion.specs.Blocks.{Block, absolute}
 use Rattle.pruning.specs.Distance.{squareSum, distanceBy}
 use Rattle.sums.specs.Area.{SumsOf}
+use Rattle.sums.specs.Filling.{largestN}
 use Rattle.sums.specs.Square.{squareAt, leftSum, Square, squared}
-use Rattle.squares.specs.Squares.{looked, Looked, IsSquare, squareSums, squareSteps, Cut, gapAt, Compared, IsDistance}
+use Rattle.squares.specs.Squares.{largestSquareSum, mostSquares, looked, Looked, IsSquare, squareSums, squareSteps, Cut, gapAt, Compared, IsDistance}
 
 -- what holds at each place of k rows of k holds at each number below k * k
 by-rows : (P : ℕ → Type 0) (k : ℕ) → ((p q : ℕ) → p < k → q < k → P (p * k + q)) → (s : ℕ) → s < k * k → P s
@@ -26,11 +27,11 @@ by-rows P k h s l =
     positive zero h = absurd (omega (arith, zero-mul 0))
     positive (suc n) h = omega arith
 
--- at most 8 rows of squares of at least 2 × 2 pels
-pub squares-few : (k m : ℕ) → 2 ≤ m → k * m ≤ 16 → k * k ≤ 64
+-- so many rows of squares of at least 2 × 2 pels
+pub squares-few : (k m : ℕ) → 2 ≤ m → k * m ≤ largestN → k * k ≤ mostSquares
 squares-few k m two h =
-    let eight : k * 2 ≤ k * m = mul-le-mul (le-refl k) two in
-    mul-le-mul {n₂ = 8} {m₂ = 8} (omega arith) (omega arith)
+    let half : k * 2 ≤ k * m = mul-le-mul (le-refl k) two in
+    mul-le-mul {n₂ = largestN / 2} {m₂ = largestN / 2} (omega arith) (omega arith)
 
 -- ---- the four look-ups
 
@@ -45,10 +46,10 @@ unfolding squareSum squareAt
 square-within g m r c p q = sumOver-ext m m _ _ (λ i j hi hj. ap₂ g (add-assoc r (p * m) i) (add-assoc c (q * m) j))
 
 -- m × m bytes
-square-small : (g : Block) (m r c : ℕ) → ((i j : ℕ) → g i j ≤ 255) → m ≤ 16 → squareAt g m r c ≤ 65280
+square-small : (g : Block) (m r c : ℕ) → ((i j : ℕ) → g i j ≤ 255) → m ≤ largestN → squareAt g m r c ≤ largestSquareSum
 unfolding squareAt
 square-small g m r c b h =
-    let k : m * (m * 255) ≤ 16 * (16 * 255) = mul-le-mul {n₂ = 16} {m₂ = 16 * 255} h (omega arith) in
+    let k : m * (m * 255) ≤ largestSquareSum = mul-le-mul {n₂ = largestN} {m₂ = largestN * 255} h (omega arith) in
     omega (arith, sumOver-bound 255 m m (λ i j. g (r + i) (c + j)) (λ i j hi hj. b _ _))
 
 -- at the square's own row and column
@@ -76,7 +77,7 @@ module _ (g : Block) (rows columns : ℕ) (sums : List ℕ) (t : SumsOf g rows c
   look-is = omega (arith, left, right)
 
   -- of bytes
-  look-asks : ((i j : ℕ) → g i j ≤ 255) → m ≤ 16 → Looked sums low m at
+  look-asks : ((i j : ℕ) → g i j ≤ 255) → m ≤ largestN → Looked sums low m at
   unfolding looked
   look-asks b sixteen = record {
     inside = omega (arith, here .low, here .across, lower);
@@ -120,13 +121,13 @@ module _ (a g : Block) (rows columns m k : ℕ) (block steps sums : List ℕ) (t
         ∙ rw (mul-div-cancel k some)
         (sumOver-ext k k _ _ (λ p q hp hq. rw (cut .sum p q hp hq, at-square p q hp hq, square-within) refl))
 
-    -- of bytes, and N at most 16: the numbers fit the code's
-    pub compared : ((i j : ℕ) → a i j ≤ 255) → ((i j : ℕ) → g i j ≤ 255) → 2 ≤ m → k * m ≤ 16 → Compared block steps sums (m * (columns + 1)) m (k * k) (corner r c)
+    -- of bytes, and N at most the largest: the numbers fit the code's
+    pub compared : ((i j : ℕ) → a i j ≤ 255) → ((i j : ℕ) → g i j ≤ 255) → 2 ≤ m → k * m ≤ largestN → Compared block steps sums (m * (columns + 1)) m (k * k) (corner r c)
     compared ab gb two sixteen = record {
       few = squares-few k m two sixteen;
       sums-long = cut .sums-long;
       steps-long = cut .steps-long;
-      small = by-rows (λ s. getD block s 0 ≤ 65280) k (λ p q hp hq. rw (cut .sum p q hp hq, square-is) (square-small a m _ _ ab (omega (arith, row-fits p k m hp))));
+      small = by-rows (λ s. getD block s 0 ≤ largestSquareSum) k (λ p q hp hq. rw (cut .sum p q hp hq, square-is) (square-small a m _ _ ab (omega (arith, row-fits p k m hp))));
       each = by-rows (λ s. Looked sums (m * (columns + 1)) m (corner r c + getD steps s 0)) k (λ p q hp hq.
           rw (cut .step p q hp hq, square-place p q)
           (look-asks g rows columns sums t m (r + p * m) (c + q * m) (omega (arith, row-fits p k m hp)) (omega (arith, row-fits q k m hq)) gb (omega (arith, row-fits p k m hp))));

@@ -1,6 +1,7 @@
 -- 01, "The four searches", search 2: "Cut a block into m × m squares; its distance at m is the sum over squares of the absolute difference of
 -- pel sums." How that is worked out over the summed-area table: the newer block's squares one behind the other, row by row, and each older square
 -- by four look-ups, its place in the table told from the place of the older block's corner.
+--   largestSquareSum   the largest sum of a square's pels; mostSquares: how many squares of at least 2 × 2 pels a block has
 --   looked       the sum of the square at a place of the table; Looked: what the four look-ups ask
 --   IsSquare     r is that sum: wherever the table is a part's and the place a square's in it, r is the square's pel sum
 --   ownWindow    the newer block as a part of its frame; OwnSums: a summed-area table of that part
@@ -9,7 +10,7 @@
 --   gapAt        the absolute difference at square s
 --   Compared     what working out the differences at all squares asks
 --   IsDistance   r is their sum: wherever the squares are a block's and the place an older block's corner, r is the distance of the two
-use Prim.Native.Nat.{ℕ, _+_, _-_, _*_, _≤_, _<_}
+use Prim.Native.Nat.{ℕ, _+_, _-_, _*_, _/_, _≤_, _<_}
 use mathlib.Core.Path.{_≡_}
 use mathlib.Core.List.{List}
 use lib.ListN.{length, getD}
@@ -20,7 +21,14 @@ use Rattle.pruning.specs.Distance.{squareSum, distanceBy}
 use Rattle.search.specs.declared.Spot.{Spot}
 use Rattle.sums.specs.declared.Window.{Window}
 use Rattle.sums.specs.Area.{SumsOf}
+use Rattle.sums.specs.Filling.{largestN}
 use Rattle.sums.specs.Square.{squareAt}
+
+abbrev pub largestSquareSum : ℕ
+largestSquareSum = largestN * (largestN * 255)
+
+abbrev pub mostSquares : ℕ
+mostSquares = (largestN / 2) * (largestN / 2)
 
 -- the square's lower corner stands `low` places behind its upper one
 unfoldable pub looked : List ℕ → ℕ → ℕ → ℕ → ℕ
@@ -31,7 +39,7 @@ pub record Looked (sums : List ℕ) (low m at : ℕ) : Type 0 where
   pub left : getD sums at 0 ≤ getD sums (at + low) 0
   pub right : getD sums (at + m) 0 ≤ getD sums (at + low + m) 0
   pub wider : getD sums (at + low) 0 - getD sums at 0 ≤ getD sums (at + low + m) 0 - getD sums (at + m) 0
-  pub small : looked sums low m at ≤ 65280
+  pub small : looked sums low m at ≤ largestSquareSum
 
 abbrev pub IsSquare : List ℕ → ℕ → ℕ → ℕ → ℕ → Type 0
 IsSquare sums low m at r =
@@ -61,10 +69,10 @@ gapAt block steps sums low m at s = absDiff (getD block s 0) (looked sums low m 
 
 -- for `count` squares, the older block's corner at place `at`
 pub record Compared (block steps sums : List ℕ) (low m count at : ℕ) : Type 0 where
-  pub few : count ≤ 64
+  pub few : count ≤ mostSquares
   pub sums-long : count ≤ length block
   pub steps-long : count ≤ length steps
-  pub small : (s : ℕ) → s < count → getD block s 0 ≤ 65280
+  pub small : (s : ℕ) → s < count → getD block s 0 ≤ largestSquareSum
   pub each : (s : ℕ) → s < count → Looked sums low m (at + getD steps s 0)
 
 -- k × k squares of m × m pels, of the block a and of the block whose corner stands at row y and column x of g

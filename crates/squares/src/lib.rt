@@ -10,14 +10,18 @@ ghost use Rattle.signed.specs.Values.{absDiff};
 ghost use Rattle.distortion.specs.Blocks.{blockAt};
 ghost use Rattle.pruning.specs.Distance.{squareSum};
 ghost use Rattle.sums.specs.Area.{SumsOf};
-ghost use Rattle.squares.specs.Squares.{looked, Looked, IsSquare, ownWindow, OwnSums, squareSums, squareSteps, gapAt, Compared, IsDistance};
+ghost use Rattle.sums.specs.Filling.{largestN};
+ghost use Rattle.squares.specs.Squares.{largestSquareSum, looked, Looked, IsSquare, ownWindow, OwnSums, squareSums, squareSteps, gapAt, Compared, IsDistance};
 use search::Spot;
 use sums::Window;
+
+// How many squares of at least 2 × 2 pels a block has.
+pub const MOST_SQUARES: usize = (sums::LARGEST_N / 2) * (sums::LARGEST_N / 2);
 
 // The sum of the square at place `at` of the table, by four look-ups.
 pub fn look(sums: &[u32], low: usize, m: usize, at: usize) -> u32
     requires { ⌜ Looked (now sums) low m at ⌝ }
-    ensures { λ r. ⌜ (r ≡ looked (now (sums .entry)) low m at) × (r ≤ 65280) × IsSquare (now (sums .entry)) low m at r ⌝ }
+    ensures { λ r. ⌜ (r ≡ looked (now (sums .entry)) low m at) × (r ≤ largestSquareSum) × IsSquare (now (sums .entry)) low m at r ⌝ }
 {
     let right = sums[at + low + m] - sums[at + m];
     let beside = sums[at + low] - sums[at];
@@ -38,7 +42,7 @@ fn cut_row(
     block: &mut [u32],
     steps: &mut [usize],
 )
-    requires { ⌜ SumsOf (blockAt (now newer) width (a .top) (a .left)) (a .rows) (a .columns) (now own) × (k * m ≤ a .rows) × (k * m ≤ a .columns) × (a .rows ≤ 16) × (a .columns ≤ 16) × (stride ≤ 1025) × (p < k) ⌝ }
+    requires { ⌜ SumsOf (blockAt (now newer) width (a .top) (a .left)) (a .rows) (a .columns) (now own) × (k * m ≤ a .rows) × (k * m ≤ a .columns) × (a .rows ≤ largestN) × (a .columns ≤ largestN) × (stride ≤ 1025) × (p < k) ⌝ }
     requires { ⌜ (from + k ≤ length (now block)) × (from + k ≤ length (now steps)) ⌝ }
     ensures { λ _. ⌜ (now (block .exit) ≡ fillTo (now (block .entry)) from (λ q. squareSum (blockAt (now (newer .entry)) width (a .top) (a .left)) m p q) k) × (now (steps .exit) ≡ fillTo (now (steps .entry)) from (λ q. p * m * stride + q * m) k) ⌝ }
 {
@@ -64,7 +68,7 @@ fn cut_block(
     block: &mut [u32],
     steps: &mut [usize],
 )
-    requires { ⌜ SumsOf (blockAt (now newer) width (a .top) (a .left)) (a .rows) (a .columns) (now own) × (k * m ≤ a .rows) × (k * m ≤ a .columns) × (a .rows ≤ 16) × (a .columns ≤ 16) × (stride ≤ 1025) ⌝ }
+    requires { ⌜ SumsOf (blockAt (now newer) width (a .top) (a .left)) (a .rows) (a .columns) (now own) × (k * m ≤ a .rows) × (k * m ≤ a .columns) × (a .rows ≤ largestN) × (a .columns ≤ largestN) × (stride ≤ 1025) ⌝ }
     requires { ⌜ (k * k ≤ length (now block)) × (k * k ≤ length (now steps)) ⌝ }
     ensures { λ _. ⌜ (now (block .exit) ≡ squareSums (blockAt (now (newer .entry)) width (a .top) (a .left)) m k ++ drop (k * k) (now (block .entry))) × (now (steps .exit) ≡ squareSteps m k stride ++ drop (k * k) (now (steps .entry))) ⌝ }
 {
@@ -104,7 +108,7 @@ pub fn cut(
     block: &mut [u32],
     steps: &mut [usize],
 )
-    requires { ⌜ OwnSums (now newer) b (now own) × (b .sizes .n ≤ 16) × (k * m ≡ b .sizes .n) × (stride ≤ 1025) ⌝ }
+    requires { ⌜ OwnSums (now newer) b (now own) × (b .sizes .n ≤ largestN) × (k * m ≡ b .sizes .n) × (stride ≤ 1025) ⌝ }
     requires { ⌜ (k * k ≤ length (now block)) × (k * k ≤ length (now steps)) ⌝ }
     ensures { λ _. ⌜ (now (block .exit) ≡ squareSums (blockAt (now (newer .entry)) (b .sizes .width) (b .y) (b .x)) m k ++ drop (k * k) (now (block .entry))) × (now (steps .exit) ≡ squareSteps m k stride ++ drop (k * k) (now (steps .entry))) ⌝ }
 {

@@ -1,12 +1,12 @@
 -- `add_run`: after c turns the first c places have their difference added (`Raising`).
-use Prim.Native.Nat.{_+_, _-_, _≤_}
+use Prim.Native.Nat.{_+_, _-_, _*_, _≤_}
 use mathlib.Core.Path.{_≡_}
 use native.Mathlib.Omega.{arith}
 use borrow.Author.Needs.{needs}
 use denote.Ref.{now}
 use lib.ListN.{getD}
 use Rattle.signed.specs.Values.{absDiff}
-use Rattle.squares.specs.Squares.{looked, Looked}
+use Rattle.squares.specs.Squares.{largestSquareSum, mostSquares, looked, Looked}
 use Rattle.spread.proofs.Adding.{Raising, raising-none, raising-read, raising-step}
 use Rattle.spread.proofs.add_run.Statement.{statement}
 use Rattle.spread.proofs.add_run.Tie as tie
@@ -23,7 +23,7 @@ abbrev μ-loop : tie.MeasureT-loop
 -- the square of a turn, and the place that its difference is added to
 here : (b : tie.In-loop Inv-loop μ-loop) →
     let a = b .before .before .before .before .args in
-    Looked (now (a .sums)) (a .low) (a .m) (a .at + b .before .loop .c) × (getD (b .before .loop .part) (a .from + b .before .loop .c) 0 ≤ 4177920)
+    Looked (now (a .sums)) (a .low) (a .m) (a .at + b .before .loop .c) × (getD (b .before .loop .part) (a .from + b .before .loop .c) 0 ≤ mostSquares * largestSquareSum)
 here b =
     let l = b .before .loop in
     let s = b .before .before .before .before in
@@ -35,8 +35,8 @@ turn : (c : tie.After-gap Inv-loop μ-loop) →
     let b = c .before .before .before in
     let a = b .before .before .before .before .args in
     (c .gap .result ≡ absDiff (a .value) (looked (now (a .sums)) (a .low) (a .m) (a .at + b .before .loop .c)))
-    × (c .gap .result ≤ 65280)
-    × (getD (b .before .loop .part) (a .from + b .before .loop .c) 0 ≤ 4177920)
+    × (c .gap .result ≤ largestSquareSum)
+    × (getD (b .before .loop .part) (a .from + b .before .loop .c) 0 ≤ mostSquares * largestSquareSum)
 turn c =
     let b = c .before .before .before in
     let s = b .before .before .before .before in

@@ -6,7 +6,7 @@ use borrow.Author.Needs.{needs}
 use denote.Ref.{now}
 use lib.ListN.{getD}
 use Rattle.signed.specs.Values.{absDiff}
-use Rattle.squares.specs.Squares.{looked, Looked}
+use Rattle.squares.specs.Squares.{largestSquareSum, mostSquares, looked, Looked}
 use Rattle.spread.proofs.Adding.{Adding, adding-none, adding-read, adding-room, adding-step}
 use Rattle.spread.proofs.add_square.Statement.{statement}
 use Rattle.spread.proofs.add_square.Tie as tie
@@ -22,7 +22,7 @@ abbrev μ-loop : tie.MeasureT-loop
 row : (b : tie.In-loop Inv-loop μ-loop) →
     let a = b .before .before .before .before .args in
     let l = b .before .loop in
-    (c : ℕ) → c < a .columns → Looked (now (a .sums)) (a .low) (a .m) (l .here + c) × (getD (l .part) (l .from + c) 0 ≤ 4177920)
+    (c : ℕ) → c < a .columns → Looked (now (a .sums)) (a .low) (a .m) (l .here + c) × (getD (l .part) (l .from + c) 0 ≤ mostSquares * largestSquareSum)
 row b c h =
     let l = b .before .loop in
     let s = b .before .before .before .before in

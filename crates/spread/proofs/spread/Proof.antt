@@ -1,4 +1,4 @@
--- `spread`: after s turns each place holds the sum of the differences at the first s squares (`Rowed`), each at most 65,280.
+-- `spread`: after s turns each place holds the sum of the differences at the first s squares (`Rowed`), each at most a square's largest sum.
 use Prim.Native.Nat.{ℕ, _+_, _-_, _*_, _≤_, _<_}
 use mathlib.Core.Path.{_≡_, sym, ap}
 use native.Mathlib.Nat.{zero-mul, mul-le-mul}
@@ -9,7 +9,7 @@ use lib.ListN.{length, getD}
 use Rattle.base.specs.Sum.{sumTo, sumTo-bound}
 use Rattle.base.specs.Rows.{Rowed, grid-at}
 use Rattle.signed.specs.Values.{absDiff}
-use Rattle.squares.specs.Squares.{looked, Looked, gapAt, Compared}
+use Rattle.squares.specs.Squares.{largestSquareSum, mostSquares, looked, Looked, gapAt, Compared}
 use Rattle.squares.proofs.Cuts.{is-distance}
 use Rattle.spread.proofs.Adding.{summed-none, summed-step}
 use Rattle.spread.proofs.spread.Statement.{statement}
@@ -40,13 +40,13 @@ square : (b : tie.In-loop Inv-loop μ-loop) →
     let a = b .before .before .before .before .before .before .args in
     let l = b .before .loop in
     (i j : ℕ) → i < a .rows → j < a .columns →
-    Looked (now (a .sums)) (a .low) (a .m) (a .at + getD (now (a .steps)) (l .s) 0 + i * a .stride + j) × (getD (l .part) (i * a .columns + j) 0 ≤ 4177920)
+    Looked (now (a .sums)) (a .low) (a .m) (a .at + getD (now (a .steps)) (l .s) 0 + i * a .stride + j) × (getD (l .part) (i * a .columns + j) 0 ≤ mostSquares * largestSquareSum)
 square b i j hi hj =
     let l = b .before .loop in
     let s = b .before .before .before .before .before .before in
     let p = s .pre .1 i j hi hj .0 in
-    let few : l .s * 65280 ≤ 64 * 65280 = mul-le-mul {n₂ = 64} {m₂ = 65280} (omega (arith, p .few)) (omega arith) in
-    let each = sumTo-bound 65280 (gapAt (now (s .args .block)) (now (s .args .steps)) (now (s .args .sums)) (s .args .low) (s .args .m) (s .args .at + i * s .args .stride + j)) (l .s)
+    let few : l .s * largestSquareSum ≤ mostSquares * largestSquareSum = mul-le-mul {n₂ = mostSquares} {m₂ = largestSquareSum} (omega (arith, p .few)) (omega arith) in
+    let each = sumTo-bound largestSquareSum (gapAt (now (s .args .block)) (now (s .args .steps)) (now (s .args .sums)) (s .args .low) (s .args .m) (s .args .at + i * s .args .stride + j)) (l .s)
     (λ k h. let t : k < s .args .count = omega arith in omega (arith, p .small k t, p .each k t .small)) in
     (rw (moved b i j) at (p .each (l .s) (b .loop-test .taken)), rw (l .inv .1 .filled, grid-at _ _ _ i j _ hi hj) (omega (arith, each, few)))
 

@@ -1,4 +1,4 @@
--- `distance_from`: the sum so far is that of the differences at the first s squares, each at most 65,280.
+-- `distance_from`: the sum so far is that of the differences at the first s squares, each at most a square's largest sum.
 use Prim.Native.Nat.{_+_, _-_, _*_, _≤_}
 use mathlib.Core.Path.{_≡_, sym}
 use native.Mathlib.Omega.{arith}
@@ -6,14 +6,14 @@ use borrow.Author.Needs.{needs}
 use denote.Ref.{now}
 use lib.ListN.{getD}
 use Rattle.base.specs.Sum.{sumTo, sumTo-none, sumTo-more}
-use Rattle.squares.specs.Squares.{gapAt, Looked}
+use Rattle.squares.specs.Squares.{largestSquareSum, gapAt, Looked}
 use Rattle.squares.proofs.Cuts.{is-distance}
 use Rattle.squares.proofs.distance_from.Statement.{statement}
 use Rattle.squares.proofs.distance_from.Tie as tie
 
 abbrev Inv-loop : tie.InvT-loop
 Inv-loop block steps sums low m count at sum₀ s₀ sum s =
-    (s ≤ count) × (sum ≤ 65280 * s) × (sum ≡ sumTo (gapAt block steps sums low m at) s)
+    (s ≤ count) × (sum ≤ largestSquareSum * s) × (sum ≡ sumTo (gapAt block steps sums low m at) s)
 
 abbrev μ-loop : tie.MeasureT-loop
 μ-loop block steps sums low m count at sum₀ s₀ sum s = count - s
@@ -28,7 +28,7 @@ here b = b .before .before .before .before .before .pre .each (b .before .loop .
 turn : (c : tie.After-gap Inv-loop μ-loop) →
     let b = c .before .before .before .before in
     let a = b .before .before .before .before .before .args in
-    (c .gap .result ≡ gapAt (now (a .block)) (now (a .steps)) (now (a .sums)) (a .low) (a .m) (a .at) (b .before .loop .s)) × (c .gap .result ≤ 65280)
+    (c .gap .result ≡ gapAt (now (a .block)) (now (a .steps)) (now (a .sums)) (a .low) (a .m) (a .at) (b .before .loop .s)) × (c .gap .result ≤ largestSquareSum)
 turn c =
     let b = c .before .before .before .before in
     let s = b .before .before .before .before .before in
