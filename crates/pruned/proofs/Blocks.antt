@@ -5,6 +5,7 @@ use mathlib.Core.List.{List}
 use native.Mathlib.Nat.{le-trans, mul-le-mul, mul-le-mul-right}
 use native.Mathlib.Omega.{arith}
 use lib.Dec.{T}
+use lib.ListN.{length}
 use Rattle.order.specs.Preference.{preferred}
 use Rattle.frame.specs.Pictures.{Pair}
 use Rattle.frame.specs.Refusals.{listed, listed-elim}
@@ -14,9 +15,10 @@ use Rattle.search.specs.Weighing.{Ready}
 use Rattle.sums.specs.Filling.{ownTable, Fillable}
 use Rattle.reach.proofs.Windows.{ready-standing, ready-size}
 use Rattle.squares.specs.Squares.{ownWindow}
+use Rattle.pruning.specs.Prune.{resolutions}
 use Rattle.pruning.proofs.Blocks.{absolute-lawful}
 use Rattle.pruning.proofs.Pruned.{Safe}
-use Rattle.pruning.proofs.Search.{PowerOfTwo, safe}
+use Rattle.pruning.proofs.Search.{PowerOfTwo, resolutions-many, safe}
 use Rattle.pruned.specs.Answer.{distortionAt, distanceAt}
 
 pub own-fillable : (older newer : List ℕ) (b : Spot) → Ready older newer b → Fillable newer (b .sizes .width) (ownWindow b) ownTable
@@ -34,6 +36,10 @@ own-fillable older newer b r =
 -- 01's N are powers of two
 pub listed-power : (n : ℕ) → T (listed n) → PowerOfTwo n
 listed-power = listed-elim PowerOfTwo (1, refl) (2, refl) (3, refl)
+
+-- with at most three resolutions after N
+pub few-rounds : (n : ℕ) → T (listed n) → length (resolutions n) ≤ 3
+few-rounds = listed-elim (λ n. length (resolutions n) ≤ 3) (rw (resolutions-many 1) (omega arith)) (rw (resolutions-many 2) (omega arith)) (rw (resolutions-many 3) (omega arith))
 
 pub two-least : (n : ℕ) → T (listed n) → 2 ≤ n
 two-least = listed-elim (λ n. 2 ≤ n) (omega arith) (omega arith) (omega arith)

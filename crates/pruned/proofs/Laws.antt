@@ -2,14 +2,13 @@
 -- wholly inside, the answer is the exhaustive best, because no test drops it, and what is dropped is strictly worse. The laws for 01's N follow.
 use Prim.Native.Nat.{ℕ, _+_, _≤_, _<_}
 use mathlib.Core.Path.{_≡_, refl, ap, _∙_}
-use native.Mathlib.Omega.{arith}
 use lib.Dec.{T}
 use lib.ListN.{length, getD}
 use Rattle.base.specs.Least.{_∈_}
 use Rattle.order.specs.Preference.{preferred}
 use Rattle.order.proofs.Order.{first-still}
 use Rattle.frame.specs.Pictures.{Pair}
-use Rattle.frame.specs.Refusals.{listed, listed-elim}
+use Rattle.frame.specs.Refusals.{listed}
 use Rattle.distortion.specs.Blocks.{absolute, distortion, newerBlock, olderBlock}
 use Rattle.search.specs.Found.{vectorIn, probes}
 use Rattle.search.specs.Exhaustive.{Best, places, best}
@@ -18,9 +17,9 @@ use Rattle.pruning.specs.Prune.{resolutions}
 use Rattle.pruning.proofs.Blocks.{absolute-lawful}
 use Rattle.pruning.proofs.Counts.{Counted, prune-counted, search-counts, counts-few, dropped-few, last-count}
 use Rattle.pruning.proofs.Pruned.{Attained, still-attained, Holds, prune-holds}
-use Rattle.pruning.proofs.Search.{PowerOfTwo, resolutions-divide, resolutions-many, search-best, search-drops}
+use Rattle.pruning.proofs.Search.{PowerOfTwo, resolutions-divide, search-best, search-drops}
 use Rattle.pruned.specs.Answer.{distortionAt, stillAt, pruning, chosen, prunedFound}
-use Rattle.pruned.proofs.Blocks.{listed-power, safe-at}
+use Rattle.pruned.proofs.Blocks.{listed-power, few-rounds, safe-at}
 
 -- whatever the block is
 module _ (p : Pair) (w y x : ℕ) where
@@ -85,9 +84,6 @@ module _ (p : Pair) (w y x : ℕ) (power : PowerOfTwo (p .sizes .n)) (small : w 
       (places (p .sizes) w y x) (stillAt p y x) given (resolutions-divide (p .sizes .n) power) i
 
 -- ---- 01's N
-
-few-rounds : (n : ℕ) → T (listed n) → length (resolutions n) ≤ 3
-few-rounds = listed-elim (λ n. length (resolutions n) ≤ 3) (rw (resolutions-many 1) (omega arith)) (rw (resolutions-many 2) (omega arith)) (rw (resolutions-many 3) (omega arith))
 
 module _ (p : Pair) (w y x : ℕ) (allowed : T (listed (p .sizes .n))) where
   pub pruned-probes : probes (prunedFound p w y x) ≡ length (pruning p w y x .left)

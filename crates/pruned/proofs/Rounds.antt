@@ -137,9 +137,10 @@ module _ (e : ℕ) (D : ℕ → ℕ) (N : ℕ) (b : Spot) {before alive : List �
         → (InMemory (r .slot) (start e (pick (passes b) 1089)) alive r → r .bound ≡ start e (pick (passes b) 1089) .bound
         → InMemory (r .slot) (sift d (absolute .limit) N (start e (pick (passes b) 1089))) after q)
         → length dist ≡ 1089 → Attained D (pick (passes b) 1089) e → Safe D d (absolute .limit) N → ((i : ℕ) → i ∈ resolutions N → i ∣ N)
+        → length (resolutions N) ≤ 3
         → Going e D d N (passes b) (N / 2) after dist q
     unfolding prune sift start
-    going-start d steps wide given safe divides =
+    going-start d steps wide given safe divides few =
         let held = steps start-held (f .bound) in
         record {
           unused = r .slot;

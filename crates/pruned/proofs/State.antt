@@ -1,57 +1,40 @@
 -- What is in memory follows the search: each step of the code is the step of the same name.
-use Prim.Native.Nat.{ℕ, _+_, _≤_, _<_}
+use Prim.Native.Nat.{ℕ, _+_, _≤_, _<_, min}
 use mathlib.Core.Path.{_≡_, refl, sym, ap, ap₂, _∙_}
 use mathlib.Core.Bool.{Bool, true, false, cond}
 use mathlib.Core.List.{List, [], _∷_, _++_, append-assoc}
-use native.Mathlib.Nat.{min-eq-left, min-eq-right, le-of-lt}
+use mathlib.Core.Logic.{⊎-elim}
+use native.Mathlib.Nat.{eq-or-lt-of-le}
 use native.Mathlib.Numerals.{add-one}
 use native.Mathlib.Omega.{arith}
 use lib.Dec.{leb}
-use lib.ListN.{length, take, length-set, length-append, replicate}
+use lib.ListN.{length, getD, take, length-set, length-append, replicate}
 use lib.Seq.{take-suc-set}
+use Rattle.base.specs.Lists.{fillTo}
 use Rattle.base.specs.Least.{leastOf}
-use Rattle.distortion.specs.Blocks.{absolute, UpTo}
+use Rattle.distortion.specs.Blocks.{absolute}
 use Rattle.pruning.specs.Sift.{kept}
 use Rattle.pruning.specs.Prune.{Pruning, lower, sift}
 use Rattle.pruned.specs.declared.Rest.{Rest}
-use Rattle.remaining.specs.Gathered.{Front, within, swept, Filled}
-use Rattle.remaining.proofs.Listing.{front-take, front-long, within-few, within-filled, swept-long}
-use Rattle.pruned.specs.Memory.{InMemory, counted}
+use Rattle.remaining.specs.Gathered.{Front, nearestOf, within, swept, Filled}
+use Rattle.remaining.proofs.Listing.{front-take, front-long, nearest-filled, within-few, within-filled, swept-long, filled-is}
+use Rattle.pruned.specs.Memory.{InMemory, counted, recounted, bounded, Leveled}
 
-module _ (D : ℕ → ℕ) (d : ℕ → ℕ → ℕ) (m : ℕ) {z : ℕ} {s : Pruning} {alive : List ℕ} {r : Rest} (h : InMemory z s alive r) (more : 1 < r .count) (e : ℕ)
-    (near : UpTo (r .bound) (D (leastOf (d m) (take (r .count) alive))) e)
-  where
-    -- the distortion of the nearest is less: it is E
-    pub lower-takes : e < r .bound → InMemory z (lower D d m s) alive (record { count = r .count; bound = e; slot = r .slot; counts = r .counts })
-    unfolding lower
-    lower-takes l = record {
+-- E lowered to the distortion of the nearest
+pub lower-done : (D : ℕ → ℕ) (d : ℕ → ℕ → ℕ) (m : ℕ) {z : ℕ} {s : Pruning} {alive dist : List ℕ} {r : Rest} → InMemory z s alive r → 1 < r .count
+    → r .count ≤ length alive → Filled (d m) alive (r .count) dist → InMemory z (lower D d m s) alive (bounded (D (nearestOf alive (r .count) dist)) r)
+unfolding lower
+lower-done D d m {z} {s} {alive} {dist} {r} h more few g =
+    let near = nearest-filled (d m) alive dist (r .count) g (omega arith) few ∙ ap (leastOf (d m)) (h .left) in
+    record {
       long = h .long;
-      bound = λ _. near .below l ∙ ap (λ (ks : List ℕ). D (leastOf (d m) ks)) (h .left) ∙ sym (min-eq-right at-most);
+      bound = λ _. ap₂ min (h .bound more) (ap D near);
       many = h .many;
       left = h .left;
       slot = h .slot;
       five = h .five;
       tested = h .tested;
     }
-      where
-        at-most : D (leastOf (d m) (s .left)) ≤ s .bound
-        at-most = rw (← h .left, ← near .below l, ← h .bound more) (le-of-lt l)
-
-    -- it is not: E stays
-    pub lower-stays : r .bound ≤ e → InMemory z (lower D d m s) alive r
-    unfolding lower
-    lower-stays l = record {
-      long = h .long;
-      bound = λ _. h .bound more ∙ sym (min-eq-left at-least);
-      many = h .many;
-      left = h .left;
-      slot = h .slot;
-      five = h .five;
-      tested = h .tested;
-    }
-      where
-        at-least : s .bound ≤ D (leastOf (d m) (s .left))
-        at-least = rw (← h .left, ← h .bound more) (near .beyond l)
 
 -- one count more stands there
 count-done : {z : ℕ} {s : Pruning} {alive : List ℕ} {r : Rest} → InMemory z s alive r → r .slot < 5 →
@@ -65,11 +48,11 @@ count-done {z} {s} {alive} {r} h l =
     )
 
 -- those over E are gone
-pub sift-done : (d : ℕ → ℕ → ℕ) (m : ℕ) {z : ℕ} {s : Pruning} {alive dist after : List ℕ} {r : Rest} (k : ℕ) → InMemory z s alive r → r .bound ≡ s .bound
+pub sift-done : (d : ℕ → ℕ → ℕ) (m : ℕ) {z : ℕ} {s : Pruning} {alive dist after : List ℕ} {r : Rest} {k : ℕ} → InMemory z s alive r → r .bound ≡ s .bound
     → r .count ≤ length alive → r .slot < 5 → Filled (d m) alive (r .count) dist → Front (within (r .bound) alive dist (r .count)) (swept (r .bound) alive dist (r .count)) after k
-    → InMemory z (sift d (absolute .limit) m s) after (record { count = k; bound = r .bound; slot = counted r .slot; counts = counted r .counts })
+    → InMemory z (sift d (absolute .limit) m s) after (recounted k r)
 unfolding sift
-sift-done d m {z} {s} {alive} {dist} {after} {r} k h e few l g f =
+sift-done d m {z} {s} {alive} {dist} {after} {r} {k} h e few l g f =
     let c = count-done h l in
     let w : within (r .bound) alive dist (r .count) ≡ kept (d m) (s .bound) (s .left) =
     within-filled (d m) alive dist (r .bound) (r .count) g few ∙ ap₂ (kept (d m)) e (h .left) in
@@ -96,7 +79,7 @@ one-stays v l (k ∷ []) e h = stays (leb (v k) l) h
     stays false h = absurd (omega arith)
 one-stays v l (k ∷ j ∷ ks) e h = absurd (omega arith)
 
-pub sift-alone : (D : ℕ → ℕ) (d : ℕ → ℕ → ℕ) (m : ℕ) {z : ℕ} {s : Pruning} {alive : List ℕ} {r : Rest} → InMemory z s alive r → r .count ≡ 1 → r .slot < 5
+sift-alone : (D : ℕ → ℕ) (d : ℕ → ℕ → ℕ) (m : ℕ) {z : ℕ} {s : Pruning} {alive : List ℕ} {r : Rest} → InMemory z s alive r → r .count ≡ 1 → r .slot < 5
     → 0 < length (sift d (absolute .limit) m (lower D d m s) .left) → InMemory z (sift d (absolute .limit) m (lower D d m s)) alive (counted r)
 unfolding sift lower
 sift-alone D d m {z} {s} {alive} {r} h one l some =
@@ -111,3 +94,41 @@ sift-alone D d m {z} {s} {alive} {r} h one l some =
       five = c .1;
       tested = c .2;
     }
+
+-- ---- a resolution later
+
+-- more than one: the distances, then E, then those that stay
+pub leveled-more : (D f : ℕ → ℕ) {alive dist after measured : List ℕ} {r low q : Rest} → (r .count ≡ 1 → ⊥) → measured ≡ fillTo dist 0 (λ i. f (getD alive i 0)) (r .count)
+    → low ≡ bounded (D (nearestOf alive (r .count) measured)) r → Front (within (low .bound) alive measured (low .count)) (swept (low .bound) alive measured (low .count)) after (q .count) → q ≡ recounted (q .count) low
+    → Leveled D f alive dist r after measured q
+leveled-more D f {alive} {dist} {after} {measured} {r} {low} {q} other g h s t =
+    let k = rw h at (s .many) in
+    record {
+      alone = λ l. absurd (other l);
+      more = λ l. (g, rw (← k) (rw h at (s .list)), t ∙ ap₂ recounted k h);
+    }
+
+-- wherever the search stood, if a candidate remains
+pub level-done : (D : ℕ → ℕ) (d : ℕ → ℕ → ℕ) (m : ℕ) {alive dist after measured : List ℕ} {r q : Rest} → Leveled D (d m) alive dist r after measured q
+    → length dist ≡ 1089 → 0 < r .count → r .count ≤ 1089 → r .slot < 5 → (z : ℕ) (s : Pruning) → InMemory z s alive r
+    → 0 < length (sift d (absolute .limit) m (lower D d m s) .left) → InMemory z (sift d (absolute .limit) m (lower D d m s)) after q
+level-done D d m {alive} {dist} {after} {measured} {r} {q} v wide one few room z s h some = ⊎-elim lone many (eq-or-lt-of-le one)
+  where
+    lone : 1 ≡ r .count → InMemory z (sift d (absolute .limit) m (lower D d m s)) after q
+    lone l =
+        let is = sym l in
+        let (a, b, c) = v .alone is in
+        rw (a, c) (sift-alone D d m h is room some)
+
+    many : 1 < r .count → InMemory z (sift d (absolute .limit) m (lower D d m s)) after q
+    many l =
+        let (a, b, c) = v .more l in
+        let g = filled-is (d m) alive dist measured (r .count) a wide few in
+        let short : r .count ≤ length alive = omega (arith, h .long) in
+        let low = lower-done D d m h l short g in
+        rw c (sift-done d m low (low .bound l) short room g (record { many = refl; list = b }))
+
+pub level-wide : (D f : ℕ → ℕ) {alive dist after measured : List ℕ} {r q : Rest} → Leveled D f alive dist r after measured q
+    → length dist ≡ 1089 → 0 < r .count → r .count ≤ 1089 → length measured ≡ 1089
+level-wide D f {alive} {dist} {after} {measured} {r} {q} v wide one few =
+    ⊎-elim (λ l. rw (v .alone (sym l) .1) wide) (λ l. filled-is f alive dist measured (r .count) (v .more l .0) wide few .long) (eq-or-lt-of-le one)

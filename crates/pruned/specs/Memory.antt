@@ -2,24 +2,29 @@
 -- struct `Rest`.
 --   Lent          what search 2 asks: the block ready, and the summed-area table of a part of the older frame that holds all older blocks
 --   InMemory      the search stands at s, with z of the five counts unused; E is kept as long as more than one candidate remains
+--   firstSlot     where the count at N stands among the five: they end with that, those at the resolutions after N and the one at m = 1
 --   Begun         before the first test: all candidates, E the distortion of (0,0), no count
---   counted       after counting the tests at a resolution
---   Leveled       a resolution later: E lowered and the candidates sifted, wherever the search stood, if a candidate remains
+--   recounted     after counting the tests at a resolution, k candidates remaining; counted: all of them
+--   bounded       E lowered to e, if that is less
+--   Leveled       a resolution later: a candidate alone stays as it is; of more, the distances at m are worked out, E is lowered to the nearest's
+--                 distortion and those within it stay, in front of what sweeping leaves
 --   finished      the answer made of what is in memory at the end
-use Prim.Native.Nat.{ℕ, _+_, _-_, _<_}
+use Prim.Native.Nat.{ℕ, _+_, _-_, _<_, min}
 use mathlib.Core.Path.{_≡_}
 use mathlib.Core.List.{List, [], _∷_, _++_}
-use lib.ListN.{length, take, set, replicate}
+use lib.ListN.{length, getD, take, drop, set, replicate}
+use Rattle.base.specs.Lists.{fillTo}
 use Rattle.base.specs.Least.{leastOf}
 use Rattle.order.specs.Preference.{preferred}
-use Rattle.distortion.specs.Blocks.{absolute, blockAt}
+use Rattle.distortion.specs.Blocks.{blockAt}
 use Rattle.search.specs.declared.Spot.{Spot}
 use Rattle.search.specs.declared.Found.{Found}
 use Rattle.search.specs.Found.{foundAs}
 use Rattle.search.specs.Weighing.{Ready}
 use Rattle.sums.specs.declared.Window.{Window}
 use Rattle.sums.specs.Area.{SumsOf}
-use Rattle.pruning.specs.Prune.{Pruning, lower, sift, resolutions}
+use Rattle.pruning.specs.Prune.{Pruning, resolutions}
+use Rattle.remaining.specs.Gathered.{nearestOf, within, swept}
 use Rattle.reach.specs.Reach.{Covers}
 use Rattle.pruned.specs.declared.Rest.{Rest}
 
@@ -37,18 +42,31 @@ pub record InMemory (z : ℕ) (s : Pruning) (alive : List ℕ) (r : Rest) : Type
   pub five : length (r .counts) ≡ 5
   pub tested : take (r .slot) (r .counts) ≡ replicate z 0 ++ s .tested
 
+abbrev pub firstSlot : ℕ → ℕ
+firstSlot n = 5 - (length (resolutions n) + 2)
+
 pub record Begun (e n total : ℕ) (r : Rest) : Type 0 where
   pub bound : r .bound ≡ e
   pub count : r .count ≡ total
-  pub slot : r .slot + length (resolutions n) ≡ 3
+  pub slot : r .slot ≡ firstSlot n
   pub counts : r .counts ≡ 0 ∷ 0 ∷ 0 ∷ 0 ∷ 0 ∷ []
 
-abbrev pub counted : Rest → Rest
-counted r = record { count = r .count; bound = r .bound; slot = r .slot + 1; counts = set (r .counts) (r .slot) (r .count) }
+abbrev pub recounted : ℕ → Rest → Rest
+recounted k r = record { count = k; bound = r .bound; slot = r .slot + 1; counts = set (r .counts) (r .slot) (r .count) }
 
-pub record Leveled (D : ℕ → ℕ) (d : ℕ → ℕ → ℕ) (m : ℕ) (before : List ℕ) (r : Rest) (after : List ℕ) (q : Rest) : Type 0 where
-  pub step : (z : ℕ) (s : Pruning) → InMemory z s before r → 0 < length (sift d (absolute .limit) m (lower D d m s) .left)
-      → InMemory z (sift d (absolute .limit) m (lower D d m s)) after q
+abbrev pub counted : Rest → Rest
+counted r = recounted (r .count) r
+
+abbrev pub bounded : ℕ → Rest → Rest
+bounded e r = record { count = r .count; bound = min (r .bound) e; slot = r .slot; counts = r .counts }
+
+-- D k is the distortion of candidate k and f k its distance at m; the arrays alive and dist before and after
+pub record Leveled (D f : ℕ → ℕ) (alive dist : List ℕ) (r : Rest) (after measured : List ℕ) (q : Rest) : Type 0 where
+  pub alone : r .count ≡ 1 → (after ≡ alive) × (measured ≡ dist) × (q ≡ counted r)
+  pub more : 1 < r .count →
+      let low = bounded (D (nearestOf alive (r .count) measured)) r in
+      let stay = within (low .bound) alive measured (r .count) in
+      (measured ≡ fillTo dist 0 (λ i. f (getD alive i 0)) (r .count)) × (after ≡ stay ++ drop (length stay) (swept (low .bound) alive measured (r .count))) × (q ≡ recounted (length stay) low)
 
 abbrev pub finished : (ℕ → ℕ) → List ℕ → ℕ → Rest → Found
 finished D alive total r =

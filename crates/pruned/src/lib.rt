@@ -2,21 +2,19 @@
 // The remaining candidates stand in front of the array `alive`, in preference order, and their distances at m in `dist` (crates remaining and distance).
 
 ghost use mathlib.Core.Path.{_≡_};
-ghost use Prim.Native.Nat.{ℕ, _+_, _≤_, _<_};
+ghost use Prim.Native.Nat.{_≤_, _<_};
 ghost use lib.Dec.{T};
 ghost use lib.ListN.{length};
 ghost use Rattle.order.specs.Preference.{preference, flat};
 ghost use Rattle.frame.specs.Pictures.{pairOf};
 ghost use Rattle.frame.specs.Refusals.{listed};
-ghost use Rattle.distortion.specs.Blocks.{absolute};
 ghost use Rattle.search.specs.Weighing.{Ready};
-ghost use Rattle.pruning.specs.Prune.{Pruning, lower, sift, resolutions};
-ghost use Rattle.remaining.specs.Gathered.{Listed, Filled};
+ghost use Rattle.remaining.specs.Gathered.{Front, Listed, nearestOf, within, swept};
 ghost use Rattle.squares.specs.Squares.{OwnSums};
 ghost use Rattle.full.specs.Full.{distortionOf};
 ghost use Rattle.distance.specs.Remaining.{distanceOf, Tested};
 ghost use Rattle.pruned.specs.Answer.{stillAt, prunedFound};
-ghost use Rattle.pruned.specs.Memory.{Lent, InMemory, Begun, counted, Leveled, finished};
+ghost use Rattle.pruned.specs.Memory.{Lent, firstSlot, Begun, recounted, counted, bounded, Leveled, finished};
 use search::Found;
 use search::Spot;
 use sums::Window;
@@ -33,7 +31,7 @@ pub struct Rest {
 // Where the count of the tests at N stands among the five.
 fn first_slot(n: usize) -> usize
     requires { ⌜ T (listed n) ⌝ }
-    ensures { λ r. ⌜ r + length (resolutions n) ≡ 3 ⌝ }
+    ensures { λ r. ⌜ r ≡ firstSlot n ⌝ }
 {
     if n == 16 {
         return 0;
@@ -72,8 +70,7 @@ fn lowered(
 ) -> Rest
     requires { ⌜ Ready (now older) (now newer) b × (now order ≡ flat preference) ⌝ }
     requires { ⌜ Listed b (now alive) (r .count) × (1 < r .count) ⌝ }
-    ensures { λ q. ⌜ ((z m : ℕ) (s : Pruning) (d : ℕ → ℕ → ℕ) → InMemory z s (now (alive .entry)) r → Filled (d m) (now (alive .entry)) (r .count) (now (dist .entry))
-        → InMemory z (lower (distortionOf (now (older .entry)) (now (newer .entry)) b) d m s) (now (alive .entry)) q) × (q .count ≡ r .count) × (q .slot ≡ r .slot) ⌝ }
+    ensures { λ q. ⌜ q ≡ bounded (distortionOf (now (older .entry)) (now (newer .entry)) b (nearestOf (now (alive .entry)) (r .count) (now (dist .entry)))) r ⌝ }
 {
     let count = r.count;
     let k = remaining::nearest(alive, count, dist);
@@ -113,8 +110,7 @@ fn count_tests(r: Rest) -> Rest
 // Counts the tests and drops each candidate whose distance exceeds E.
 fn sifted(alive: &mut [u16; 1089], dist: &[u32; 1089], r: Rest) -> Rest
     requires { ⌜ (length (now alive) ≡ 1089) × (r .count ≤ 1089) × (r .slot < 5) ⌝ }
-    ensures { λ q. ⌜ ((z m : ℕ) (s : Pruning) (d : ℕ → ℕ → ℕ) → InMemory z s (now (alive .entry)) r → r .bound ≡ s .bound
-        → Filled (d m) (now (alive .entry)) (r .count) (now (dist .entry)) → InMemory z (sift d (absolute .limit) m s) (now (alive .exit)) q) ⌝ }
+    ensures { λ q. ⌜ Front (within (r .bound) (now (alive .entry)) (now (dist .entry)) (r .count)) (swept (r .bound) (now (alive .entry)) (now (dist .entry)) (r .count)) (now (alive .exit)) (q .count) × (q ≡ recounted (q .count) r) ⌝ }
 {
     let kept = remaining::keep_within(alive, r.count, dist, r.bound);
     let q = count_tests(r);
@@ -143,7 +139,7 @@ fn level(
 ) -> Rest
     requires { ⌜ (now order ≡ flat preference) × (length (now dist) ≡ 1089) × Tested (now older) (now newer) b (now sums) a m (now alive) (r .count)
         × OwnSums (now newer) b (now own) × (0 < r .count) × (r .slot < 5) ⌝ }
-    ensures { λ q. ⌜ Leveled (distortionOf (now (older .entry)) (now (newer .entry)) b) (distanceOf (now (older .entry)) (now (newer .entry)) b) m (now (alive .entry)) r (now (alive .exit)) q × (length (now (dist .exit)) ≡ 1089) ⌝ }
+    ensures { λ q. ⌜ Leveled (distortionOf (now (older .entry)) (now (newer .entry)) b) (distanceOf (now (older .entry)) (now (newer .entry)) b m) (now (alive .entry)) (now (dist .entry)) r (now (alive .exit)) (now (dist .exit)) q ⌝ }
 {
     let count = r.count;
     if count == 1 {

@@ -1,9 +1,8 @@
 -- `level`: a candidate alone stays; of more, E is lowered, then they are sifted.
-use Prim.Native.Nat.{_<_}
+use mathlib.Core.Path.{refl}
 use native.Mathlib.Omega.{arith}
 use borrow.Author.Needs.{needs}
-use Rattle.remaining.proofs.Listing.{filled-is}
-use Rattle.pruned.proofs.State.{sift-alone}
+use Rattle.pruned.proofs.State.{leveled-more}
 use Rattle.pruned.proofs.level.Statement.{statement}
 use Rattle.pruned.proofs.level.Tie as tie
 
@@ -11,9 +10,7 @@ count-tests-requires : tie.Need-count-tests-requires
 count-tests-requires c κs = search needs
 
 returns : tie.Need-returns
-returns c =
-    let p = c .before .before .before .before .before .before .pre in
-    (record { step = λ z s h some. rw (c .count-tests .ensures) (sift-alone _ _ _ h (c .before .if1 .taken) (p .5) some) }, p .1)
+returns c = record { alone = λ _. (refl, refl, c .count-tests .ensures); more = λ l. absurd (omega (arith, c .before .if1 .taken)) }
 
 fill-distances-requires : tie.Need-fill-distances-requires
 fill-distances-requires c κs = search needs
@@ -24,19 +21,17 @@ lowered-requires c κs =
     ((p .2 .ready, p .0), (p .2 .listed, omega (arith, p .4, c .before .before .before .before .before .if1 .left)))
 
 sifted-requires : tie.Need-sifted-requires
-sifted-requires c κs = search needs
+sifted-requires c κs =
+    let p = c .before .before .before .before .before .before .before .before .before .before .before .before .before .pre in
+    rw (c .before .before .lowered .ensures) (p .2 .listed .long, p .2 .listed .few, p .5)
 
 returns-2 : tie.Need-returns-2
 returns-2 c =
-    let e = c .before .before .before .before .before .before .before .before .before in
-    let r = e .before .before .before .before .before .args .r in
-    let more : 1 < r .count = omega (arith, e .before .before .before .before .before .pre .4, e .if1 .left) in
-    let p = e .before .before .before .before .before .pre in
-    let f = filled-is _ _ _ _ _ (c .before .before .before .before .before .before .fill-distances .ensures) (p .1) (p .2 .listed .few) in
-    let q = c .before .before .before .lowered .ensures in (
-      record { step = λ z s h some. let low = q .0 z _ s _ h f in c .sifted .ensures z _ _ _ low (low .bound (rw (q .1) more)) (rw (q .1) f) },
-      f .long,
-    )
+    leveled-more _ _ (c .before .before .before .before .before .before .before .before .before .if1 .left)
+    (c .before .before .before .before .before .before .fill-distances .ensures)
+    (c .before .before .before .lowered .ensures)
+    (c .sifted .ensures .0)
+    (c .sifted .ensures .1)
 
 pub level-spec : {M : Type 1} → statement M
 level-spec =

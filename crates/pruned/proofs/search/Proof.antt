@@ -20,8 +20,9 @@ use Rattle.pruned.specs.Answer.{stillAt, pruning, chosen, prunedFound}
 use Rattle.distance.specs.Remaining.{distanceOf}
 use Rattle.remaining.specs.Gathered.{passes}
 use Rattle.full.specs.Full.{distortionOf}
-use Rattle.pruned.proofs.Blocks.{own-fillable, listed-power, two-least, safe-at}
+use Rattle.pruned.proofs.Blocks.{own-fillable, listed-power, few-rounds, two-least, safe-at}
 use Rattle.remaining.proofs.Listing.{gathered-few, gathered-long, gathered-listed, filled-is}
+use Rattle.pruned.proofs.State.{sift-done, level-done, level-wide}
 use Rattle.pruned.proofs.Rounds.{Going, going-start, going-some, going-few, going-room, going-divides, going-listed, going-more, going-done}
 use Rattle.pruned.proofs.search.Statement.{statement}
 use Rattle.pruned.proofs.search.Tie as tie
@@ -97,12 +98,13 @@ loop-holds c =
     let a = c .before .before .before .before .before .before .before .before .gather .ensures in
     let f = c .before .before .before .before .before .before .before .begin .ensures in
     let d = filled-is _ _ _ _ _ (c .before .before .before .fill-distances .ensures) refl (gathered-few _ a) in
+    let t = c .sifted .ensures in
     let r = s .pre .0 .ready in
     let p = pairOf (now (s .args .older)) (now (s .args .newer)) (s .args .b .sizes) in (
       going-start _ _ _ _ refl a f _
-          (λ h e. c .sifted .ensures _ _ _ _ h e (rw (f .count) d)) (d .long)
+          (λ h e. rw (t .1) (sift-done _ _ h e (omega (arith, h .long, gathered-few _ a, f .count)) (omega (arith, f .slot)) (rw (f .count) d) (t .0))) (d .long)
           (still-attained _ _ _ _ (still-passes p _ _ _ (r .window) (r .placed .down) (r .placed .across)) (ap (distortion p _ _) first-still)) (safe-at p _ _ _ (dvd-refl _))
-          (λ i k. resolutions-divide _ (listed-power _ (r .placed .paired .allowed)) i (List·Memᴰ·tail k)),
+          (λ i k. resolutions-divide _ (listed-power _ (r .placed .paired .allowed)) i (List·Memᴰ·tail k)) (few-rounds _ (r .placed .paired .allowed)),
       sym (a .many),
     )
 
@@ -138,9 +140,13 @@ loop-again : tie.Need-loop-again Inv-loop μ-loop
 loop-again c =
     let i = c .before .before .before .before .before in
     let l = i .loop .inv in
+    let g = l .0 in
+    let h : 2 ≤ i .loop .m = omega (arith, c .before .before .before .before .loop-test .taken) in
+    let few = going-listed g .few in
     let s = start (tabled i) in (
-      going-more (l .0) _ _ _ (safe-at (pairOf (now (s .args .older)) (now (s .args .newer)) (s .args .b .sizes)) _ _)
-          (omega (arith, c .before .before .before .before .loop-test .taken)) (c .level .ensures .0 .step) (c .level .ensures .1),
+      going-more g _ _ _ (safe-at (pairOf (now (s .args .older)) (now (s .args .newer)) (s .args .b .sizes)) _ _) h
+          (level-done _ (distanceOf (now (s .args .older)) (now (s .args .newer)) (s .args .b)) _ (c .level .ensures) (g .wide) (going-some g) few (omega (arith, going-room g h)))
+          (level-wide _ _ (c .level .ensures) (g .wide) (going-some g) few),
       l .1,
     )
 
