@@ -21,7 +21,8 @@ use Rattle.pruning.proofs.Search.{halvings-more, halvings-none, rounds-more, ro
 use Rattle.pruned.specs.declared.Rest.{Rest}
 use Rattle.remaining.specs.Gathered.{passes, Front, Listed}
 use Rattle.remaining.proofs.Listing.{front-take, gathered-long, listed-front}
-use Rattle.pruned.specs.Memory.{InMemory, Begun, finished}
+use Rattle.pruned.specs.Memory.{Begun, finished}
+use Rattle.pruned.proofs.State.{InMemory}
 
 -- the last of the five counts
 filled-up : (z : ℕ) (cs t : List ℕ) (slot x : ℕ) → slot ≡ 4 → length cs ≡ 5 → slot ≡ z + length t → take slot cs ≡ replicate z 0 ++ t

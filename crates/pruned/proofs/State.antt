@@ -16,9 +16,19 @@ use Rattle.distortion.specs.Blocks.{absolute}
 use Rattle.pruning.specs.Sift.{kept}
 use Rattle.pruning.specs.Prune.{Pruning, lower, sift}
 use Rattle.pruned.specs.declared.Rest.{Rest}
-use Rattle.remaining.specs.Gathered.{Front, nearestOf, within, swept, Filled}
-use Rattle.remaining.proofs.Listing.{front-take, front-long, nearest-filled, within-few, within-filled, swept-long, filled-is}
-use Rattle.pruned.specs.Memory.{InMemory, counted, recounted, bounded, Leveled}
+use Rattle.remaining.specs.Gathered.{Front, nearestOf, within, swept}
+use Rattle.remaining.proofs.Listing.{front-take, front-long, within-few, swept-long, Filled, filled-is, nearest-filled, within-filled}
+use Rattle.pruned.specs.Memory.{counted, recounted, bounded, Leveled}
+
+-- the search stands at s, with z of the five counts unused; E is kept as long as more than one candidate remains
+pub record InMemory (z : ℕ) (s : Pruning) (alive : List ℕ) (r : Rest) : Type 0 where
+  pub long : length alive ≡ 1089
+  pub bound : 1 < r .count → r .bound ≡ s .bound
+  pub many : length (s .left) ≡ r .count
+  pub left : take (r .count) alive ≡ s .left
+  pub slot : r .slot ≡ z + length (s .tested)
+  pub five : length (r .counts) ≡ 5
+  pub tested : take (r .slot) (r .counts) ≡ replicate z 0 ++ s .tested
 
 -- E lowered to the distortion of the nearest
 pub lower-done : (D : ℕ → ℕ) (d : ℕ → ℕ → ℕ) (m : ℕ) {z : ℕ} {s : Pruning} {alive dist : List ℕ} {r : Rest} → InMemory z s alive r → 1 < r .count

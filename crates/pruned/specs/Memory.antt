@@ -1,7 +1,6 @@
 -- 01, "The four searches", search 2: what code holds between its steps, the remaining candidates' places in front of an array `alive`, E and the counts in a
 -- struct `Rest`.
 --   Lent          what search 2 asks: the block ready, and the summed-area table of a part of the older frame that holds all older blocks
---   InMemory      the search stands at s, with z of the five counts unused; E is kept as long as more than one candidate remains
 --   firstSlot     where the count at N stands among the five: they end with that, those at the resolutions after N and the one at m = 1
 --   Begun         before the first test: all candidates, E the distortion of (0,0), no count
 --   recounted     after counting the tests at a resolution, k candidates remaining; counted: all of them
@@ -12,7 +11,7 @@
 use Prim.Native.Nat.{ℕ, _+_, _-_, _<_, min}
 use mathlib.Core.Path.{_≡_}
 use mathlib.Core.List.{List, [], _∷_, _++_}
-use lib.ListN.{length, getD, take, drop, set, replicate}
+use lib.ListN.{length, getD, take, drop, set}
 use Rattle.base.specs.Lists.{fillTo}
 use Rattle.base.specs.Least.{leastOf}
 use Rattle.order.specs.Preference.{preferred}
@@ -23,7 +22,7 @@ use Rattle.search.specs.Found.{foundAs}
 use Rattle.search.specs.Weighing.{Ready}
 use Rattle.sums.specs.declared.Window.{Window}
 use Rattle.sums.specs.Area.{SumsOf}
-use Rattle.pruning.specs.Prune.{Pruning, resolutions}
+use Rattle.pruning.specs.Prune.{resolutions}
 use Rattle.remaining.specs.Gathered.{nearestOf, within, swept}
 use Rattle.reach.specs.Reach.{Covers}
 use Rattle.pruned.specs.declared.Rest.{Rest}
@@ -32,15 +31,6 @@ pub record Lent (older newer : List ℕ) (b : Spot) (sums : List ℕ) (a : Windo
   pub ready : Ready older newer b
   pub covers : Covers b a
   pub table : SumsOf (blockAt older (b .sizes .width) (a .top) (a .left)) (a .rows) (a .columns) sums
-
-pub record InMemory (z : ℕ) (s : Pruning) (alive : List ℕ) (r : Rest) : Type 0 where
-  pub long : length alive ≡ 1089
-  pub bound : 1 < r .count → r .bound ≡ s .bound
-  pub many : length (s .left) ≡ r .count
-  pub left : take (r .count) alive ≡ s .left
-  pub slot : r .slot ≡ z + length (s .tested)
-  pub five : length (r .counts) ≡ 5
-  pub tested : take (r .slot) (r .counts) ≡ replicate z 0 ++ s .tested
 
 abbrev pub firstSlot : ℕ → ℕ
 firstSlot n = 5 - (length (resolutions n) + 2)

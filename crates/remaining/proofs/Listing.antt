@@ -17,7 +17,7 @@ use Rattle.base.specs.Picks.{pick, picked, pick-few}
 use Rattle.search.specs.declared.Spot.{Spot}
 use Rattle.pruning.specs.Sift.{kept}
 use Rattle.pruning.proofs.Loops.{kept-take}
-use Rattle.remaining.specs.Gathered.{passes, Front, Listed, nearestOf, within, swept, Filled}
+use Rattle.remaining.specs.Gathered.{passes, Front, Listed, nearestOf, within, swept}
 
 module _ {ks before after : List ℕ} {r : ℕ} (f : Front ks before after r) where
   pub front-take : take r after ≡ ks
@@ -66,6 +66,11 @@ swept-long limit alive dist zero = refl
 swept-long limit alive dist (suc n) = rw length-set (swept-long limit alive dist n)
 
 -- ---- where the distances are f of the candidates
+
+-- dist holds f of each of the first count
+pub record Filled (f : ℕ → ℕ) (alive : List ℕ) (count : ℕ) (dist : List ℕ) : Type 0 where
+  pub long : length dist ≡ 1089
+  pub value : (i : ℕ) → i < count → getD dist i 0 ≡ f (getD alive i 0)
 
 -- the first least of a list by a rule, by its place
 least-place : (f g h : ℕ → ℕ) (n : ℕ) → ((i : ℕ) → i < suc n → g i ≡ f (h i)) →

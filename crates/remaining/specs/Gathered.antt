@@ -7,7 +7,6 @@
 --   nearestOf  of the first count of alive, the first whose distance, at the same place of dist, is least
 --   within     of the first n of alive, those whose distance, at the same place of dist, is at most the limit, in their order
 --   swept      the array after the first n were looked at: each was stored behind those before it that stay
---   Filled     dist holds f of each of the first count
 use Prim.Native.Nat.{ℕ, zero, suc, _+_, _≤_, _<_}
 use mathlib.Core.Path.{_≡_}
 use mathlib.Core.Bool.{Bool, _&&_, cond}
@@ -48,7 +47,3 @@ within limit alive dist (suc n) = within limit alive dist n ++ cond (leb (getD d
 unfoldable pub swept : ℕ → List ℕ → List ℕ → ℕ → List ℕ
 swept limit alive dist zero = alive
 swept limit alive dist (suc n) = set (swept limit alive dist n) (length (within limit alive dist n)) (getD alive n 0)
-
-pub record Filled (f : ℕ → ℕ) (alive : List ℕ) (count : ℕ) (dist : List ℕ) : Type 0 where
-  pub long : length dist ≡ 1089
-  pub value : (i : ℕ) → i < count → getD dist i 0 ≡ f (getD alive i 0)

@@ -1,5 +1,5 @@
 -- `fill_few`: after i turns the first i candidates have their number (`Filling`).
-use Prim.Native.Nat.{_-_, _≤_, _<_}
+use Prim.Native.Nat.{_-_, _<_}
 use mathlib.Core.Path.{_≡_}
 use native.Mathlib.Omega.{arith}
 use borrow.Author.Needs.{needs}
