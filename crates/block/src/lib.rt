@@ -45,7 +45,7 @@ fn pruned_alone(older: &[u8], newer: &[u8], order: &[i32; 2178], b: Spot) -> Fou
 {
     let s = b.sizes;
     let a = reach::search_window(b);
-    let mut table = [0u32; 2401];
+    let mut table = [0u32; sums::WINDOW_TABLE];
     sums::fill_sums(older, s.width, a, &mut table);
     pruned::search(older, newer, order, b, &table, a)
 }

@@ -15,7 +15,7 @@ use Rattle.frame.specs.declared.Request.{Request}
 use Rattle.frame.specs.Pictures.{Pair, pairOf}
 use Rattle.frame.specs.Candidates.{Candidate, candidate, candidate-yes}
 use Rattle.frame.specs.Cross.{crossWindow, cross as cross-is}
-use Rattle.frame.specs.Refusals.{sizesOf, listed, listed-elim, Asked, window-small, windowOk}
+use Rattle.frame.specs.Refusals.{largestDistortion, sizesOf, listed, listed-elim, Asked, window-small, windowOk}
 use Rattle.distortion.specs.Blocks.{distortion, distortion-bound}
 use Rattle.search.specs.declared.Found.{Found}
 use Rattle.search.specs.Found.{foundAs, onlyAtOne}
@@ -49,7 +49,7 @@ at-one n (suc (suc (suc (suc zero)))) h = h
 at-one n (suc (suc (suc (suc (suc i))))) h = omega arith
 
 -- an answer that counts at m = 1 alone
-sound-at-one : (v : Vector) (d n : ℕ) → Within 16 v → d ≤ 65280 → n ≤ 1089 → Sound (foundAs v d (onlyAtOne n) 0)
+sound-at-one : (v : Vector) (d n : ℕ) → Within 16 v → d ≤ largestDistortion → n ≤ 1089 → Sound (foundAs v d (onlyAtOne n) 0)
 sound-at-one v d n near few h = record {
   within = near;
   distortion = few;
@@ -65,12 +65,12 @@ places-few : (p : Pair) (w y x : ℕ) → length (places (p .sizes) w y x) ≤ 1
 places-few p w y x = pick-few _ 1089
 
 module _ (p : Pair) (bytes : Bytes (p .older) × Bytes (p .newer)) (allowed : T (listed (p .sizes .n))) where
-  distortion-few : (y x : ℕ) (v : Vector) → distortion p y x v ≤ 65280
+  distortion-few : (y x : ℕ) (v : Vector) → distortion p y x v ≤ largestDistortion
   unfolding distortion
   distortion-few y x v =
       le-trans
       (distortion-bound 255 (p .sizes .n) _ _ (λ i j hi hj. (bytes .1 _, bytes .0 _)))
-      (listed-elim (λ (n : ℕ). n * (n * 255) ≤ 65280) (omega arith) (omega arith) (omega arith) (p .sizes .n) allowed)
+      (listed-elim (λ (n : ℕ). n * (n * 255) ≤ largestDistortion) (omega arith) (omega arith) (omega arith) (p .sizes .n) allowed)
 
   module _ (w y x : ℕ) (small : w ≤ 16) (down : y + p .sizes .n ≤ p .sizes .height) (across : x + p .sizes .n ≤ p .sizes .width) where
     near : (v : Vector) → Candidate (p .sizes) w y x v → Within 16 v

@@ -12,7 +12,7 @@ use lib.IntN.{ℤ}
 use lib.ListN.{length, getD, drop}
 use Rattle.order.specs.Vectors.{Within}
 use Rattle.frame.specs.declared.Request.{Request}
-use Rattle.frame.specs.Refusals.{sizesOf, requestRefusal}
+use Rattle.frame.specs.Refusals.{largestDistortion, sizesOf, requestRefusal}
 use Rattle.distortion.specs.Blocks.{blockAt}
 use Rattle.search.specs.declared.Found.{Found}
 use Rattle.search.specs.Found.{vectorIn}
@@ -38,7 +38,7 @@ pub record Prepared (older newer : List ℕ) (q : Request) (table : List ℕ) : 
 
 pub record Sound (f : Found) : Type 0 where
   pub within : Within 16 (vectorIn f)
-  pub distortion : f .distortion ≤ 65280
+  pub distortion : f .distortion ≤ largestDistortion
   pub count0 : getD (f .counts) 0 0 ≤ 1089
   pub count1 : getD (f .counts) 1 0 ≤ 1089
   pub count2 : getD (f .counts) 2 0 ≤ 1089

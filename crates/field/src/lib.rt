@@ -8,7 +8,7 @@ ghost use lib.ListN.{length, set, replicate};
 ghost use Rattle.order.specs.Preference.{preference, flat};
 ghost use Rattle.frame.specs.Pictures.{pairOf};
 ghost use Rattle.frame.specs.Grid.{blocks};
-ghost use Rattle.frame.specs.Refusals.{sizesOf};
+ghost use Rattle.frame.specs.Refusals.{largestDistortion, sizesOf};
 ghost use Rattle.reach.specs.Reach.{wholeFrame};
 ghost use Rattle.field.specs.Field.{listSize, fieldRefusal, blockOf, refusedField, filledTable, asFielded, accepted, fielded};
 ghost use Rattle.field.specs.Filling.{Roomy, Summable, Prepared, Sound, totalOver, joined, Few, Filled};
@@ -118,7 +118,7 @@ fn search_at(
 
 // Block k's three numbers of the list.
 fn put_entry(list: &mut [i32], k: usize, dy: i32, dx: i32, distortion: u32)
-    requires { ⌜ (3 * k + 3 ≤ length (now list)) × (distortion ≤ 65280) ⌝ }
+    requires { ⌜ (3 * k + 3 ≤ length (now list)) × (distortion ≤ largestDistortion) ⌝ }
     ensures { λ _. ⌜ now (list .exit) ≡ set (set (set (now (list .entry)) (3 * k) dy) (3 * k + 1) dx) (3 * k + 2) (pos distortion) ⌝ }
 {
     list[3 * k] = dy;

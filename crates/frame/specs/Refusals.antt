@@ -1,5 +1,6 @@
 -- 01, "What the input can be turned away for", 1 to 7: each rule as a test, and each call's tests as one chain, in 01's order.
 --   sideOk 1 · frameOk 2 · blockOk 3 · searchOk 4 · windowOk 5 · thresholdOk 6 · placeOk 7   what each number asks for
+--   largestN, largestDistortion   the largest N, and the largest distortion of a block
 --   pairRefusal     1 2 3: what every call with a pair tests first
 --   placedRefusal   1 2 3 7: a pair, N and a block's place
 --   requestRefusal  1 2 3 4 5 6: a pair and a search
@@ -40,6 +41,13 @@ frameOk s pels = eqb pels (s .height * s .width)
 unfoldable pub listed : ℕ → Bool
 listed n = eqb n 4 || (eqb n 8 || eqb n 16)
 
+-- the largest N, and 255 × N² of it, the largest distortion
+abbrev pub largestN : ℕ
+largestN = 16
+
+abbrev pub largestDistortion : ℕ
+largestDistortion = largestN * (largestN * 255)
+
 abbrev pub blockOk : Sizes → Bool
 blockOk s = listed (s .n) && (leb (s .n) (s .width) && leb (s .n) (s .height))
 
@@ -53,7 +61,7 @@ windowOk search w = cond (leb search 2) (leb w 16) (cond (eqb search 3) (eqb w 7
 
 -- 6 T over 65,280, or not 0 with search 1, 2 or 3
 unfoldable pub thresholdOk : ℕ → ℕ → Bool
-thresholdOk search t = cond (eqb search 4) (leb t 65280) (eqb t 0)
+thresholdOk search t = cond (eqb search 4) (leb t largestDistortion) (eqb t 0)
 
 -- 7 single block: not wholly inside the newer frame
 abbrev pub placeOk : Sizes → ℕ → ℕ → Bool

@@ -11,6 +11,11 @@ ghost use Rattle.frame.specs.Cross.{crossWindow, log2};
 ghost use Rattle.frame.specs.Refusals.{sideOk, listed, blockOk, searchOk, windowOk, thresholdOk, placeOk, pairRefusal, placedRefusal, requestRefusal, sizesOf};
 use signed::Shifted;
 
+// The largest N, and 255 × N² of it: no distortion is larger, and so no threshold T.
+pub const LARGEST_N: usize = 16;
+
+pub const LARGEST_DISTORTION: u32 = (LARGEST_N * LARGEST_N * 255) as u32;
+
 // Width and height of a frame, and the block size N.
 pub struct Sizes {
     pub width: usize,
@@ -197,7 +202,7 @@ pub fn threshold_ok(search: u32, t: u32) -> bool
     ensures { λ r. ⌜ r ≡ thresholdOk search t ⌝ }
 {
     if search == 4 {
-        return t <= 65280;
+        return t <= LARGEST_DISTORTION;
     }
     t == 0
 }

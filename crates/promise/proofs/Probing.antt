@@ -11,7 +11,7 @@ use Rattle.base.specs.Sum.{sumTo-bound}
 use Rattle.frame.specs.Pictures.{Pair}
 use Rattle.frame.specs.Grid.{blocks, blockRow, blockColumn, block-down, block-across}
 use Rattle.frame.specs.Cross.{crossWindow, log2}
-use Rattle.frame.specs.Refusals.{windowOk, thresholdOk}
+use Rattle.frame.specs.Refusals.{largestDistortion, windowOk, thresholdOk}
 use Rattle.frame.specs.Refusals as refusals
 use Rattle.search.specs.declared.Found.{Found}
 use Rattle.search.specs.Exhaustive.{best}
@@ -42,10 +42,10 @@ module _ (p : Pair) (w : ℕ) (f : Fine p w) where
       runs 3 7 0 (request-any p 3 7 0 (f .pair) tt tt tt) refl
       (λ y x. ap (λ (r : Found). r .refusal) (searched-four-step p (asked (p .sizes) 3 7 0) y x refl))
 
-  pub cross-runs : (u t : ℕ) → T (crossWindow u) → t ≤ 65280 → Runs p 4 u t
+  pub cross-runs : (u t : ℕ) → T (crossWindow u) → t ≤ largestDistortion → Runs p 4 u t
   unfolding windowOk thresholdOk foundOf
   cross-runs u t c h =
-      runs 4 u t (request-any p 4 u t (f .pair) tt c (le→leb t 65280 h)) refl
+      runs 4 u t (request-any p 4 u t (f .pair) tt c (le→leb t largestDistortion h)) refl
       (λ y x. ap (λ (r : Found). r .refusal) (searched-cross p (asked (p .sizes) 4 u t) y x refl))
 
   -- ---- they are held against the exhaustive best: once for both, from what a search owes at a place

@@ -27,7 +27,7 @@ use Rattle.frame.specs.Pictures.{Pair}
 use Rattle.frame.specs.Grid.{blocks, blockRow, blockColumn}
 use Rattle.frame.specs.Candidates.{candidate}
 use Rattle.frame.specs.Cross.{crossWindow, log2}
-use Rattle.frame.specs.Refusals.{unless, first}
+use Rattle.frame.specs.Refusals.{largestDistortion, unless, first}
 use Rattle.distortion.specs.Blocks.{distortion}
 use Rattle.search.specs.declared.Found.{Found}
 use Rattle.search.specs.Found.{vectorIn, probes}
@@ -269,7 +269,7 @@ pub record Promise (calls : List Call) : Type 0 where
       × (a .dropped + getD (a .counts) 4 0 ≡ overGrid p (λ y x. number (candidate (p .sizes) w y x))))
   -- "Four-step and cross .. run, unrefused, by field or single block, on an accepted step's frames and N, cross with any T it takes."
   pub four-step-runs : EachStep calls (λ p w list s. Runs p 3 7 0)
-  pub cross-runs : EachStep calls (λ p w list s. (u t : ℕ) → T (crossWindow u) → t ≤ 65280 → Runs p 4 u t)
+  pub cross-runs : EachStep calls (λ p w list s. (u t : ℕ) → T (crossWindow u) → t ≤ largestDistortion → Runs p 4 u t)
   -- "Each is held against the exhaustive best, for that step's w, of the block at the same place": four-step, where w is 7 or more, never ends lower, within
   -- 27 probes a block
   pub four-step : EachStep calls (λ p w list s. 7 ≤ w → (t y x : ℕ) → single p 3 7 t y x .refusal ≡ 0 → NotLower p w y x (single p 3 7 t y x) 27)

@@ -20,7 +20,7 @@ pub fn magnitude(d: i32) -> u32
 
 // |a - b| of two sums of pels. By a signed difference: the compiler has its best code for that.
 pub fn gap(a: u32, b: u32) -> u32
-    requires { ⌜ (a ≤ 65280) × (b ≤ 65280) ⌝ }
+    requires { ⌜ (a ≤ 2147483647) × (b ≤ 2147483647) ⌝ }
     ensures { λ r. ⌜ r ≡ absDiff a b ⌝ }
 {
     magnitude((a as i32) - (b as i32))

@@ -6,16 +6,16 @@ ghost use Prim.Native.Nat.{_+_, _*_, _≤_, _<_};
 ghost use lib.ListN.{length, drop};
 ghost use Rattle.base.specs.Sum.{sumTo};
 ghost use Rattle.base.specs.Lists.{fillTo};
+ghost use Rattle.frame.specs.Refusals.{largestN};
 ghost use Rattle.distortion.specs.Blocks.{blockAt};
 ghost use Rattle.pruning.specs.Distance.{squareSum};
 ghost use Rattle.sums.specs.Area.{SumsOf};
-ghost use Rattle.sums.specs.Filling.{largestN};
 ghost use Rattle.squares.specs.Squares.{largestSquareSum, looked, Looked, IsSquare, ownWindow, OwnSums, squareSums, squareSteps, gapAt, Compared, IsDistance};
 use search::Spot;
 use sums::Window;
 
 // How many squares of at least 2 × 2 pels a block has.
-pub const MOST_SQUARES: usize = (sums::LARGEST_N / 2) * (sums::LARGEST_N / 2);
+pub const MOST_SQUARES: usize = (frame::LARGEST_N / 2) * (frame::LARGEST_N / 2);
 
 // The sum of the square at place `at` of the table, by four look-ups.
 pub fn look(sums: &[u32], low: usize, m: usize, at: usize) -> u32

@@ -10,12 +10,10 @@ ghost use Rattle.sums.specs.Area.{summed};
 ghost use Rattle.sums.specs.Square.{squareAt, Square};
 ghost use Rattle.sums.specs.Filling.{nextRow, Fillable};
 
-// The largest N, and the lengths of the summed-area tables of such a block and of its search window.
-pub const LARGEST_N: usize = 16;
+// The lengths of the summed-area tables of a block of the largest N, and of its search window.
+pub const OWN_TABLE: usize = (frame::LARGEST_N + 1) * (frame::LARGEST_N + 1);
 
-pub const OWN_TABLE: usize = (LARGEST_N + 1) * (LARGEST_N + 1);
-
-pub const WINDOW_TABLE: usize = (LARGEST_N + 32 + 1) * (LARGEST_N + 32 + 1);
+pub const WINDOW_TABLE: usize = (frame::LARGEST_N + 32 + 1) * (frame::LARGEST_N + 32 + 1);
 
 // A part of a frame: so many rows from row `top` on, so many columns from column `left` on.
 pub struct Window {
