@@ -40,10 +40,12 @@ pub fn head_refusal(h: Head) -> u32
     if !frame::block_ok(sizes_in(h)) {
         return 3;
     }
-    if !frame::search_ok(h.search) {
+    let search = frame::search_ok(h.search);
+    let window = frame::window_ok(h.search, h.w);
+    if !search {
         return 4;
     }
-    if !frame::window_ok(h.search, h.w) {
+    if !window {
         return 5;
     }
     0

@@ -3,11 +3,13 @@
 --   commandNumber   01's number of each case: the command byte, or the refusal's number
 --   commandValues   01's values of each case, in the order in which they are written and printed: of a refusal its place
 --   commandBytes    the bytes of a command, its number first; a refusal has none
+--   sizeOf          how many bytes a command takes
 --   isRefused       the command is a refusal; placeOf: its place
 --   blockValues     the three numbers that a block of either kind has in a list; other commands have none
 use Prim.Native.Nat.{ℕ}
 use mathlib.Core.List.{List, [], _∷_, _++_}
 use mathlib.Core.Bool.{Bool, true, false}
+use lib.ListN.{length}
 use lib.IntN.{ℤ, pos}
 use Rattle.signed.specs.Values.{byteOf}
 use Rattle.log.specs.declared.Command.{Command}
@@ -34,6 +36,9 @@ commandBytes (Cmd.Block dy dx distortion) = commandNumber (Cmd.Block dy dx disto
 commandBytes Cmd.Still = commandNumber Cmd.Still ∷ []
 commandBytes (Cmd.End blocks) = commandNumber (Cmd.End blocks) ∷ bytes4 blocks
 commandBytes (Cmd.Refused number place) = []
+
+abbrev pub sizeOf : Command → ℕ
+sizeOf command = length (commandBytes command)
 
 abbrev pub isRefused : Command → Bool
 isRefused (Cmd.Head h) = false

@@ -3,9 +3,9 @@
 -- end before the command is complete; 15 head that 1, 3, 4 or 5 would turn away; 16 block vector no candidate, distortion below 0 or over 255 × N², or a
 -- still block as command 2; 17 end with another number; 18 bytes after the end. First offset wins; at one command 14, then 13, then the rest. The
 -- place is the command's offset (the log's length if none begins, the first extra byte for 18)."
---   turnedAway, handedOut   a refusal; a command, and where the walker then stands
+--   turnedAway, handedOut   a refusal; a command, with the walker behind its bytes
 --   judged       "at one command 14, then 13, then the rest"
---   headAt, blockAt, stillAt, endAt   a command of that kind at an offset, in any phase; headIn, dyAt, dxAt, distortionAt: its operands
+--   headAt, blockAt, stillAt, endAt   a command of that kind at an offset, in any phase; headIn, dyAt, dxAt, distortionAt: its operands, blockIn: the block that they make
 --   byCommand    "The command byte decides"
 --   stepAt       one call of the walker, 34 included
 --   startCursor  where a walk begins
@@ -27,15 +27,16 @@ use Rattle.log.specs.declared.Command.{Command}
 use Rattle.log.specs.declared.Command.the-variants as Cmd
 use Rattle.log.specs.declared.Stepped.{Stepped}
 use Rattle.log.specs.Numbers.{be2, be4}
-use Rattle.log.specs.Commands.{commandNumber, isRefused}
+use Rattle.log.specs.Commands.{commandNumber, sizeOf, isRefused}
 use Rattle.heads.specs.Heads.{headRefusal, headOk, gridOf, entryOk, isStill}
 
 -- refused with a number and a place; the walker keeps its place and is over
 abbrev pub turnedAway : ℕ → ℕ → ℕ → Stepped
 turnedAway at number place = record { command = Cmd.Refused number place; next = record { at = at; phase = Over } }
 
+-- a command at `at`; the walker then stands behind it, in this phase
 abbrev pub handedOut : Command → ℕ → Phase → Stepped
-handedOut command next phase = record { command = command; next = record { at = next; phase = phase } }
+handedOut command at phase = record { command = command; next = record { at = at + sizeOf command; phase = phase } }
 
 -- a command at `at` that is due or not, of so many bytes, and what is to be said once it is due and whole
 unfoldable pub judged : Bool → ℕ → List ℕ → ℕ → Stepped → Stepped
@@ -48,12 +49,12 @@ unfoldable pub headIn : List ℕ → ℕ → Head
 headIn log at =
     record { width = be2 log (at + 1); height = be2 log (at + 3); n = getD log (at + 5) 0; w = getD log (at + 6) 0; search = getD log (at + 7) 0 }
 
--- a head: 8 bytes, due at the start
+-- a head: due at the start
 unfoldable pub headTaken : List ℕ → ℕ → Stepped
-headTaken log at = let h = headIn log at in cond (headOk h) (handedOut (Cmd.Head h) (at + 8) (Body h 0)) (turnedAway at 15 at)
+headTaken log at = let h = headIn log at in cond (headOk h) (handedOut (Cmd.Head h) at (Body h 0)) (turnedAway at 15 at)
 
 abbrev pub headAt : List ℕ → ℕ → Phase → Stepped
-headAt log at Start = judged true 8 log at (headTaken log at)
+headAt log at Start = judged true (sizeOf (Cmd.Head (headIn log at))) log at (headTaken log at)
 headAt log at (Body h k) = turnedAway at 14 at
 headAt log at Ended = turnedAway at 14 at
 headAt log at Over = turnedAway at 14 at
@@ -68,38 +69,41 @@ dxAt log at = signedByte (getD log (at + 2) 0)
 abbrev pub distortionAt : List ℕ → ℕ → ℕ
 distortionAt log at = be2 log (at + 3)
 
+abbrev pub blockIn : List ℕ → ℕ → Command
+blockIn log at = Cmd.Block (dyAt log at) (dxAt log at) (distortionAt log at)
+
 -- 16 lets them pass as block k
 abbrev pub blockPasses : List ℕ → ℕ → Head → ℕ → Bool
 blockPasses log at h k =
     entryOk h k (dyAt log at) (dxAt log at) (pos (distortionAt log at)) && not (isStill (dyAt log at) (dxAt log at) (pos (distortionAt log at)))
 
--- a block: 5 bytes, due until the grid is full
+-- a block: due until the grid is full
 unfoldable pub blockTaken : List ℕ → ℕ → Head → ℕ → Stepped
 blockTaken log at h k =
     cond (blockPasses log at h k)
-    (handedOut (Cmd.Block (dyAt log at) (dxAt log at) (distortionAt log at)) (at + 5) (Body h (k + 1)))
+    (handedOut (blockIn log at) at (Body h (k + 1)))
     (turnedAway at 16 at)
 
 abbrev pub blockAt : List ℕ → ℕ → Phase → Stepped
 blockAt log at Start = turnedAway at 14 at
-blockAt log at (Body h k) = judged (ltb k (gridOf h)) 5 log at (blockTaken log at h k)
+blockAt log at (Body h k) = judged (ltb k (gridOf h)) (sizeOf (blockIn log at)) log at (blockTaken log at h k)
 blockAt log at Ended = turnedAway at 14 at
 blockAt log at Over = turnedAway at 14 at
 
--- a still block: 1 byte, due as a block is
+-- a still block: due as a block is
 abbrev pub stillAt : List ℕ → ℕ → Phase → Stepped
 stillAt log at Start = turnedAway at 14 at
-stillAt log at (Body h k) = judged (ltb k (gridOf h)) 1 log at (handedOut Cmd.Still (at + 1) (Body h (k + 1)))
+stillAt log at (Body h k) = judged (ltb k (gridOf h)) (sizeOf Cmd.Still) log at (handedOut Cmd.Still at (Body h (k + 1)))
 stillAt log at Ended = turnedAway at 14 at
 stillAt log at Over = turnedAway at 14 at
 
--- the end: 5 bytes, due once the grid is full, with the number of its blocks
+-- the end: due once the grid is full, with the number of its blocks
 unfoldable pub endTaken : List ℕ → ℕ → Head → Stepped
-endTaken log at h = cond (eqb (be4 log (at + 1)) (gridOf h)) (handedOut (Cmd.End (gridOf h)) (at + 5) Ended) (turnedAway at 17 at)
+endTaken log at h = cond (eqb (be4 log (at + 1)) (gridOf h)) (handedOut (Cmd.End (gridOf h)) at Ended) (turnedAway at 17 at)
 
 abbrev pub endAt : List ℕ → ℕ → Phase → Stepped
 endAt log at Start = turnedAway at 14 at
-endAt log at (Body h k) = judged (leb (gridOf h) k) 5 log at (endTaken log at h)
+endAt log at (Body h k) = judged (leb (gridOf h) k) (sizeOf (Cmd.End (gridOf h))) log at (endTaken log at h)
 endAt log at Ended = turnedAway at 14 at
 endAt log at Over = turnedAway at 14 at
 
@@ -109,7 +113,7 @@ endAt log at Over = turnedAway at 14 at
 unfoldable pub byCommand : ℕ → List ℕ → ℕ → Phase → Stepped
 byCommand command log at phase =
     cond (eqb command (commandNumber (Cmd.Head (headIn log at)))) (headAt log at phase)
-    (cond (eqb command (commandNumber (Cmd.Block (dyAt log at) (dxAt log at) (distortionAt log at)))) (blockAt log at phase)
+    (cond (eqb command (commandNumber (blockIn log at))) (blockAt log at phase)
     (cond (eqb command (commandNumber Cmd.Still)) (stillAt log at phase)
     (cond (eqb command (commandNumber (Cmd.End (be4 log (at + 1))))) (endAt log at phase) (turnedAway at 14 at))))
 
@@ -174,7 +178,7 @@ module _ (log : List ℕ) (at : ℕ) where
   unfolding headTaken
   head-not h = rw (ne-eqb (headRefusal (headIn log at)) 0 h)
 
-  pub head-taken : headRefusal (headIn log at) ≡ 0 → headTaken log at ≡ handedOut (Cmd.Head (headIn log at)) (at + 8) (Body (headIn log at) 0)
+  pub head-taken : headRefusal (headIn log at) ≡ 0 → headTaken log at ≡ handedOut (Cmd.Head (headIn log at)) at (Body (headIn log at) 0)
   unfolding headTaken
   head-taken e = rw (eq-eqb (headRefusal (headIn log at)) 0 e)
 
@@ -182,7 +186,7 @@ module _ (log : List ℕ) (at : ℕ) where
   unfolding endTaken
   end-not h n = rw (ne-eqb (be4 log (at + 1)) (gridOf h) n)
 
-  pub end-taken : (h : Head) → be4 log (at + 1) ≡ gridOf h → endTaken log at h ≡ handedOut (Cmd.End (gridOf h)) (at + 5) Ended
+  pub end-taken : (h : Head) → be4 log (at + 1) ≡ gridOf h → endTaken log at h ≡ handedOut (Cmd.End (gridOf h)) at Ended
   unfolding endTaken
   end-taken h e = rw (eq-eqb (be4 log (at + 1)) (gridOf h) e)
 
@@ -196,21 +200,21 @@ module _ (log : List ℕ) (at : ℕ) where
     block-still e f = rw (← ey, ← ex, ← ed, e, f)
 
     pub block-taken : entryOk h k dy dx (pos distortion) ≡ true → isStill dy dx (pos distortion) ≡ false
-        → blockTaken log at h k ≡ handedOut (Cmd.Block dy dx distortion) (at + 5) (Body h (k + 1))
+        → blockTaken log at h k ≡ handedOut (Cmd.Block dy dx distortion) at (Body h (k + 1))
     unfolding blockTaken
     block-taken e f = rw (← ey, ← ex, ← ed, e, f)
 
   -- a whole block command that is due: its command says all of it
   module _ (h : Head) (k : ℕ) where
     abbrev taken : Bool → ℤ → ℤ → ℕ → Stepped
-    taken t dy dx distortion = cond t (handedOut (Cmd.Block dy dx distortion) (at + 5) (Body h (k + 1))) (turnedAway at 16 at)
+    taken t dy dx distortion = cond t (handedOut (Cmd.Block dy dx distortion) at (Body h (k + 1))) (turnedAway at 16 at)
 
     refused-so : (t : Bool) (dy dx : ℤ) (distortion : ℕ) → isRefused (taken t dy dx distortion .command) ≡ true → taken t dy dx distortion ≡ turnedAway at 16 at
     refused-so true dy dx distortion e = cc
     refused-so false dy dx distortion e = refl
 
     taken-so : (t : Bool) (dy dx : ℤ) (distortion : ℕ) → isRefused (taken t dy dx distortion .command) ≡ false
-        → taken t dy dx distortion ≡ handedOut (Cmd.Block dy dx distortion) (at + 5) (Body h (k + 1))
+        → taken t dy dx distortion ≡ handedOut (Cmd.Block dy dx distortion) at (Body h (k + 1))
     taken-so true dy dx distortion e = refl
     taken-so false dy dx distortion e = cc
 
@@ -219,6 +223,6 @@ module _ (log : List ℕ) (at : ℕ) where
     block-refused e = refused-so (blockPasses log at h k) (dyAt log at) (dxAt log at) (distortionAt log at) e
 
     pub block-handed : isRefused (blockTaken log at h k .command) ≡ false
-        → blockTaken log at h k ≡ handedOut (Cmd.Block (dyAt log at) (dxAt log at) (distortionAt log at)) (at + 5) (Body h (k + 1))
+        → blockTaken log at h k ≡ handedOut (blockIn log at) at (Body h (k + 1))
     unfolding blockTaken
     block-handed e = taken-so (blockPasses log at h k) (dyAt log at) (dxAt log at) (distortionAt log at) e

@@ -5,12 +5,11 @@ ghost use mathlib.Core.Path.{_≡_};
 ghost use mathlib.Core.Bool.{true};
 ghost use Prim.Native.Nat.{_+_, _≤_, _<_};
 ghost use lib.ListN.{length};
-ghost use lib.Dec.{leb, ltb};
-ghost use Rattle.log.specs.declared.Phase.the-variants.{Body};
+ghost use Rattle.log.specs.declared.Phase.the-variants.{Start, Body};
 ghost use Rattle.log.specs.Numbers.{be2, be4};
-ghost use Rattle.log.specs.Commands.{commandNumber, commandBytes, placeOf, isRefused};
+ghost use Rattle.log.specs.Commands.{commandNumber, sizeOf, placeOf, isRefused};
 ghost use Rattle.heads.specs.Heads.{headRefusal, gridOf};
-ghost use Rattle.log.specs.Step.{turnedAway, judged, headIn, headTaken, headAt, blockTaken, blockAt, stillAt, endTaken, endAt, commandAt, afterEnd, standingOk, phaseOk, stepAt, startCursor};
+ghost use Rattle.log.specs.Step.{turnedAway, headIn, headAt, blockTaken, blockAt, stillAt, endAt, commandAt, afterEnd, standingOk, phaseOk, stepAt, startCursor};
 use heads::Head;
 
 // How far a walk is: before the head, among the blocks with the head's numbers and how many blocks were read, after the end command, or
@@ -45,7 +44,7 @@ pub struct Stepped {
 
 // ---- 01's numbers
 
-// The command bytes.
+// The command bytes, and how many bytes each command takes with its operands.
 pub const HEAD: u8 = 1;
 
 pub const BLOCK: u8 = 2;
@@ -53,6 +52,14 @@ pub const BLOCK: u8 = 2;
 pub const STILL: u8 = 3;
 
 pub const END: u8 = 4;
+
+pub const HEAD_SIZE: usize = 8;
+
+pub const BLOCK_SIZE: usize = 5;
+
+pub const STILL_SIZE: usize = 1;
+
+pub const END_SIZE: usize = 5;
 
 // A command's number: its byte, or the refusal's.
 pub fn command_number(command: Command) -> u32
@@ -90,17 +97,17 @@ pub fn place_of(command: Command) -> usize
 
 // How many bytes a command takes.
 pub fn command_size(command: Command) -> usize
-    ensures { λ r. ⌜ r ≡ length (commandBytes command) ⌝ }
+    ensures { λ r. ⌜ r ≡ sizeOf command ⌝ }
 {
     match command {
-        Command::Head(_) => 8,
+        Command::Head(_) => HEAD_SIZE,
         Command::Block {
             dy: _,
             dx: _,
             distortion: _,
-        } => 5,
-        Command::Still => 1,
-        Command::End(_) => 5,
+        } => BLOCK_SIZE,
+        Command::Still => STILL_SIZE,
+        Command::End(_) => END_SIZE,
         Command::Refused {
             number: _,
             place: _,
@@ -185,9 +192,9 @@ fn turned_away(at: usize, number: u32, place: usize) -> Stepped
 // A head where one is due.
 fn head_due(log: &[u8], at: usize) -> Stepped
     requires { ⌜ at ≤ length (now log) ⌝ }
-    ensures { λ r. ⌜ r ≡ judged true 8 (now (log .entry)) at (headTaken (now (log .entry)) at) ⌝ }
+    ensures { λ r. ⌜ r ≡ headAt (now (log .entry)) at Start ⌝ }
 {
-    if log.len() - at < 8 {
+    if log.len() - at < HEAD_SIZE {
         return turned_away(at, 13, at);
     }
     let head = head_in(log, at);
@@ -197,7 +204,7 @@ fn head_due(log: &[u8], at: usize) -> Stepped
     Stepped {
         command: Command::Head(head),
         next: Cursor {
-            at: at + 8,
+            at: at + HEAD_SIZE,
             phase: Phase::Body { head, blocks: 0 },
         },
     }
@@ -218,12 +225,12 @@ fn head_at(log: &[u8], at: usize, phase: Phase) -> Stepped
 // A block as command 2, among the blocks.
 fn block_due(log: &[u8], at: usize, head: Head, blocks: usize) -> Stepped
     requires { ⌜ (at ≤ length (now log)) × (standingOk head blocks ≡ true) ⌝ }
-    ensures { λ r. ⌜ r ≡ judged (ltb blocks (gridOf head)) 5 (now (log .entry)) at (blockTaken (now (log .entry)) at head blocks) ⌝ }
+    ensures { λ r. ⌜ r ≡ blockAt (now (log .entry)) at (Body head blocks) ⌝ }
 {
     if blocks >= heads::grid(head) {
         return turned_away(at, 14, at);
     }
-    if log.len() - at < 5 {
+    if log.len() - at < BLOCK_SIZE {
         return turned_away(at, 13, at);
     }
     block_taken(log, at, head, blocks)
@@ -269,7 +276,7 @@ fn block_taken(log: &[u8], at: usize, head: Head, blocks: usize) -> Stepped
     Stepped {
         command,
         next: Cursor {
-            at: at + 5,
+            at: at + BLOCK_SIZE,
             phase: Phase::Body {
                 head,
                 blocks: blocks + 1,
@@ -301,7 +308,7 @@ fn still_due(log: &[u8], at: usize, head: Head, blocks: usize) -> Stepped
     Stepped {
         command: Command::Still,
         next: Cursor {
-            at: at + 1,
+            at: at + STILL_SIZE,
             phase: Phase::Body {
                 head,
                 blocks: blocks + 1,
@@ -325,14 +332,15 @@ fn still_at(log: &[u8], at: usize, phase: Phase) -> Stepped
 // An end command, among the blocks.
 fn end_due(log: &[u8], at: usize, head: Head, blocks: usize) -> Stepped
     requires { ⌜ (at ≤ length (now log)) × (standingOk head blocks ≡ true) ⌝ }
-    ensures { λ r. ⌜ r ≡ judged (leb (gridOf head) blocks) 5 (now (log .entry)) at (endTaken (now (log .entry)) at head) ⌝ }
+    ensures { λ r. ⌜ r ≡ endAt (now (log .entry)) at (Body head blocks) ⌝ }
 {
     let all = heads::grid(head);
+    let left = log.len() - at;
     if blocks < all {
-        return turned_away(at, 14, at);
+        return turned_away(at, 14, at); // not due
     }
-    if log.len() - at < 5 {
-        return turned_away(at, 13, at);
+    if left < END_SIZE {
+        return turned_away(at, 13, at); // cut off
     }
     if four(log, at + 1) != all {
         return turned_away(at, 17, at);
@@ -340,7 +348,7 @@ fn end_due(log: &[u8], at: usize, head: Head, blocks: usize) -> Stepped
     Stepped {
         command: Command::End(all),
         next: Cursor {
-            at: at + 5, // the first extra byte, where there is one
+            at: at + END_SIZE, // the first extra byte, where there is one
             phase: Phase::Ended,
         },
     }

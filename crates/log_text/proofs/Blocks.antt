@@ -59,7 +59,7 @@ module _ (log : List ℕ) (at : ℕ) (h : Head) (k : ℕ) (command : Command) (q
   abbrev size : ℕ
   size = length (commandBytes command)
 
-  step : stepAt log (among h at k) ≡ handedOut command (at + size) (Body h (k + 1))
+  step : stepAt log (among h at k) ≡ handedOut command at (Body h (k + 1))
   step = q .says e
 
   -- it goes on inside the log
@@ -71,7 +71,7 @@ module _ (log : List ℕ) (at : ℕ) (h : Head) (k : ℕ) (command : Command) (q
       → Rest m next (flatMap lineOf (commandsFrom (length log - (k + 1)) log (among h (at + size) (k + 1)))) before from whole
   quick-turn {next} l r p =
       let n : length log - k - 1 ≡ length log - (k + 1) = omega arith in
-      rw n at (turn lineOf (length log - k) log (among h at k) (handedOut command (at + size) (Body h (k + 1))) false (omega arith) (sym step) (sym e) r p)
+      rw n at (turn lineOf (length log - k) log (among h at k) (handedOut command at (Body h (k + 1))) false (omega arith) (sym step) (sym e) r p)
 
 -- ---- the first line
 

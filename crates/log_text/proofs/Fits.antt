@@ -24,7 +24,7 @@ use Rattle.heads.specs.Heads.{Headed, headed, Entry, entry}
 use Rattle.log.specs.Step.{stepAt, startCursor}
 use Rattle.log.specs.Walk.{commandsFrom, walk}
 use Rattle.walks.specs.Cases.{Kind, kinds}
-use Rattle.log_text.specs.Text.{digits, decimal, number, spaced, endWord, refusedWord, atWord, worded, lineOf, printed}
+use Rattle.log_text.specs.Text.{digits, decimal, number, spaced, endWord, refusedWord, atWord, worded, lineOf, longestLog, longestText, printed}
 use Rattle.log_text.proofs.Texts.{digits-one, cond-length, digits-length}
 
 record Short (text : List ℕ) (n : ℕ) : Type 0 where
@@ -94,11 +94,11 @@ at-word : Short atWord 3
 unfolding atWord
 at-word = record { most = omega arith }
 
-refused-words : (n place : ℕ) → n ≤ 34 → place ≤ 65536 → Short (worded (Cmd.Refused n place)) 20
+refused-words : (n place : ℕ) → n ≤ 34 → place ≤ longestLog → Short (worded (Cmd.Refused n place)) 20
 unfolding worded spaced limit
 refused-words n place h p = both (both (both refused-word (few-digits 1 n 32 (omega arith))) at-word) (few-digits 4 place 10 (omega arith))
 
-refused-line : (n place : ℕ) → n ≤ 34 → place ≤ 65536 → Short (lineOf (Cmd.Refused n place)) 20
+refused-line : (n place : ℕ) → n ≤ 34 → place ≤ longestLog → Short (lineOf (Cmd.Refused n place)) 20
 refused-line n place h p =
     record { most = cond-length (eqb n 34) [] (worded (Cmd.Refused n place)) 20 (omega arith) (refused-words n place h p .most) }
 
@@ -116,7 +116,7 @@ textFrom calls log c = flatMap lineOf (commandsFrom calls log c)
 abbrev Fitted : ℕ → List ℕ → Cursor → Type 0
 Fitted calls log c = length (textFrom calls log c) + 6 * c .at ≤ 6 * length log + 20
 
-one-more : (calls : ℕ) (log : List ℕ) (c : Cursor) → length log ≤ 65536 → ((next : Cursor) → next .at ≤ length log → Fitted calls log next) → c .at ≤ length log → Fitted (suc calls) log c
+one-more : (calls : ℕ) (log : List ℕ) (c : Cursor) → length log ≤ longestLog → ((next : Cursor) → next .at ≤ length log → Fitted calls log next) → c .at ≤ length log → Fitted (suc calls) log c
 unfolding commandsFrom flatMap
 one-more calls log c small after h = go (stepAt log c) (kinds log c)
   where
@@ -133,29 +133,29 @@ one-more calls log c small after h = go (stepAt log c) (kinds log c)
     go s (Kind.still g k phase ok due byte whole) = more _ _ _ still-line whole (omega arith)
     go s (Kind.end g k phase ok full byte whole blocks) = more _ _ _ (end-line _) whole (omega arith)
 
-from-here : (calls : ℕ) (log : List ℕ) (c : Cursor) → length log ≤ 65536 → c .at ≤ length log → Fitted calls log c
+from-here : (calls : ℕ) (log : List ℕ) (c : Cursor) → length log ≤ longestLog → c .at ≤ length log → Fitted calls log c
 unfolding commandsFrom flatMap
 from-here zero log c small h = omega arith
 from-here (suc calls) log c small h = one-more calls log c small (λ next l. from-here calls log next small l) h
 
-pub printed-long : (log : List ℕ) → 65536 < length log → printed log ≡ worded (Cmd.Refused 20 65536)
+pub printed-long : (log : List ℕ) → longestLog < length log → printed log ≡ worded (Cmd.Refused 20 longestLog)
 unfolding printed
-printed-long log h = rw (lt-ltb 65536 (length log) h)
+printed-long log h = rw (lt-ltb longestLog (length log) h)
 
-pub printed-walk : (log : List ℕ) → length log ≤ 65536 → printed log ≡ flatMap lineOf (walk log)
+pub printed-walk : (log : List ℕ) → length log ≤ longestLog → printed log ≡ flatMap lineOf (walk log)
 unfolding printed
-printed-walk log h = rw (le-ltb 65536 (length log) h)
+printed-walk log h = rw (le-ltb longestLog (length log) h)
 
-pub fits : (log : List ℕ) → length (printed log) ≤ 393236
+pub fits : (log : List ℕ) → length (printed log) ≤ longestText
 unfolding walk
-fits log = go (decLt 65536 (length log))
+fits log = go (decLt longestLog (length log))
   where
-    go : Dec (65536 < length log) → length (printed log) ≤ 393236
-    go (yes h) = rw (printed-long log h) (omega (arith, refused-words 20 65536 (omega arith) (omega arith) .most))
+    go : Dec (65536 < length log) → length (printed log) ≤ longestText
+    go (yes h) = rw (printed-long log h) (omega (arith, refused-words 20 longestLog (omega arith) (omega arith) .most))
     go (no h) = rw (printed-walk log (omega arith)) (omega (arith, from-here (length log + 1) log startCursor (omega arith) (omega arith)))
 
 -- the whole text put from the start on
-pub all-put : {before after text : List ℕ} {next : ℕ} (log : List ℕ) → printed log ≡ text → Put before 0 text after next → (after ≡ over (printed log) before) × (next ≡ length (printed log)) × (next ≤ 393236)
+pub all-put : {before after text : List ℕ} {next : ℕ} (log : List ℕ) → printed log ≡ text → Put before 0 text after next → (after ≡ over (printed log) before) × (next ≡ length (printed log)) × (next ≤ longestText)
 all-put {next} log e p =
     let o = put-over p in
     let n : next ≡ length (printed log) = rw e (o .1) in

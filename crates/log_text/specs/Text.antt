@@ -5,8 +5,9 @@
 --   number     an integer's digits, with a sign before them where it is below 0, and the byte after it
 --   spaced     integers with a space between two, and the line's end after the last
 --   lineOf     the line of a command; 34 has none
+--   longestLog, longestText   a log that is printed has no more bytes, and its text no more
 --   printed    all that the program prints
-use Prim.Native.Nat.{ℕ, zero, suc, _+_, _/_, _%_}
+use Prim.Native.Nat.{ℕ, zero, suc, _+_, _*_, _/_, _%_}
 use mathlib.Core.List.{List, [], _∷_, _++_, flatMap}
 use mathlib.Core.Bool.{cond}
 use lib.ListN.{length}
@@ -75,5 +76,12 @@ lineOf (Cmd.End blocks) = worded (Cmd.End blocks)
 
 -- ---- the text
 
+abbrev pub longestLog : ℕ
+longestLog = 65536
+
+-- a byte of a log prints 6 at most, the refusal 20
+abbrev pub longestText : ℕ
+longestText = 6 * longestLog + 20
+
 unfoldable pub printed : List ℕ → List ℕ
-printed log = cond (ltb 65536 (length log)) (lineOf (Cmd.Refused 20 65536)) (flatMap lineOf (walk log))
+printed log = cond (ltb longestLog (length log)) (lineOf (Cmd.Refused 20 longestLog)) (flatMap lineOf (walk log))

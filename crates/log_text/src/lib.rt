@@ -12,11 +12,16 @@ ghost use Rattle.log.specs.Commands.{isRefused};
 ghost use Rattle.log.specs.Walk.{commandsFrom, walk};
 ghost use Rattle.heads.specs.Heads.{headRefusal, gridOf};
 ghost use Rattle.log_text.specs.Quick.{among, Quick};
-ghost use Rattle.log_text.specs.Text.{digits, decimal, number, worded, lineOf, printed};
+ghost use Rattle.log_text.specs.Text.{digits, decimal, number, worded, lineOf, longestLog, longestText, printed};
 use heads::Head;
 use log::Command;
 use log::Cursor;
 use log::Phase;
+
+// A log that is printed has no more bytes, and its text no more than these: a byte of a log prints 6 at most, the refusal 20.
+pub const LONGEST_LOG: usize = 65536;
+
+pub const LONGEST_TEXT: usize = 6 * LONGEST_LOG + 20;
 
 // The byte of a digit.
 fn digit(n: usize) -> u8
@@ -180,7 +185,7 @@ fn block_here(log: &[u8], at: usize, head: Head, all: usize, k: usize) -> Comman
                 return Command::Still;
             }
             if command == log::BLOCK {
-                if log.len() - at >= 5 {
+                if log.len() - at >= log::BLOCK_SIZE {
                     return log::block_in(log, at, head, k);
                 }
             }
@@ -205,11 +210,11 @@ fn put_block_line(out: &mut [u8], at: usize, command: Command) -> usize
 
 // The lines after the head's: blocks that pass one after the other, the head judged once; whatever comes then by `put_from`.
 fn put_body(log: &[u8], out: &mut [u8], from: usize, head: Head) -> usize
-    requires { ⌜ (8 ≤ length (now log)) × (length (now log) ≤ 65536) × (from ≤ 128) × (headRefusal head ≡ 0) ⌝ }
+    requires { ⌜ (8 ≤ length (now log)) × (length (now log) ≤ longestLog) × (from ≤ 128) × (headRefusal head ≡ 0) ⌝ }
     ensures { λ r. ⌜ Put (now (out .entry)) from (flatMap lineOf (commandsFrom (length (now (log .entry))) (now (log .entry)) (among head 8 0))) (now (out .exit)) r ⌝ }
 {
     let all = heads::grid(head);
-    let mut next: usize = 8;
+    let mut next = log::HEAD_SIZE;
     let mut k: usize = 0;
     let mut at = from;
     let mut command = block_here(log, next, head, all, k);
@@ -228,7 +233,7 @@ fn put_body(log: &[u8], out: &mut [u8], from: usize, head: Head) -> usize
 
 // The lines of a walk, from the buffer's start.
 fn put_walk(log: &[u8], out: &mut [u8]) -> usize
-    requires { ⌜ length (now log) ≤ 65536 ⌝ }
+    requires { ⌜ length (now log) ≤ longestLog ⌝ }
     ensures { λ r. ⌜ Put (now (out .entry)) 0 (flatMap lineOf (walk (now (log .entry)))) (now (out .exit)) r ⌝ }
 {
     let s = log::step_at(log, log::start());
@@ -242,10 +247,10 @@ fn put_walk(log: &[u8], out: &mut [u8]) -> usize
 
 // All that the program prints for the bytes of a log, over the front of the buffer as far as it fits. Answers with the text's length.
 pub fn print_log(log: &[u8], out: &mut [u8]) -> usize
-    ensures { λ r. ⌜ (now (out .exit) ≡ over (printed (now (log .entry))) (now (out .entry))) × (r ≡ length (printed (now (log .entry)))) × (r ≤ 393236) ⌝ }
+    ensures { λ r. ⌜ (now (out .exit) ≡ over (printed (now (log .entry))) (now (out .entry))) × (r ≡ length (printed (now (log .entry)))) × (r ≤ longestText) ⌝ }
 {
-    if log.len() > 65536 {
-        return put_refused(out, 0, 20, 65536);
+    if log.len() > LONGEST_LOG {
+        return put_refused(out, 0, 20, LONGEST_LOG);
     }
     put_walk(log, out)
 }

@@ -96,10 +96,13 @@ fn block_size(list: &[i32], k: usize) -> usize
     ensures { λ r. ⌜ (r ≡ length (blockBytes (now (list .entry)) k)) × (r ≤ 5) ⌝ }
 {
     if still_at(list, k) {
-        return 1;
+        return log::STILL_SIZE;
     }
-    5
+    log::BLOCK_SIZE
 }
+
+// The bytes around the blocks: head and end.
+const AROUND: usize = log::HEAD_SIZE + log::END_SIZE;
 
 // How many bytes the log takes.
 fn log_size(head: Head, list: &[i32]) -> usize
@@ -107,7 +110,7 @@ fn log_size(head: Head, list: &[i32]) -> usize
     ensures { λ r. ⌜ r ≡ length (logOf head (now (list .entry))) ⌝ }
 {
     let n = heads::grid(head);
-    let mut size: usize = 13;
+    let mut size = AROUND;
     let mut k: usize = 0;
     while k < n {
         size += block_size(list, k);

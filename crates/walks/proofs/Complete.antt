@@ -49,7 +49,7 @@ module _ (h : Head) (list : List ℤ) (ok : headRefusal h ≡ 0)
 
   -- a block of either kind
   block-on : (at k : ℕ) → k < gridOf h → (rest : List ℕ) (x : Command) → Made (valueOf list k 0) (valueOf list k 1) (valueOf list k 2) x
-      → drop at log ≡ commandBytes x ++ rest → stepAt log (body at k) ≡ handedOut x (at + length (commandBytes x)) (Body h (k + 1))
+      → drop at log ≡ commandBytes x ++ rest → stepAt log (body at k) ≡ handedOut x at (Body h (k + 1))
   block-on at k l rest x (as-still e) goes = still-step log at h k ok l rest goes
   block-on at k l rest x (as-block e) goes = block-step log at h k ok l (valueOf list k 0) (valueOf list k 1) (valueOf list k 2) (entries k l) e rest goes
 

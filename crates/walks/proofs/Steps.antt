@@ -58,7 +58,7 @@ module _ (log : List ℕ) (at : ℕ) (h : Head) (k : ℕ) (ok : headRefusal h �
 
   pub block-step : k < gridOf h → (dy dx z : ℤ) → entryOk h k dy dx z ≡ true → isStill dy dx z ≡ false → (rest : List ℕ)
       → drop at log ≡ commandBytes (Cmd.Block dy dx (up z)) ++ rest
-      → stepAt log here ≡ handedOut (Cmd.Block dy dx (up z)) (at + 5) (Body h (k + 1))
+      → stepAt log here ≡ handedOut (Cmd.Block dy dx (up z)) at (Body h (k + 1))
   unfolding byCommand judged blockTaken
   block-step l dy dx z o s rest goes =
       let there = byte-there log at (commandBytes (Cmd.Block dy dx (up z))) rest goes in
@@ -83,14 +83,14 @@ module _ (log : List ℕ) (at : ℕ) (h : Head) (k : ℕ) (ok : headRefusal h �
         s,
       )
 
-  pub still-step : k < gridOf h → (rest : List ℕ) → drop at log ≡ commandBytes Cmd.Still ++ rest → stepAt log here ≡ handedOut Cmd.Still (at + 1) (Body h (k + 1))
+  pub still-step : k < gridOf h → (rest : List ℕ) → drop at log ≡ commandBytes Cmd.Still ++ rest → stepAt log here ≡ handedOut Cmd.Still at (Body h (k + 1))
   unfolding byCommand judged
   still-step l rest goes =
       let m : at + 1 ≤ length log = room log at (commandBytes Cmd.Still) rest goes (omega arith) in
       let command : getD log at 0 ≡ 3 = first-there log at (commandBytes Cmd.Still) rest goes in
       decides (omega arith) (omega arith) ∙ rw (command, lt-ltb k (gridOf h) l, le-leb (at + 1) (length log) m)
 
-  pub end-step : k ≡ gridOf h → (rest : List ℕ) → drop at log ≡ commandBytes (Cmd.End (gridOf h)) ++ rest → stepAt log here ≡ handedOut (Cmd.End (gridOf h)) (at + 5) Ended
+  pub end-step : k ≡ gridOf h → (rest : List ℕ) → drop at log ≡ commandBytes (Cmd.End (gridOf h)) ++ rest → stepAt log here ≡ handedOut (Cmd.End (gridOf h)) at Ended
   unfolding byCommand judged endTaken
   end-step l rest goes =
       let there = byte-there log at (commandBytes (Cmd.End (gridOf h))) rest goes in
@@ -116,7 +116,7 @@ unfolding headIn be2
 headIn-there h rest = rw (div-add-mod' (h .width) 256, div-add-mod' (h .height) 256)
 
 pub head-step : (h : Head) (rest : List ℕ) → headRefusal h ≡ 0
-    → stepAt (commandBytes (Cmd.Head h) ++ rest) startCursor ≡ handedOut (Cmd.Head h) 8 (Body h 0)
+    → stepAt (commandBytes (Cmd.Head h) ++ rest) startCursor ≡ handedOut (Cmd.Head h) 0 (Body h 0)
 unfolding stepAt commandAt byCommand judged headTaken
 head-step h rest ok =
     let log = commandBytes (Cmd.Head h) ++ rest in

@@ -20,7 +20,7 @@ use Rattle.log.specs.declared.Command.the-variants as Cmd
 use Rattle.log.specs.declared.Stepped.{Stepped}
 use Rattle.log.specs.Numbers.{be4}
 use Rattle.heads.specs.Heads.{headRefusal, headOk, gridOf, entryOk, isStill}
-use Rattle.log.specs.Step.{turnedAway, handedOut, judged, headIn, dyAt, dxAt, distortionAt, headTaken, headAt, blockTaken, blockAt, stillAt, endTaken, endAt, byCommand, commandAt, standingOk, phaseOk, byPhase, stepAt, standing-head, standing-blocks}
+use Rattle.log.specs.Step.{turnedAway, handedOut, judged, headIn, blockIn, dyAt, dxAt, distortionAt, headTaken, headAt, blockTaken, blockAt, stillAt, endTaken, endAt, byCommand, commandAt, standingOk, phaseOk, byPhase, stepAt, standing-head, standing-blocks}
 
 -- "34 walker called after a refusal, or after its end with no byte left, or one built by hand"
 pub data NoMore (log : List ℕ) (c : Cursor) : Type 0 where
@@ -37,16 +37,16 @@ pub data Kind (log : List ℕ) (c : Cursor) : Stepped → Type 0 where
   refused : (number place : ℕ) → number ≤ 34 → place ≤ length log → Reason log c number place
       → Kind log c (turnedAway (c .at) number place)
   head : c .phase ≡ Start → getD log (c .at) 0 ≡ 1 → c .at + 8 ≤ length log → headRefusal (headIn log (c .at)) ≡ 0
-      → Kind log c (handedOut (Cmd.Head (headIn log (c .at))) (c .at + 8) (Body (headIn log (c .at)) 0))
+      → Kind log c (handedOut (Cmd.Head (headIn log (c .at))) (c .at) (Body (headIn log (c .at)) 0))
   block : (h : Head) (k : ℕ) → c .phase ≡ Body h k → headRefusal h ≡ 0 → k < gridOf h → getD log (c .at) 0 ≡ 2 → c .at + 5 ≤ length log
       → entryOk h k (dyAt log (c .at)) (dxAt log (c .at)) (pos (distortionAt log (c .at))) ≡ true
       → isStill (dyAt log (c .at)) (dxAt log (c .at)) (pos (distortionAt log (c .at))) ≡ false
-      → Kind log c (handedOut (Cmd.Block (dyAt log (c .at)) (dxAt log (c .at)) (distortionAt log (c .at))) (c .at + 5) (Body h (k + 1)))
+      → Kind log c (handedOut (blockIn log (c .at)) (c .at) (Body h (k + 1)))
   still : (h : Head) (k : ℕ) → c .phase ≡ Body h k → headRefusal h ≡ 0 → k < gridOf h → getD log (c .at) 0 ≡ 3 → c .at + 1 ≤ length log
-      → Kind log c (handedOut Cmd.Still (c .at + 1) (Body h (k + 1)))
+      → Kind log c (handedOut Cmd.Still (c .at) (Body h (k + 1)))
   end : (h : Head) (k : ℕ) → c .phase ≡ Body h k → headRefusal h ≡ 0 → k ≡ gridOf h → getD log (c .at) 0 ≡ 4 → c .at + 5 ≤ length log
       → be4 log (c .at + 1) ≡ gridOf h
-      → Kind log c (handedOut (Cmd.End (gridOf h)) (c .at + 5) Ended)
+      → Kind log c (handedOut (Cmd.End (gridOf h)) (c .at) Ended)
 
 -- ---- every call has one
 
@@ -77,7 +77,7 @@ module _ (log : List ℕ) (at : ℕ) (inside : at ≤ length log) where
   head-kind Start e = judged-kind log at Start inside true 8 (headTaken log at) (λ d f. go f (headOk (headIn log at)) refl)
     where
       go : at + 8 ≤ length log → (a : Bool) → headOk (headIn log at) ≡ a
-          → Kind log (at-phase Start) (cond a (handedOut (Cmd.Head (headIn log at)) (at + 8) (Body (headIn log at) 0)) (turnedAway at 15 at))
+          → Kind log (at-phase Start) (cond a (handedOut (Cmd.Head (headIn log at)) at (Body (headIn log at) 0)) (turnedAway at 15 at))
       go f true g = head refl e f (eqb-true _ _ g)
       go f false g = away log at Start inside 15 (omega arith) (omega arith)
   head-kind (Body h k) e = away log at (Body h k) inside 14 (omega arith) (omega arith)
@@ -97,7 +97,7 @@ module _ (log : List ℕ) (at : ℕ) (inside : at ≤ length log) where
       go : k < gridOf h → at + 5 ≤ length log → (a : Bool) → entryOk h k (dyAt log at) (dxAt log at) (pos (distortionAt log at)) ≡ a
           → (b : Bool) → isStill (dyAt log at) (dxAt log at) (pos (distortionAt log at)) ≡ b
           → Kind log (at-phase (Body h k))
-          (cond (a && not b) (handedOut (Cmd.Block (dyAt log at) (dxAt log at) (distortionAt log at)) (at + 5) (Body h (k + 1))) (turnedAway at 16 at))
+          (cond (a && not b) (handedOut (blockIn log at) at (Body h (k + 1))) (turnedAway at 16 at))
       go d f true g true j = away log at (Body h k) inside 16 (omega arith) (omega arith)
       go d f true g false j = block h k refl (standing-head h k s) d e f g j
       go d f false g b j = away log at (Body h k) inside 16 (omega arith) (omega arith)
@@ -120,7 +120,7 @@ module _ (log : List ℕ) (at : ℕ) (inside : at ≤ length log) where
       (λ d f. go (standing-head h k s) (standing-blocks h k s) (leb-true _ _ d) f (eqb (be4 log (at + 1)) (gridOf h)) refl)
     where
       go : headRefusal h ≡ 0 → k ≤ gridOf h → gridOf h ≤ k → at + 5 ≤ length log → (a : Bool) → eqb (be4 log (at + 1)) (gridOf h) ≡ a
-          → Kind log (at-phase (Body h k)) (cond a (handedOut (Cmd.End (gridOf h)) (at + 5) Ended) (turnedAway at 17 at))
+          → Kind log (at-phase (Body h k)) (cond a (handedOut (Cmd.End (gridOf h)) at Ended) (turnedAway at 17 at))
       go t l m f true g = end h k refl t (omega arith) e f (eqb-true _ _ g)
       go t l m f false g = away log at (Body h k) inside 17 (omega arith) (omega arith)
   end-kind Ended s e = away log at Ended inside 14 (omega arith) (omega arith)

@@ -18,9 +18,6 @@ high d = passed (d .before .side-ok2 .ensures) (d .if2 .left)
 fits : (d : tie.Else3) → blockOk (sizesIn (d .before .before .before .before .before .before .before .args .h)) ≡ true
 fits d = passed (d .before .block-ok .ensures ∙ ap blockOk (d .before .before .sizes-in .ensures)) (d .if3 .left)
 
-known : (d : tie.Else4) → searchOk (d .before .before .before .before .before .before .before .before .before .args .h .search) ≡ true
-known d = passed (d .before .search-ok .ensures) (d .if4 .left)
-
 side-ok-requires : tie.Need-side-ok-requires
 side-ok-requires c κs = search needs
 
@@ -48,20 +45,23 @@ returns-3 c = let d = c .before .before .before in rw (wide (d .before .before),
 search-ok-requires : tie.Need-search-ok-requires
 search-ok-requires c κs = search needs
 
-returns-4 : tie.Need-returns-4
-unfolding headRefusal
-returns-4 c = let f = c .before .before in let d = f .before .before .before in rw (wide (d .before .before), high d, fits f, failed (c .before .search-ok .ensures) (c .if4 .taken))
-
 window-ok-requires : tie.Need-window-ok-requires
 window-ok-requires c κs = search needs
 
+returns-4 : tie.Need-returns-4
+unfolding headRefusal
+returns-4 c = let s = c .before .before in let f = s .before in let d = f .before .before .before in rw (wide (d .before .before), high d, fits f, failed (s .search-ok .ensures) (c .if4 .taken))
+
+known : (d : tie.Else4) → searchOk (d .before .before .before .before .before .before .before .before .before .before .args .h .search) ≡ true
+known d = passed (d .before .before .search-ok .ensures) (d .if4 .left)
+
 returns-5 : tie.Need-returns-5
 unfolding headRefusal
-returns-5 c = let g = c .before .before in let f = g .before .before in let d = f .before .before .before in rw (wide (d .before .before), high d, fits f, known g, failed (c .before .window-ok .ensures) (c .if5 .taken))
+returns-5 c = let g = c .before in let w = g .before in let f = w .before .before in let d = f .before .before .before in rw (wide (d .before .before), high d, fits f, known g, failed (w .window-ok .ensures) (c .if5 .taken))
 
 returns-6 : tie.Need-returns-6
 unfolding headRefusal
-returns-6 c = let g = c .before .before in let f = g .before .before in let d = f .before .before .before in rw (wide (d .before .before), high d, fits f, known g, passed (c .before .window-ok .ensures) (c .if5 .left))
+returns-6 c = let g = c .before in let w = g .before in let f = w .before .before in let d = f .before .before .before in rw (wide (d .before .before), high d, fits f, known g, passed (w .window-ok .ensures) (c .if5 .left))
 
 pub head-refusal-spec : {M : Type 1} → statement M
 head-refusal-spec =
@@ -75,7 +75,7 @@ head-refusal-spec =
     block-ok-requires
     returns-3
     search-ok-requires
-    returns-4
     window-ok-requires
+    returns-4
     returns-5
     returns-6)

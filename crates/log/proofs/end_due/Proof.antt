@@ -1,8 +1,10 @@
 -- `end_due`: due once the grid is full, then whole, then its number.
+use Prim.Native.Nat.{_≤_, _<_}
 use mathlib.Core.Path.{sym, _∙_}
 use native.Mathlib.Omega.{arith}
 use borrow.Author.Needs.{needs}
 use borrow.Author.Tests.{lt-leb, le-leb}
+use Rattle.heads.specs.Heads.{gridOf}
 use Rattle.log.specs.Step.{standing-head, judged-not, judged-short, judged-whole, end-not, end-taken}
 use Rattle.log.proofs.end_due.Statement.{statement}
 use Rattle.log.proofs.end_due.Tie as tie
@@ -10,20 +12,24 @@ use Rattle.log.proofs.end_due.Tie as tie
 grid-requires : tie.Need-grid-requires
 grid-requires c κs = standing-head (c .before .args .head) (c .before .args .blocks) (c .before .pre .1)
 
+sub-left : tie.Need-sub-left
+sub-left c = search needs
+
 turned-away-requires : tie.Need-turned-away-requires
 turned-away-requires c κs = search needs
 
 returns : tie.Need-returns
-returns c = c .turned-away .ensures ∙ sym (judged-not _ _ _ _ _ (lt-leb _ _ (rw (c .before .before .grid .ensures .0) at (c .before .if1 .taken))))
-
-sub-if2 : tie.Need-sub-if2
-sub-if2 c = search needs
+returns c = let g = c .before .before in let a = g .before .before .args in
+    let left : a .blocks < gridOf (a .head) = omega (arith, g .grid .ensures .0) in
+    c .turned-away .ensures ∙ sym (judged-not _ _ _ _ _ (lt-leb _ _ left))
 
 turned-away-requires-2 : tie.Need-turned-away-requires-2
 turned-away-requires-2 c κs = search needs
 
 returns-2 : tie.Need-returns-2
-returns-2 c = c .turned-away2 .ensures ∙ sym (judged-short _ _ _ _ _ (le-leb _ _ (rw (c .before .before .before .grid .ensures .0) at (c .before .before .if1 .left))) (omega arith))
+returns-2 c = let g = c .before .before .before in let a = g .before .before .args in
+    let full : gridOf (a .head) ≤ a .blocks = omega (arith, g .grid .ensures .0) in
+    c .turned-away2 .ensures ∙ sym (judged-short _ _ _ _ _ (le-leb _ _ full) (omega arith))
 
 add-four : tie.Need-add-four
 add-four c = search needs
@@ -50,9 +56,9 @@ end-due-spec =
     tie.close
     (tie.spec
     grid-requires
+    sub-left
     turned-away-requires
     returns
-    sub-if2
     turned-away-requires-2
     returns-2
     add-four

@@ -3,6 +3,7 @@ use mathlib.Core.Path.{_≡_, sym, _∙_}
 use borrow.Author.Needs.{needs}
 use lib.ListN.{length}
 use lib.Seq.{length-take-le}
+use Rattle.log_text.specs.Text.{longestText}
 use Rattle.read_log.proofs.main.Statement.{statement}
 use Rattle.read_log.proofs.main.Tie as tie
 
@@ -27,7 +28,7 @@ print-log-requires c κs = search needs
 array-share-prefix-out : tie.Need-array-share-prefix-out
 array-share-prefix-out c =
     let p = c .before .print-log in
-    let long : 393236 ≡ length (p .last .1 .0) = slice-aggregate-print-log-2 (c .before .before) ∙ sym (p .kept .1 .0) in
+    let long : longestText ≡ length (p .last .1 .0) = slice-aggregate-print-log-2 (c .before .before) ∙ sym (p .kept .1 .0) in
     rw (sym long) (p .ensures .2)
 
 slice-aggregate-write-all : tie.Need-slice-aggregate-write-all
