@@ -18,6 +18,7 @@ use Rattle.distortion.specs.Blocks.{Block, absolute, blockAt}
 use Rattle.pruning.specs.Distance.{distanceBy}
 use Rattle.search.specs.declared.Spot.{Spot}
 use Rattle.sums.specs.declared.Window.{Window}
+use Rattle.sums.specs.Filling.{largestN}
 use Rattle.distance.specs.declared.Origin.{Origin}
 use Rattle.reach.specs.Reach.{Standing, reachOf}
 use Rattle.reach.proofs.Windows.{ready-standing, ready-size}
@@ -50,7 +51,7 @@ module _ (older newer : List ℕ) (b : Spot) (sums : List ℕ) (a : Window) (m :
   abbrev vector : ℕ → Vector
   vector i = preferred (getD alive i 0)
 
-  pub size : n ≤ 16
+  pub size : n ≤ largestN
   size = ready-size older newer b (t .ready)
 
   pub standing : Standing b
@@ -101,10 +102,10 @@ module _ (older newer : List ℕ) (b : Spot) (sums : List ℕ) (a : Window) (m :
 
   module _ (block steps : List ℕ) (k : ℕ) (whole : k * m ≡ n) (cut : Cut own m k (a .columns + 1) block steps) (ob : (k : ℕ) → getD older k 0 ≤ 255) (nb : (k : ℕ) → getD newer k 0 ≤ 255) where
     -- a step of a square's height in the table
-    pub low-small : m * (a .columns + 1) ≤ 16 * 1025
-    low-small = mul-le-mul {n₂ = 16} {m₂ = 1025} (size-of k whole) narrow
+    pub low-small : m * (a .columns + 1) ≤ largestN * 1025
+    low-small = mul-le-mul {n₂ = largestN} {m₂ = 1025} (size-of k whole) narrow
       where
-        size-of : (q : ℕ) → q * m ≡ n → m ≤ 16
+        size-of : (q : ℕ) → q * m ≡ n → m ≤ largestN
         size-of zero h = absurd (omega (arith, zero-mul m, t .ready .placed .paired .fitting .some))
         size-of (suc q) h = omega (arith, suc-mul q m, size)
 

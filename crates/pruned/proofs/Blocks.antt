@@ -1,5 +1,5 @@
 -- A block that is ready to be searched: it has a table of its own, N is a power of two, and at a resolution that divides N no test drops the winner.
-use Prim.Native.Nat.{ℕ, _≤_, _∣_}
+use Prim.Native.Nat.{ℕ, _+_, _≤_, _∣_}
 use mathlib.Core.Path.{refl}
 use mathlib.Core.List.{List}
 use native.Mathlib.Nat.{le-trans, mul-le-mul, mul-le-mul-right}
@@ -12,7 +12,7 @@ use Rattle.frame.specs.Refusals.{listed, listed-elim}
 use Rattle.distortion.specs.Blocks.{absolute, distortion, newerBlock, olderBlock}
 use Rattle.search.specs.declared.Spot.{Spot}
 use Rattle.search.specs.Weighing.{Ready}
-use Rattle.sums.specs.Filling.{ownTable, Fillable}
+use Rattle.sums.specs.Filling.{largestN, ownTable, Fillable}
 use Rattle.reach.proofs.Windows.{ready-standing, ready-size}
 use Rattle.squares.specs.Squares.{ownWindow}
 use Rattle.pruning.specs.Prune.{resolutions}
@@ -30,7 +30,7 @@ own-fillable older newer b r =
       down = le-trans (mul-le-mul-right (b .sizes .width) (s .down)) (omega (arith, r .placed .paired .newer-whole));
       wide = s .wide;
       high = omega (arith, n);
-      table = mul-le-mul {n₂ = 17} {m₂ = 17} (omega (arith, n)) (omega (arith, n));
+      table = mul-le-mul {n₂ = largestN + 1} {m₂ = largestN + 1} (omega (arith, n)) (omega (arith, n));
     }
 
 -- 01's N are powers of two

@@ -1,5 +1,5 @@
 -- The search window holds every candidate's older block, as all of the frame does; and its summed-area table has at most 49 × 49 places.
-use Prim.Native.Nat.{ℕ, _*_, _≤_}
+use Prim.Native.Nat.{ℕ, _+_, _*_, _≤_}
 use mathlib.Core.List.{List}
 use native.Mathlib.Nat.{le-trans, mul-le-mul, mul-le-mul-right}
 use native.Mathlib.Omega.{arith}
@@ -7,7 +7,7 @@ use lib.ListN.{length}
 use Rattle.frame.specs.Refusals.{listed-elim}
 use Rattle.search.specs.declared.Spot.{Spot}
 use Rattle.search.specs.Weighing.{Ready}
-use Rattle.sums.specs.Filling.{windowTable, Fillable}
+use Rattle.sums.specs.Filling.{largestN, windowTable, Fillable}
 use Rattle.reach.specs.Reach.{Standing, windowOf, wholeFrame, Covers}
 
 pub covers-frame : (b : Spot) → Covers b (wholeFrame (b .sizes))
@@ -31,8 +31,8 @@ covers-window b s = record {
   behind = λ c h k. omega (arith, s .across);
 }
 
--- room for N + 2 w ≤ 48 rows and columns
-pub window-fillable : (older : List ℕ) (b : Spot) → Standing b → b .sizes .n ≤ 16 → b .sizes .height * b .sizes .width ≤ length older
+-- room for N + 2 w rows and columns
+pub window-fillable : (older : List ℕ) (b : Spot) → Standing b → b .sizes .n ≤ largestN → b .sizes .height * b .sizes .width ≤ length older
     → Fillable older (b .sizes .width) (windowOf b) windowTable
 unfolding windowOf
 window-fillable older b s n h =
@@ -42,7 +42,7 @@ window-fillable older b s n h =
       down = le-trans (mul-le-mul-right (b .sizes .width) (v .high)) h;
       wide = s .wide;
       high = omega (arith, s .window, n);
-      table = mul-le-mul {n₂ = 49} {m₂ = 49} (omega (arith, s .window, n)) (omega (arith, s .window, n));
+      table = mul-le-mul {n₂ = largestN + 32 + 1} {m₂ = largestN + 32 + 1} (omega (arith, s .window, n)) (omega (arith, s .window, n));
     }
 
 -- a block that is ready to be searched
@@ -52,5 +52,5 @@ module _ (older newer : List ℕ) (b : Spot) (r : Ready older newer b) where
       let p = r .placed in
       record { down = p .down; across = p .across; high = p .paired .fitting .high; wide = p .paired .fitting .wide; window = r .window }
 
-  pub ready-size : b .sizes .n ≤ 16
-  ready-size = listed-elim (λ n. n ≤ 16) (omega arith) (omega arith) (omega arith) (b .sizes .n) (r .placed .paired .allowed)
+  pub ready-size : b .sizes .n ≤ largestN
+  ready-size = listed-elim (λ n. n ≤ largestN) (omega arith) (omega arith) (omega arith) (b .sizes .n) (r .placed .paired .allowed)

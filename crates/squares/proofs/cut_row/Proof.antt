@@ -10,6 +10,7 @@ use Rattle.base.specs.Index.{row-fits}
 use Rattle.base.specs.Lists.{fillTo, fill-none, fill-more}
 use Rattle.distortion.specs.Blocks.{blockAt}
 use Rattle.pruning.specs.Distance.{squareSum}
+use Rattle.sums.specs.Filling.{largestN}
 use Rattle.sums.specs.Square.{squared}
 use Rattle.squares.proofs.Cuts.{square-is}
 use Rattle.squares.proofs.cut_row.Statement.{statement}
@@ -27,7 +28,7 @@ abbrev μ-loop : tie.MeasureT-loop
 -- the square of a turn lies in the block
 inside : (b : tie.In-loop Inv-loop μ-loop) →
     let a = b .before .before .before .before .before .before .args in
-    (a .p * a .m + a .m ≤ 16) × (b .before .loop .q * a .m + a .m ≤ 16) × (a .p * a .m + a .m ≤ a .a .rows) × (b .before .loop .q * a .m + a .m ≤ a .a .columns)
+    (a .p * a .m + a .m ≤ largestN) × (b .before .loop .q * a .m + a .m ≤ largestN) × (a .p * a .m + a .m ≤ a .a .rows) × (b .before .loop .q * a .m + a .m ≤ a .a .columns)
 inside b =
     let a = b .before .before .before .before .before .before .args in
     let p = b .before .before .before .before .before .before .pre .0 .6 in
@@ -36,8 +37,8 @@ inside b =
 -- the step of a turn's square
 far : (b : tie.In-loop Inv-loop μ-loop) →
     let a = b .before .before .before .before .before .before .args in
-    a .p * a .m * a .stride ≤ 16 * 1025
-far b = let i = inside b in mul-le-mul {n₂ = 16} {m₂ = 1025} (omega arith) (omega arith)
+    a .p * a .m * a .stride ≤ largestN * 1025
+far b = let i = inside b in mul-le-mul {n₂ = largestN} {m₂ = 1025} (omega arith) (omega arith)
 
 mul-down : tie.Need-mul-down Inv-loop μ-loop
 mul-down c =
