@@ -18,7 +18,7 @@ use Rattle.distortion.specs.Blocks.{Block, absolute, blockAt}
 use Rattle.pruning.specs.Distance.{distanceBy}
 use Rattle.search.specs.declared.Spot.{Spot}
 use Rattle.sums.specs.declared.Window.{Window}
-use Rattle.sums.specs.Filling.{largestN}
+use Rattle.frame.specs.Refusals.{largestN}
 use Rattle.distance.specs.declared.Origin.{Origin}
 use Rattle.reach.specs.Reach.{Standing, reachOf}
 use Rattle.reach.proofs.Windows.{ready-standing, ready-size}

@@ -29,6 +29,7 @@ use Rattle.four_step.proofs.FourStep.{four-step-honest-at, four-step-count}
 use Rattle.cross.proofs.Cross.{cross-honest-at, cross-count}
 use Rattle.full.specs.Full.{fullFound}
 use Rattle.pruned.specs.Answer.{prunedFound}
+use Rattle.pruned.proofs.Blocks.{listed-power}
 use Rattle.pruned.proofs.Laws.{pruned-distortion, pruned-best, counts-at-most, dropped-at-most}
 use Rattle.frame.specs.Grid.{blocks, blockRow, blockColumn, block-down, block-across}
 use Rattle.block.specs.Block.{searched, searched-full, searched-pruned, searched-four-step, searched-cross}
@@ -85,7 +86,7 @@ module _ (p : Pair) (bytes : Bytes (p .older) × Bytes (p .newer)) (allowed : T 
         let few = places-few p w y x in
         let c : (j : ℕ) → getD (prunedFound p w y x .counts) j 0 ≤ 1089 = λ j. le-trans (counts-at-most p w y x j) few in
         record {
-          within = near _ (pruned-best p w y x allowed small down across .candidate);
+          within = near _ (pruned-best p w y x (listed-power (p .sizes .n) allowed) small down across .candidate);
           distortion = rw (pruned-distortion p w y x) (distortion-few y x _);
           count0 = c 0;
           count1 = c 1;

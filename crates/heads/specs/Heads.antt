@@ -5,7 +5,6 @@
 --   gridOf        how many blocks the head's grid has
 --   entryOk       16, "block vector no candidate, distortion below 0 or over 255 × N²", of grid block k
 --   isStill       "a still block": (0,0) with distortion 0
---   mostDistortion   no distortion is larger, whatever N
 use Prim.Native.Nat.{ℕ, suc, _+_, _*_, _≤_, _<_}
 use mathlib.Core.Path.{_≡_, refl, sym}
 use mathlib.Core.Logic.{_⊎_, ⊎-elim}
@@ -24,7 +23,7 @@ use Rattle.frame.specs.declared.Sizes.{Sizes}
 use Rattle.frame.specs.Pictures.{sizes, Fitting}
 use Rattle.frame.specs.Grid.{blocks, blockRow, blockColumn}
 use Rattle.frame.specs.Candidates.{candidate, candidate-yes}
-use Rattle.frame.specs.Refusals.{unless, sideOk, listed, blockOk, searchOk, windowOk, unless-zero, listed-elim, fitting, window-small}
+use Rattle.frame.specs.Refusals.{largestDistortion, unless, sideOk, listed, blockOk, searchOk, windowOk, unless-zero, listed-elim, fitting, window-small}
 use Rattle.heads.specs.declared.Head.{Head}
 
 abbrev pub sizesIn : Head → Sizes
@@ -57,15 +56,11 @@ isStill dy dx distortion = eqZ dy (pos 0) && (eqZ dx (pos 0) && eqZ distortion (
 
 -- ---- what an accepted head may go by
 
--- 255 × N² of the largest N
-abbrev pub mostDistortion : ℕ
-mostDistortion = 255 * (16 * 16)
-
 -- its sizes fit, and all its numbers are small
 pub record Headed (h : Head) : Type 0 where
   pub fitting : Fitting (sizesIn h)
   pub size : h .n ≤ 16
-  pub distortion : 255 * (h .n * h .n) ≤ mostDistortion
+  pub distortion : 255 * (h .n * h .n) ≤ largestDistortion
   pub searching : h .search ≤ 4
   pub window : h .w ≤ 16
 
@@ -80,7 +75,7 @@ headed h e =
     record {
       fitting = fitting (sizesIn h) (a .0) (b .0);
       size = listed-elim (λ n. n ≤ 16) (omega arith) (omega arith) (omega arith) (h .n) l;
-      distortion = listed-elim (λ n. 255 * (n * n) ≤ mostDistortion) (omega arith) (omega arith) (omega arith) (h .n) l;
+      distortion = listed-elim (λ n. 255 * (n * n) ≤ largestDistortion) (omega arith) (omega arith) (omega arith) (h .n) l;
       searching = le-both 1 (h .search) (h .search) 4 (c .0) .1;
       window = window-small (h .search) (h .w) (d .0);
     }
@@ -90,7 +85,7 @@ pub record Entry (dy dx distortion : ℤ) : Type 0 where
   pub down : natAbs dy ≤ 16
   pub across : natAbs dx ≤ 16
   pub above : dn distortion ≡ 0
-  pub most : up distortion ≤ mostDistortion
+  pub most : up distortion ≤ largestDistortion
 
 pub entry : (h : Head) → headRefusal h ≡ 0 → (k : ℕ) (dy dx distortion : ℤ) → entryOk h k dy dx distortion ≡ true → Entry dy dx distortion
 unfolding entryOk

@@ -15,7 +15,8 @@ use Rattle.log.specs.declared.Command.{Command}
 use Rattle.log.specs.declared.Command.the-variants as Cmd
 use Rattle.log.specs.declared.Stepped.{Stepped}
 use Rattle.log.specs.Commands.{commandNumber, isRefused, blockValues}
-use Rattle.heads.specs.Heads.{gridOf, mostDistortion, entry}
+use Rattle.frame.specs.Refusals.{largestDistortion}
+use Rattle.heads.specs.Heads.{gridOf, entry}
 use Rattle.put.specs.Put.{Rest, rest-last, put-over, over-fits}
 use Rattle.log.specs.Step.{headIn, stepAt, startCursor}
 use Rattle.log.specs.Walk.{commandsFrom, commands-next, walk, lastOf}
@@ -52,10 +53,10 @@ end-first x log = last-after x (length log + 1) log startCursor (omega arith)
 
 -- ---- a command's distortion
 
-pub step-fits : (log : List ℕ) (c : Cursor) → distortionIn (stepAt log c .command) ≤ mostDistortion
+pub step-fits : (log : List ℕ) (c : Cursor) → distortionIn (stepAt log c .command) ≤ largestDistortion
 step-fits log c = go (stepAt log c) (kinds log c)
   where
-    go : (s : Stepped) → Kind log c s → distortionIn (s .command) ≤ mostDistortion
+    go : (s : Stepped) → Kind log c s → distortionIn (s .command) ≤ largestDistortion
     go s (Cases.refused number place a b w) = omega arith
     go s (Cases.head q b f r) = omega arith
     go s (Cases.block h k q r g b f o t) = entry h r k _ _ _ o .most

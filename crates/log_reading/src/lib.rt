@@ -6,7 +6,7 @@ ghost use Prim.Native.Nat.{_+_, _≤_};
 ghost use lib.IntN.{pos};
 ghost use lib.ListN.{length, drop};
 ghost use Rattle.put.specs.Put.{Put};
-ghost use Rattle.heads.specs.Heads.{mostDistortion};
+ghost use Rattle.frame.specs.Refusals.{largestDistortion};
 ghost use Rattle.log.specs.Commands.{blockValues};
 ghost use Rattle.log.specs.Walk.{walk, lastOf};
 ghost use Rattle.log_reading.specs.Reading.{fieldOf, refusedRead, refusedBy, logRead, asReading, readInto};
@@ -94,7 +94,7 @@ fn log_read(log: &[u8], list: usize) -> LogRead
 
 // A block's three numbers, from a place on. Answers with the next place.
 fn store_three(list: &mut [i32], at: usize, dy: i32, dx: i32, distortion: u32) -> usize
-    requires { ⌜ (at + 3 ≤ length (now list)) × (distortion ≤ mostDistortion) ⌝ }
+    requires { ⌜ (at + 3 ≤ length (now list)) × (distortion ≤ largestDistortion) ⌝ }
     ensures { λ r. ⌜ Put (now (list .entry)) at (dy ∷ dx ∷ pos distortion ∷ []) (now (list .exit)) r ⌝ }
 {
     list[at] = dy;
@@ -105,7 +105,7 @@ fn store_three(list: &mut [i32], at: usize, dy: i32, dx: i32, distortion: u32) -
 
 // The numbers of a command, if it is a block.
 fn store(list: &mut [i32], at: usize, command: Command) -> usize
-    requires { ⌜ (at + length (blockValues command) ≤ length (now list)) × (distortionIn command ≤ mostDistortion) ⌝ }
+    requires { ⌜ (at + length (blockValues command) ≤ length (now list)) × (distortionIn command ≤ largestDistortion) ⌝ }
     ensures { λ r. ⌜ Put (now (list .entry)) at (blockValues command) (now (list .exit)) r ⌝ }
 {
     match command {

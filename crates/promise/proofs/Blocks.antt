@@ -22,6 +22,7 @@ use Rattle.search.specs.Exhaustive.{Best, best}
 use Rattle.search.proofs.Exhaustive.{best-is}
 use Rattle.probe.proofs.Probe.{within-more}
 use Rattle.pruned.specs.Answer.{prunedFound}
+use Rattle.pruned.proofs.Blocks.{listed-power}
 use Rattle.pruned.proofs.Laws.{pruned-distortion, pruned-adds, pruned-is-best}
 use Rattle.block.specs.Block.{search-fine, block-accepted, searched-pruned}
 use Rattle.field.specs.Field.{asked, entries, blockOf, vectorOf, droppedOver, countOver}
@@ -66,7 +67,7 @@ module _ (p : Pair) (w : ℕ) (f : Fine p w) where
   -- search 2 at a place
   module _ (y x : ℕ) (hy : y + p .sizes .n ≤ p .sizes .height) (hx : x + p .sizes .n ≤ p .sizes .width) where
     found-best : vectorIn (prunedFound p w y x) ≡ best p w y x
-    found-best = pruned-is-best p w y x allowed (f .small) hy hx
+    found-best = pruned-is-best p w y x (listed-power (p .sizes .n) allowed) (f .small) hy hx
 
     found-distortion : prunedFound p w y x .distortion ≡ distortion p y x (best p w y x)
     found-distortion = pruned-distortion p w y x ∙ ap (distortion p y x) found-best

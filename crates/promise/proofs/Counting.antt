@@ -26,6 +26,7 @@ use Rattle.probe.specs.Probe.{isIn}
 use Rattle.pruning.specs.Sift.{total}
 use Rattle.pruning.proofs.Parts.{total-append}
 use Rattle.pruned.specs.Answer.{pruning, prunedFound}
+use Rattle.pruned.proofs.Blocks.{listed-power}
 use Rattle.pruned.proofs.Laws.{pruned-counted, pruned-probes, pruned-holds, pruned-drops}
 use Rattle.promise.specs.Demand.{number, vectorsAt, isDropped, isMeasured}
 
@@ -104,7 +105,7 @@ module _ (p : Pair) (w y x : ℕ) (allowed : T (listed (p .sizes .n))) (small : 
         go : (b : Bool) → isGone k ≡ b → b ≡ false
         go false e = refl
         go true e =
-            let h = pruned-holds p w y x allowed small down across in
+            let h = pruned-holds p w y x (listed-power (p .sizes .n) allowed) small down across in
             let r = in-mem (preferred k) gone (true-T (isGone k) e) in
             let same-place : r .0 ≡ k = once (r .0) k (picked passes 1089 (h .dropped-from (r .1)) .0) (picked passes 1089 (h .left-from m) .0) (r .2) in
             absurd (h .apart m (subst (λ (j : ℕ). j ∈ gone) same-place (r .1)))
@@ -136,4 +137,4 @@ module _ (p : Pair) (w y x : ℕ) (allowed : T (listed (p .sizes .n))) (small : 
     pub dropped-worse : (v : Vector) → T (isDropped p w y x v) → prunedFound p w y x .distortion < distortion p y x v
     dropped-worse v t =
         let r = in-mem v gone (and-right (candidate (p .sizes) w y x v) (isIn v (vectorsAt gone)) t) in
-        subst (λ (u : Vector). prunedFound p w y x .distortion < distortion p y x u) (r .2) (pruned-drops p w y x allowed small down across (r .1))
+        subst (λ (u : Vector). prunedFound p w y x .distortion < distortion p y x u) (r .2) (pruned-drops p w y x (listed-power (p .sizes .n) allowed) small down across (r .1))

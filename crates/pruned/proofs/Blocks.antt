@@ -8,11 +8,11 @@ use lib.Dec.{T}
 use lib.ListN.{length}
 use Rattle.order.specs.Preference.{preferred}
 use Rattle.frame.specs.Pictures.{Pair}
-use Rattle.frame.specs.Refusals.{listed, listed-elim}
+use Rattle.frame.specs.Refusals.{largestN, listed, listed-elim}
 use Rattle.distortion.specs.Blocks.{absolute, distortion, newerBlock, olderBlock}
 use Rattle.search.specs.declared.Spot.{Spot}
 use Rattle.search.specs.Weighing.{Ready}
-use Rattle.sums.specs.Filling.{largestN, ownTable, Fillable}
+use Rattle.sums.specs.Filling.{ownTable, Fillable}
 use Rattle.reach.proofs.Windows.{ready-standing, ready-size}
 use Rattle.squares.specs.Squares.{ownWindow}
 use Rattle.pruning.specs.Prune.{resolutions}

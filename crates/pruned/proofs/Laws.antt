@@ -1,5 +1,5 @@
 -- What search 2's answer is worth. Whatever N is, dropped and finally measured are all candidates. Where N is a power of two, at a block that stands
--- wholly inside, the answer is the exhaustive best, because no test drops it, and what is dropped is strictly worse. The laws for 01's N follow.
+-- wholly inside, the answer is the exhaustive best, because no test drops it, and what is dropped is strictly worse. That five counts are enough is said of 01's N.
 use Prim.Native.Nat.{ℕ, _+_, _≤_, _<_}
 use mathlib.Core.Path.{_≡_, refl, ap, _∙_}
 use lib.Dec.{T}
@@ -19,7 +19,7 @@ use Rattle.pruning.proofs.Counts.{Counted, prune-counted, search-counts, counts
 use Rattle.pruning.proofs.Pruned.{Attained, still-attained, Holds, prune-holds}
 use Rattle.pruning.proofs.Search.{PowerOfTwo, resolutions-divide, search-best, search-drops}
 use Rattle.pruned.specs.Answer.{distortionAt, stillAt, pruning, chosen, prunedFound}
-use Rattle.pruned.proofs.Blocks.{listed-power, few-rounds, safe-at}
+use Rattle.pruned.proofs.Blocks.{few-rounds, safe-at}
 
 -- whatever the block is
 module _ (p : Pair) (w y x : ℕ) where
@@ -60,50 +60,33 @@ module _ (p : Pair) (w y x : ℕ) (power : PowerOfTwo (p .sizes .n)) (small : w 
   given = still-attained (distortionAt p y x) _ 1088 (stillAt p y x) (still-passes p w y x small down across) still-is
 
   -- what holds of the candidates left and those dropped
-  pub power-holds : Holds (distortionAt p y x) (places (p .sizes) w y x) (pruning p w y x)
+  pub pruned-holds : Holds (distortionAt p y x) (places (p .sizes) w y x) (pruning p w y x)
   unfolding pruning
-  power-holds = prune-holds _ _ _ _ _ _ _ given (λ m i. safe-at p y x m (resolutions-divide (p .sizes .n) power m i))
+  pruned-holds = prune-holds _ _ _ _ _ _ _ given (λ m i. safe-at p y x m (resolutions-divide (p .sizes .n) power m i))
 
   -- the answer is the exhaustive best
-  pub power-best : Best p w y x (vectorIn (prunedFound p w y x))
+  pub pruned-best : Best p w y x (vectorIn (prunedFound p w y x))
   unfolding prunedFound chosen distortion
-  power-best =
+  pruned-best =
       best-below p w y x small (chosen p w y x)
       (search-best absolute absolute-lawful (p .sizes .n) (newerBlock p y x) (λ k. olderBlock p y x (preferred k)) (resolutions (p .sizes .n)) (stillAt p y x)
       (resolutions-divide (p .sizes .n) power) _ 1088 (still-passes p w y x small down across) still-is)
 
   -- which is one vector: what the full search answers with
-  pub power-is-best : vectorIn (prunedFound p w y x) ≡ best p w y x
-  power-is-best = best-unique p w y x small _ _ power-best (best-is p w y x small down across)
+  pub pruned-is-best : vectorIn (prunedFound p w y x) ≡ best p w y x
+  pruned-is-best = best-unique p w y x small _ _ pruned-best (best-is p w y x small down across)
 
   -- every candidate dropped has strictly more
-  pub power-drops : {k : ℕ} → k ∈ pruning p w y x .dropped → prunedFound p w y x .distortion < distortion p y x (preferred k)
+  pub pruned-drops : {k : ℕ} → k ∈ pruning p w y x .dropped → prunedFound p w y x .distortion < distortion p y x (preferred k)
   unfolding prunedFound chosen pruning distortion
-  power-drops i =
+  pruned-drops i =
       search-drops absolute absolute-lawful (p .sizes .n) (newerBlock p y x) (λ k. olderBlock p y x (preferred k)) (resolutions (p .sizes .n))
       (places (p .sizes) w y x) (stillAt p y x) given (resolutions-divide (p .sizes .n) power) i
 
--- ---- 01's N
-
+-- 01's N
 module _ (p : Pair) (w y x : ℕ) (allowed : T (listed (p .sizes .n))) where
   pub pruned-probes : probes (prunedFound p w y x) ≡ length (pruning p w y x .left)
   pruned-probes = measured p w y x (few-rounds (p .sizes .n) allowed)
 
   pub pruned-adds : prunedFound p w y x .dropped + probes (prunedFound p w y x) ≡ length (places (p .sizes) w y x)
   pruned-adds = ap (_+_ _) pruned-probes ∙ all-counted p w y x
-
-  power : PowerOfTwo (p .sizes .n)
-  power = listed-power (p .sizes .n) allowed
-
-  module _ (small : w ≤ 16) (down : y + p .sizes .n ≤ p .sizes .height) (across : x + p .sizes .n ≤ p .sizes .width) where
-    pub pruned-holds : Holds (distortionAt p y x) (places (p .sizes) w y x) (pruning p w y x)
-    pruned-holds = power-holds p w y x power small down across
-
-    pub pruned-best : Best p w y x (vectorIn (prunedFound p w y x))
-    pruned-best = power-best p w y x power small down across
-
-    pub pruned-is-best : vectorIn (prunedFound p w y x) ≡ best p w y x
-    pruned-is-best = power-is-best p w y x power small down across
-
-    pub pruned-drops : {k : ℕ} → k ∈ pruning p w y x .dropped → prunedFound p w y x .distortion < distortion p y x (preferred k)
-    pruned-drops i = power-drops p w y x power small down across i

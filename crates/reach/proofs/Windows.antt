@@ -4,10 +4,10 @@ use mathlib.Core.List.{List}
 use native.Mathlib.Nat.{le-trans, mul-le-mul, mul-le-mul-right}
 use native.Mathlib.Omega.{arith}
 use lib.ListN.{length}
-use Rattle.frame.specs.Refusals.{listed-elim}
+use Rattle.frame.specs.Refusals.{largestN, listed-elim}
 use Rattle.search.specs.declared.Spot.{Spot}
 use Rattle.search.specs.Weighing.{Ready}
-use Rattle.sums.specs.Filling.{largestN, windowTable, Fillable}
+use Rattle.sums.specs.Filling.{windowTable, Fillable}
 use Rattle.reach.specs.Reach.{Standing, windowOf, wholeFrame, Covers}
 
 pub covers-frame : (b : Spot) → Covers b (wholeFrame (b .sizes))
