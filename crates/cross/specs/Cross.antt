@@ -8,7 +8,7 @@
 --   ended       steps 7 and 8
 --   finished    the pass at p = 1, then steps 6 to 8
 --   cross       the search: steps 1 and 2, p from w / 2 on, then the rest
--- That it ends at a candidate with that vector's own distortion, and its count: proofs/Cross.antt.
+-- That it ends at a candidate with that vector's own distortion, and its count: proofs/Cross.antt. That its passes are log2 w - 1: proofs/Passes.antt.
 use Prim.Native.Nat.{ℕ, zero, suc, _/_}
 use mathlib.Core.Bool.{Bool, cond}
 use mathlib.Core.List.{List, [], _∷_}

@@ -5,8 +5,8 @@
 --   places    the block's candidates, so
 --   best      the first of least distortion among them
 --   howOften  how often a vector stands at such places
---   candidates  the number of candidates, counted over the vectors of window 16 without the table
--- That places has each candidate of a window up to 16 once and nothing else, and candidates in number: proofs/Counted.antt.
+--   candidates   the number of candidates, counted without the table over the vectors of window 16, by rows and columns: gridVector
+-- That places has each candidate of a window up to 16 once and nothing else, and is as long as there are candidates: proofs/Counted.antt.
 use Prim.Native.Nat.{ℕ, _+_, _≤_}
 use mathlib.Core.Path.{_≡_}
 use mathlib.Core.Bool.{Bool, cond}
