@@ -14,7 +14,7 @@ ghost use Prim.Native.Nat.{_≤_};
 ghost use Rattle.put.specs.Put.{over};
 ghost use Rattle.log_writing.specs.Writing.{asWriting, wrote};
 ghost use Rattle.log_reading.specs.Reading.{asReading, readInto};
-ghost use Rattle.log_text.specs.Text.{printed};
+ghost use Rattle.log_text.specs.Text.{longestText, printed};
 ghost use Rattle.plain.specs.Plain.{walkedFrom};
 use distortion::Measured;
 use field::FieldAnswer;
@@ -146,7 +146,7 @@ pub extern "C" fn gauge_read_log(log: &[u8], list: &mut [i32]) -> LogRead
 // Prints a log: the text that the program writes, over the front of a buffer as far as it fits. Answers with the whole text's length.
 #[no_mangle]
 pub extern "C" fn gauge_print_log(log: &[u8], buffer: &mut [u8]) -> usize
-    ensures { λ r. ⌜ (now (buffer .exit) ≡ over (printed (now (log .entry))) (now (buffer .entry))) × (r ≡ length (printed (now (log .entry)))) × (r ≤ 393236) ⌝ }
+    ensures { λ r. ⌜ (now (buffer .exit) ≡ over (printed (now (log .entry))) (now (buffer .entry))) × (r ≡ length (printed (now (log .entry)))) × (r ≤ longestText) ⌝ }
 {
     log_text::print_log(log, buffer)
 }

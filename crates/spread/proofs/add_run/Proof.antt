@@ -64,7 +64,7 @@ look-requires : tie.Need-look-requires Inv-loop μ-loop
 look-requires c κs = here (c .before) .0
 
 gap-requires : tie.Need-gap-requires Inv-loop μ-loop
-gap-requires c κs = (c .before .before .before .before .before .before .pre .0 .0, c .look .ensures .1)
+gap-requires c κs = (omega (arith, c .before .before .before .before .before .before .pre .0 .0), omega (arith, c .look .ensures .1))
 
 add-part-2 : tie.Need-add-part-2 Inv-loop μ-loop
 add-part-2 c = omega (arith, turn c)

@@ -61,7 +61,8 @@ look-requires c κs = here (c .before .before)
 gap-requires : tie.Need-gap-requires Inv-loop μ-loop
 gap-requires c κs =
     let b = c .before .before .before in
-    (b .before .before .before .before .before .pre .small (b .before .loop .s) (b .loop-test .taken), c .look .ensures .1)
+    let block = b .before .before .before .before .before .pre .small (b .before .loop .s) (b .loop-test .taken) in
+    (omega (arith, block), omega (arith, c .look .ensures .1))
 
 add-sum : tie.Need-add-sum Inv-loop μ-loop
 add-sum c = omega (arith, turn c)
