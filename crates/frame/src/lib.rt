@@ -177,7 +177,7 @@ pub fn cross_window(w: usize) -> bool
     usize::count_ones(w) == 1
 }
 
-// log2 of a window with one bit set.
+// log2 of a number with one bit set: a window of search 4, or N.
 pub fn log2_window(w: usize) -> u32
     ensures { λ r. ⌜ r ≡ log2 w ⌝ }
 {

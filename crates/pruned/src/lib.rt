@@ -28,18 +28,12 @@ pub struct Rest {
     pub counts: [u32; 5],
 }
 
-// Where the count of the tests at N stands among the five.
+// Where the count of the tests at N stands among the five: log2 N places before the last, which is for m = 1.
 fn first_slot(n: usize) -> usize
     requires { ⌜ T (listed n) ⌝ }
     ensures { λ r. ⌜ r ≡ firstSlot n ⌝ }
 {
-    if n == 16 {
-        return 0;
-    }
-    if n == 8 {
-        return 1;
-    }
-    2
+    4 - frame::log2_window(n) as usize
 }
 
 // All candidates, and E the distortion of (0,0).

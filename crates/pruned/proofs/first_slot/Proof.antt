@@ -1,26 +1,36 @@
--- `first_slot`: N 16, 8 and 4 have three, two and one resolution after N.
-use Prim.Native.Nat.{ℕ}
+-- `first_slot`: N has log2 N - 1 resolutions after it.
+use Prim.Native.Nat.{ℕ, _-_, _≤_}
 use mathlib.Core.Path.{_≡_, refl}
+use native.Mathlib.Omega.{arith}
+use borrow.Author.Needs.{needs}
+use lib.Count.{trailingZeros}
 use lib.Dec.{T}
+use Rattle.frame.specs.Cross.{log2}
 use Rattle.frame.specs.Refusals.{listed, listed-elim}
 use Rattle.pruning.specs.Prune.{halves}
+use Rattle.pruned.specs.Memory.{firstSlot}
 use Rattle.pruned.proofs.first_slot.Statement.{statement}
 use Rattle.pruned.proofs.first_slot.Tie as tie
 
+few : (n : ℕ) → T (listed n) → log2 n ≤ 4
+unfolding trailingZeros
+few = listed-elim (λ n. log2 n ≤ 4) (omega arith) (omega arith) (omega arith)
+
+slot : (n : ℕ) → T (listed n) → 4 - log2 n ≡ firstSlot n
+unfolding halves trailingZeros
+slot = listed-elim (λ n. 4 - log2 n ≡ firstSlot n) refl refl refl
+
+log2-window-requires : tie.Need-log2-window-requires
+log2-window-requires c κs = search needs
+
+cast-result : tie.Need-cast-result
+cast-result c = search needs
+
+sub-result : tie.Need-sub-result
+sub-result c = rw (c .log2-window .ensures) (few _ (c .before .pre))
+
 returns : tie.Need-returns
-unfolding halves
-returns c = rw (c .if1 .taken)
-
-returns-2 : tie.Need-returns-2
-unfolding halves
-returns-2 c = rw (c .if2 .taken)
-
-the-rest : (n : ℕ) → T (listed n) → (n ≡ 16 → ⊥) → (n ≡ 8 → ⊥) → n ≡ 4
-the-rest = listed-elim (λ n. (n ≡ 16 → ⊥) → (n ≡ 8 → ⊥) → n ≡ 4) (λ a b. refl) (λ a b. absurd (b refl)) (λ a b. absurd (a refl))
-
-returns-3 : tie.Need-returns-3
-unfolding halves
-returns-3 c = rw (the-rest _ (c .before .before .pre) (c .before .if1 .left) (c .if2 .left))
+returns c = rw (c .log2-window .ensures) (slot _ (c .before .pre))
 
 pub first-slot-spec : {M : Type 1} → statement M
-first-slot-spec = tie.close (tie.spec returns returns-2 returns-3)
+first-slot-spec = tie.close (tie.spec log2-window-requires cast-result sub-result returns)
