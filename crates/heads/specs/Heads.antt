@@ -23,7 +23,7 @@ use Rattle.frame.specs.declared.Sizes.{Sizes}
 use Rattle.frame.specs.Pictures.{sizes, Fitting}
 use Rattle.frame.specs.Grid.{blocks, blockRow, blockColumn}
 use Rattle.frame.specs.Candidates.{candidate, candidate-yes}
-use Rattle.frame.specs.Refusals.{largestDistortion, unless, sideOk, listed, blockOk, searchOk, windowOk, unless-zero, listed-elim, fitting, window-small}
+use Rattle.frame.specs.Refusals.{largestN, largestDistortion, unless, sideOk, listed, blockOk, searchOk, windowOk, unless-zero, listed-elim, fitting, window-small}
 use Rattle.heads.specs.declared.Head.{Head}
 
 abbrev pub sizesIn : Head → Sizes
@@ -59,7 +59,7 @@ isStill dy dx distortion = eqZ dy (pos 0) && (eqZ dx (pos 0) && eqZ distortion (
 -- its sizes fit, and all its numbers are small
 pub record Headed (h : Head) : Type 0 where
   pub fitting : Fitting (sizesIn h)
-  pub size : h .n ≤ 16
+  pub size : h .n ≤ largestN
   pub distortion : 255 * (h .n * h .n) ≤ largestDistortion
   pub searching : h .search ≤ 4
   pub window : h .w ≤ 16
@@ -74,7 +74,7 @@ headed h e =
     let l = and-left (listed (h .n)) (leb (h .n) (h .width) && leb (h .n) (h .height)) (b .0) in
     record {
       fitting = fitting (sizesIn h) (a .0) (b .0);
-      size = listed-elim (λ n. n ≤ 16) (omega arith) (omega arith) (omega arith) (h .n) l;
+      size = listed-elim (λ n. n ≤ largestN) (omega arith) (omega arith) (omega arith) (h .n) l;
       distortion = listed-elim (λ n. 255 * (n * n) ≤ largestDistortion) (omega arith) (omega arith) (omega arith) (h .n) l;
       searching = le-both 1 (h .search) (h .search) 4 (c .0) .1;
       window = window-small (h .search) (h .w) (d .0);
