@@ -18,7 +18,7 @@ use Rattle.pruning.proofs.Blocks.{absolute-lawful}
 use Rattle.pruning.proofs.Counts.{Counted, prune-counted, search-counts, counts-few, dropped-few, last-count}
 use Rattle.pruning.proofs.Pruned.{Attained, still-attained, Holds, prune-holds}
 use Rattle.pruning.proofs.Search.{PowerOfTwo, resolutions-divide, search-best, search-drops}
-use Rattle.pruned.specs.Answer.{distortionAt, stillAt, pruning, chosen, prunedFound}
+use Rattle.pruned.specs.Answer.{distortionAt, stillDistortion, pruning, chosen, prunedFound}
 use Rattle.pruned.proofs.Blocks.{few-rounds, safe-at}
 
 -- whatever the block is
@@ -53,11 +53,11 @@ module _ (p : Pair) (w y x : ℕ) where
 -- N a power of two, and the block wholly inside
 module _ (p : Pair) (w y x : ℕ) (power : PowerOfTwo (p .sizes .n)) (small : w ≤ 16) (down : y + p .sizes .n ≤ p .sizes .height) (across : x + p .sizes .n ≤ p .sizes .width) where
   -- E begins as the distortion of (0,0), the candidate at place 0
-  still-is : distortionAt p y x 0 ≡ stillAt p y x
+  still-is : distortionAt p y x 0 ≡ stillDistortion p y x
   still-is = ap (distortion p y x) first-still
 
-  given : Attained (distortionAt p y x) (places (p .sizes) w y x) (stillAt p y x)
-  given = still-attained (distortionAt p y x) _ 1088 (stillAt p y x) (still-passes p w y x small down across) still-is
+  given : Attained (distortionAt p y x) (places (p .sizes) w y x) (stillDistortion p y x)
+  given = still-attained (distortionAt p y x) _ 1088 (stillDistortion p y x) (still-passes p w y x small down across) still-is
 
   -- what holds of the candidates left and those dropped
   pub pruned-holds : Holds (distortionAt p y x) (places (p .sizes) w y x) (pruning p w y x)
@@ -69,7 +69,7 @@ module _ (p : Pair) (w y x : ℕ) (power : PowerOfTwo (p .sizes .n)) (small : w 
   unfolding prunedFound chosen distortion
   pruned-best =
       best-below p w y x small (chosen p w y x)
-      (search-best absolute absolute-lawful (p .sizes .n) (newerBlock p y x) (λ k. olderBlock p y x (preferred k)) (resolutions (p .sizes .n)) (stillAt p y x)
+      (search-best absolute absolute-lawful (p .sizes .n) (newerBlock p y x) (λ k. olderBlock p y x (preferred k)) (resolutions (p .sizes .n)) (stillDistortion p y x)
       (resolutions-divide (p .sizes .n) power) _ 1088 (still-passes p w y x small down across) still-is)
 
   -- which is one vector: what the full search answers with
@@ -81,7 +81,7 @@ module _ (p : Pair) (w y x : ℕ) (power : PowerOfTwo (p .sizes .n)) (small : w 
   unfolding prunedFound chosen pruning distortion
   pruned-drops i =
       search-drops absolute absolute-lawful (p .sizes .n) (newerBlock p y x) (λ k. olderBlock p y x (preferred k)) (resolutions (p .sizes .n))
-      (places (p .sizes) w y x) (stillAt p y x) given (resolutions-divide (p .sizes .n) power) i
+      (places (p .sizes) w y x) (stillDistortion p y x) given (resolutions-divide (p .sizes .n) power) i
 
 -- 01's N
 module _ (p : Pair) (w y x : ℕ) (allowed : T (listed (p .sizes .n))) where

@@ -1,6 +1,6 @@
 -- 01, "The four searches", search 2, of the block at row y, column x of a pair, for window w: its steps (pruning/specs/Prune.antt) over the block's
 -- candidates, each known by its place in the preference table.
---   distortionAt  the distortion of the vector at place k of the preference table; stillAt: that of (0,0), with which E begins
+--   distortionAt  the distortion of the vector at place k of the preference table; stillDistortion: that of (0,0), with which E begins
 --   distanceAt    its distance at m
 --   pruning       where search 2's steps end: what they leave, and what they drop
 --   chosen        the place of the vector that they choose
@@ -21,18 +21,18 @@ use Rattle.pruning.specs.Prune.{Pruning, prune, prunedBest, counts, resolutions
 abbrev pub distortionAt : Pair → ℕ → ℕ → ℕ → ℕ
 distortionAt p y x k = distortion p y x (preferred k)
 
-abbrev pub stillAt : Pair → ℕ → ℕ → ℕ
-stillAt p y x = distortion p y x (vec (pos 0) (pos 0))
+abbrev pub stillDistortion : Pair → ℕ → ℕ → ℕ
+stillDistortion p y x = distortion p y x (vec (pos 0) (pos 0))
 
 abbrev pub distanceAt : Pair → ℕ → ℕ → ℕ → ℕ → ℕ
 distanceAt p y x = distances absolute (p .sizes .n) (newerBlock p y x) (λ k. olderBlock p y x (preferred k))
 
 module _ (p : Pair) (w y x : ℕ) where
   unfoldable pub pruning : Pruning
-  pruning = prune (stillAt p y x) (distortionAt p y x) (distanceAt p y x) (absolute .limit) (p .sizes .n) (resolutions (p .sizes .n)) (places (p .sizes) w y x)
+  pruning = prune (stillDistortion p y x) (distortionAt p y x) (distanceAt p y x) (absolute .limit) (p .sizes .n) (resolutions (p .sizes .n)) (places (p .sizes) w y x)
 
   unfoldable pub chosen : ℕ
-  chosen = prunedBest (stillAt p y x) (distortionAt p y x) (distanceAt p y x) (absolute .limit) (p .sizes .n) (resolutions (p .sizes .n)) (places (p .sizes) w y x)
+  chosen = prunedBest (stillDistortion p y x) (distortionAt p y x) (distanceAt p y x) (absolute .limit) (p .sizes .n) (resolutions (p .sizes .n)) (places (p .sizes) w y x)
 
   unfoldable pub prunedFound : Found
   prunedFound = foundAs (preferred chosen) (distortion p y x (preferred chosen)) (counts pruning) (length (pruning .dropped))

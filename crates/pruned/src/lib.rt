@@ -13,7 +13,7 @@ ghost use Rattle.remaining.specs.Gathered.{Front, Listed, nearestOf, within, sw
 ghost use Rattle.squares.specs.Squares.{OwnSums};
 ghost use Rattle.full.specs.Full.{distortionOf};
 ghost use Rattle.distance.specs.Remaining.{distanceOf, Tested};
-ghost use Rattle.pruned.specs.Answer.{stillAt, prunedFound};
+ghost use Rattle.pruned.specs.Answer.{stillDistortion, prunedFound};
 ghost use Rattle.pruned.specs.Memory.{Lent, firstSlot, Begun, recounted, counted, bounded, Leveled, finished};
 use search::Found;
 use search::Spot;
@@ -39,7 +39,7 @@ fn first_slot(n: usize) -> usize
 // All candidates, and E the distortion of (0,0).
 fn begin(older: &[u8], newer: &[u8], order: &[i32; 2178], b: Spot, total: usize) -> Rest
     requires { ⌜ Ready (now older) (now newer) b × (now order ≡ flat preference) ⌝ }
-    ensures { λ r. ⌜ Begun (stillAt (pairOf (now (older .entry)) (now (newer .entry)) (b .sizes)) (b .y) (b .x)) (b .sizes .n) total r ⌝ }
+    ensures { λ r. ⌜ Begun (stillDistortion (pairOf (now (older .entry)) (now (newer .entry)) (b .sizes)) (b .y) (b .x)) (b .sizes .n) total r ⌝ }
 {
     let bound = full::distortion_of(older, newer, order, b, 0, 4294967295);
     let s = b.sizes;

@@ -8,10 +8,10 @@ use native.Mathlib.Nat.{le-refl, zero-add, not-suc-le-zero}
 use native.Mathlib.Numerals.{add-one}
 use native.Mathlib.Omega.{arith}
 use lib.Dec.{leb, ltb}
-use lib.ListN.{length, getD, take, drop, length-append, length-drop, length-set}
+use lib.ListN.{length, getD, take, drop, length-append, length-set}
 use lib.Seq.{getD-take, take-at, take-suc}
 use Rattle.base.specs.Tests.{true-T}
-use Rattle.base.specs.Lists.{listTo, fillTo, length-listTo, length-fill, fill-in}
+use Rattle.base.specs.Lists.{length-over, listTo, fillTo, length-listTo, length-fill, fill-in}
 use Rattle.base.specs.Least.{_∈_, leastOf, leastFrom, leastOf-more, getD-mem}
 use Rattle.base.specs.Picks.{pick, picked, pick-few}
 use Rattle.search.specs.declared.Spot.{Spot}
@@ -24,7 +24,7 @@ module _ {ks before after : List ℕ} {r : ℕ} (f : Front ks before after r) wh
   front-take = rw (f .list) (take-at ks (drop r before) r (sym (f .many)))
 
   pub front-long : r ≤ length before → length after ≡ length before
-  front-long h = rw (f .list) (omega (arith, length-append ks (drop r before), length-drop r before, f .many))
+  front-long h = rw (f .list) (length-over ks before r (sym (f .many)) h)
 
 -- ---- all candidates
 

@@ -29,7 +29,7 @@ use Rattle.four_step.specs.FourStep.{fourStep}
 use Rattle.cross.specs.Cross.{cross}
 use Rattle.pruning.specs.Prune.{Pruning, prune, prunedBest, counts, resolutions}
 use Rattle.full.specs.Full.{fullFound}
-use Rattle.pruned.specs.Answer.{distortionAt, stillAt, distanceAt, pruning, chosen, prunedFound}
+use Rattle.pruned.specs.Answer.{distortionAt, stillDistortion, distanceAt, pruning, chosen, prunedFound}
 use Rattle.block.specs.Block.{searchRefusal, searched, blockFound}
 use Rattle.reading.specs.Reading.{votes, majority}
 use Rattle.field.specs.Field.{asked, fieldRefusal, blockOf, entries, countsOver, droppedOver, listSize, filledTable, fieldAnswer, refusedField, Fielded, asFielded, fielded}
@@ -49,10 +49,10 @@ module _ (p : Pair) (w y x : ℕ) where
   D = distortionAt p y x
 
   abbrev pruningOf : List ℕ → Pruning
-  pruningOf = prune (stillAt p y x) D (distanceAt p y x) (absolute .limit) (p .sizes .n) (resolutions (p .sizes .n))
+  pruningOf = prune (stillDistortion p y x) D (distanceAt p y x) (absolute .limit) (p .sizes .n) (resolutions (p .sizes .n))
 
   abbrev chosenOf : List ℕ → ℕ
-  chosenOf = prunedBest (stillAt p y x) D (distanceAt p y x) (absolute .limit) (p .sizes .n) (resolutions (p .sizes .n))
+  chosenOf = prunedBest (stillDistortion p y x) D (distanceAt p y x) (absolute .limit) (p .sizes .n) (resolutions (p .sizes .n))
 
   abbrev once : {A : Type 0} → (List ℕ → A) → A
   once = after (walk (candidate (p .sizes) w y x) 0 preference)

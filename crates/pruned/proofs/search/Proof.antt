@@ -16,7 +16,7 @@ use Rattle.search.proofs.Exhaustive.{still-passes}
 use Rattle.distortion.specs.Blocks.{distortion}
 use Rattle.pruning.proofs.Pruned.{still-attained}
 use Rattle.pruning.proofs.Search.{resolutions-divide}
-use Rattle.pruned.specs.Answer.{stillAt, pruning, chosen, prunedFound}
+use Rattle.pruned.specs.Answer.{stillDistortion, pruning, chosen, prunedFound}
 use Rattle.distance.specs.Remaining.{distanceOf}
 use Rattle.remaining.specs.Gathered.{passes}
 use Rattle.full.specs.Full.{distortionOf}
@@ -29,7 +29,7 @@ use Rattle.pruned.proofs.search.Tie as tie
 
 abbrev Inv-loop : tie.InvT-loop
 Inv-loop older newer order b sums a alive₀ dist₀ n own total r₀ m₀ alive dist r m =
-    Going (stillAt (pairOf older newer (b .sizes)) (b .y) (b .x)) (distortionOf older newer b) (distanceOf older newer b) (b .sizes .n) (passes b) m alive dist r × (length (pick (passes b) 1089) ≡ total)
+    Going (stillDistortion (pairOf older newer (b .sizes)) (b .y) (b .x)) (distortionOf older newer b) (distanceOf older newer b) (b .sizes .n) (passes b) m alive dist r × (length (pick (passes b) 1089) ≡ total)
 
 abbrev μ-loop : tie.MeasureT-loop
 μ-loop older newer order b sums a alive₀ dist₀ n own total r₀ m₀ alive dist r m = m
