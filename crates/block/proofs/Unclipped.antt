@@ -10,10 +10,10 @@ use Rattle.signed.specs.Int.{up, dn, parts}
 use Rattle.order.specs.declared.Vector.{Vector}
 use Rattle.order.specs.Vectors.{Within}
 use Rattle.frame.specs.declared.Sizes.{Sizes}
-use Rattle.frame.specs.declared.Request.{Request}
+use Rattle.refusals.specs.declared.Request.{Request}
 use Rattle.frame.specs.Pictures.{pairOf}
 use Rattle.frame.specs.Candidates.{candidate, candidate-at}
-use Rattle.frame.specs.Refusals.{windowOk, sizesOf}
+use Rattle.refusals.specs.Refusals.{windowOk, sizesOf}
 use Rattle.search.specs.Weighing.{target}
 use Rattle.search.specs.Found.{probes}
 use Rattle.probe.specs.Held.{foundOf}

@@ -11,9 +11,9 @@ use borrow.Author.Tests.{ne-eqb, le-leb}
 use lib.Dec.{eqb}
 use lib.ListN.{length}
 use Rattle.base.specs.Tests.{le-both}
-use Rattle.frame.specs.declared.Request.{Request}
+use Rattle.refusals.specs.declared.Request.{Request}
 use Rattle.frame.specs.Pictures.{Pair, pairOf}
-use Rattle.frame.specs.Refusals.{unless, first, placeOk, requestRefusal, sizesOf, unless-zero, first-zero, first-none, Placed, Asked, asked}
+use Rattle.refusals.specs.Refusals.{unless, first, placeOk, requestRefusal, sizesOf, unless-zero, first-zero, first-none, Placed, Asked, asked}
 use Rattle.search.specs.declared.Found.{Found}
 use Rattle.search.specs.Weighing.{target}
 use Rattle.search.specs.Found.{refusedSearch}

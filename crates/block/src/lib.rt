@@ -7,7 +7,7 @@ ghost use Rattle.search.specs.Found.{refusedSearch};
 ghost use Rattle.search.specs.Weighing.{Ready};
 ghost use Rattle.pruned.specs.Answer.{prunedFound};
 ghost use Rattle.block.specs.Block.{searchRefusal, blockFound};
-use frame::Request;
+use refusals::Request;
 use search::Found;
 use search::Spot;
 
@@ -15,11 +15,11 @@ use search::Spot;
 pub fn search_refusal(older: usize, newer: usize, q: Request, y: usize, x: usize) -> u32
     ensures { λ r. ⌜ r ≡ searchRefusal older newer q y x ⌝ }
 {
-    let refusal = frame::request_refusal(older, newer, q);
+    let refusal = refusals::request_refusal(older, newer, q);
     if refusal != 0 {
         return refusal;
     }
-    if !frame::place_ok(frame::sizes_of(q), y, x) {
+    if !refusals::place_ok(refusals::sizes_of(q), y, x) {
         return 7;
     }
     0
@@ -59,7 +59,7 @@ pub fn search_block(older: &[u8], newer: &[u8], q: Request, y: usize, x: usize) 
         return refused(refusal);
     }
     let b = Spot {
-        sizes: frame::sizes_of(q),
+        sizes: refusals::sizes_of(q),
         w: q.w,
         y,
         x,

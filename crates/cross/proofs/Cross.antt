@@ -11,7 +11,7 @@ use Rattle.base.specs.Tests.{true-T}
 use Rattle.order.specs.declared.Vector.{Vector}
 use Rattle.frame.specs.Pictures.{Pair}
 use Rattle.frame.specs.Candidates.{still-candidate}
-use Rattle.frame.specs.Cross.{crossWindow, log2}
+use Rattle.refusals.specs.Cross.{crossWindow, log2}
 use Rattle.distortion.specs.Blocks.{distortion}
 use Rattle.search.specs.Weighing.{Target, target}
 use Rattle.search.specs.Exhaustive.{Best}

@@ -6,7 +6,7 @@ use native.Mathlib.Omega.{arith}
 use borrow.Author.Tests.{lt-ltb, le-ltb}
 use lib.Count.{trailingZeros}
 use lib.Dec.{T, lit≤}
-use Rattle.frame.specs.Cross.{crossWindow, cross-elim, log2, cross as window}
+use Rattle.refusals.specs.Cross.{crossWindow, cross-elim, log2, cross as window}
 use Rattle.search.specs.Weighing.{Target}
 use Rattle.probe.specs.declared.Held.{Held}
 use Rattle.probe.specs.Probe.{origin, Seen, start}

@@ -3,7 +3,7 @@
 ghost use mathlib.Core.Path.{_≡_};
 ghost use Prim.Native.Nat.{_+_, _/_, _≤_};
 ghost use lib.Dec.{T};
-ghost use Rattle.frame.specs.Cross.{crossWindow};
+ghost use Rattle.refusals.specs.Cross.{crossWindow};
 ghost use Rattle.search.specs.Weighing.{Ready, targetOf};
 ghost use Rattle.probe.specs.Held.{point, seenOf, Ongoing, Holds, foundOf};
 ghost use Rattle.cross.specs.Cross.{pass, passes, onDiagonal, ended, finished, cross};
@@ -34,7 +34,7 @@ fn all_passes(older: &[u8], newer: &[u8], b: Spot, s: Held) -> Held
 {
     let mut best = s;
     let mut p = (b.w / 2) as u32;
-    let mut left = frame::log2_window(b.w) - 1;
+    let mut left = refusals::log2_window(b.w) - 1;
     while 0 < left {
         best = pass_at(older, newer, b, best, p);
         p = p / 2;

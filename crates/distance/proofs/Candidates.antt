@@ -12,13 +12,12 @@ use Rattle.base.specs.Rows.{grid, grid-at}
 use Rattle.signed.specs.Int.{parts}
 use Rattle.order.specs.declared.Vector.{Vector}
 use Rattle.order.specs.Preference.{preferred}
-use Rattle.frame.specs.Pictures.{pel}
+use Rattle.frame.specs.Pictures.{pel, largestN}
 use Rattle.frame.specs.Candidates.{olderRow, olderColumn, candidate-older}
 use Rattle.distortion.specs.Blocks.{Block, absolute, blockAt}
 use Rattle.pruning.specs.Distance.{distanceBy}
 use Rattle.search.specs.declared.Spot.{Spot}
 use Rattle.sums.specs.declared.Window.{Window}
-use Rattle.frame.specs.Refusals.{largestN}
 use Rattle.distance.specs.declared.Origin.{Origin}
 use Rattle.reach.specs.Reach.{Standing, reachOf}
 use Rattle.reach.proofs.Windows.{ready-standing, ready-size}

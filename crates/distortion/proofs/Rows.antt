@@ -7,7 +7,7 @@ use native.Mathlib.Nat.{add-zero, zero-mul, one-mul, add-mul, mul-comm}
 use native.Mathlib.Omega.{arith}
 use lib.Dec.{T}
 use Rattle.base.specs.Sum.{sumTo, sumTo-none, sumTo-ext, sumTo-four, sumTo-cut, sumTo-group, sumOver-ext}
-use Rattle.frame.specs.Refusals.{listed, listed-elim}
+use Rattle.refusals.specs.Refusals.{listed, listed-elim}
 use Rattle.distortion.specs.Blocks.{Measure, rowFrom, rowsApart, rowsFrom, rowsUpTo, sumUpTo-is, Rows, BlockRows, UpTo}
 
 module _ (μ : Measure) (older newer : List ℕ) (across width a b n : ℕ) where

@@ -27,7 +27,7 @@ use Rattle.order.specs.declared.Vector.{Vector}
 use Rattle.frame.specs.declared.Sizes.{Sizes}
 use Rattle.frame.specs.Pictures.{Pair, pel}
 use Rattle.frame.specs.Candidates.{olderRow, olderColumn}
-use Rattle.frame.specs.Refusals.{listed, Placed}
+use Rattle.refusals.specs.Refusals.{listed, Placed}
 
 abbrev pub Block : Type 0
 Block = ℕ → ℕ → ℕ

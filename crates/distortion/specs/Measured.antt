@@ -11,7 +11,7 @@ use Rattle.order.specs.declared.Vector.{Vector}
 use Rattle.frame.specs.declared.Sizes.{Sizes}
 use Rattle.frame.specs.Pictures.{Pair}
 use Rattle.frame.specs.Candidates.{candidate}
-use Rattle.frame.specs.Refusals.{unless, first, first-some, first-none, placedRefusal}
+use Rattle.refusals.specs.Refusals.{unless, first, first-some, first-none, placedRefusal}
 use Rattle.distortion.specs.declared.Measured.{Measured}
 use Rattle.distortion.specs.Blocks.{distortion}
 

@@ -186,7 +186,7 @@ pub fn measure(
 ) -> Measured
     ensures { λ m. ⌜ m ≡ measured (pairOf (now (older .entry)) (now (newer .entry)) s) y x (vec dy dx) ⌝ }
 {
-    let refusal = frame::placed_refusal(older.len(), newer.len(), s, y, x);
+    let refusal = refusals::placed_refusal(older.len(), newer.len(), s, y, x);
     if refusal != 0 {
         return refused(refusal);
     }

@@ -4,8 +4,8 @@ use mathlib.Core.Path.{_≡_}
 use mathlib.Core.List.{List}
 use lib.Dec.{T, leb→le}
 use lib.ListN.{length}
-use Rattle.frame.specs.declared.Request.{Request}
-use Rattle.frame.specs.Refusals.{unless-zero, first-zero, requestRefusal, sizesOf, asked}
+use Rattle.refusals.specs.declared.Request.{Request}
+use Rattle.refusals.specs.Refusals.{unless-zero, first-zero, requestRefusal, sizesOf, asked}
 use Rattle.sums.specs.Area.{sums-of}
 use Rattle.field.specs.Field.{tableSize, tableOk, listOk, fieldRefusal, tableOf, filledTable}
 use Rattle.field.specs.Filling.{Roomy, Summable, Prepared}

@@ -11,11 +11,11 @@ use Rattle.base.specs.Tests.{T-true}
 use Rattle.base.specs.Picks.{pick-few}
 use Rattle.order.specs.declared.Vector.{Vector}
 use Rattle.order.specs.Vectors.{Within}
-use Rattle.frame.specs.declared.Request.{Request}
-use Rattle.frame.specs.Pictures.{Pair, pairOf}
+use Rattle.refusals.specs.declared.Request.{Request}
+use Rattle.frame.specs.Pictures.{Pair, pairOf, largestDistortion}
 use Rattle.frame.specs.Candidates.{Candidate, candidate, candidate-yes}
-use Rattle.frame.specs.Cross.{crossWindow, cross as cross-is}
-use Rattle.frame.specs.Refusals.{largestDistortion, sizesOf, listed, listed-elim, Asked, window-small, windowOk}
+use Rattle.refusals.specs.Cross.{crossWindow, cross as cross-is}
+use Rattle.refusals.specs.Refusals.{sizesOf, listed, listed-elim, Asked, window-small, windowOk}
 use Rattle.distortion.specs.Blocks.{distortion, distortion-bound}
 use Rattle.search.specs.declared.Found.{Found}
 use Rattle.search.specs.Found.{foundAs, onlyAtOne}

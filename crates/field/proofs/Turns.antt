@@ -12,7 +12,7 @@ use lib.Seq.{sets-eq, take-at}
 use lib.ListN.{length, getD, set, take, drop, replicate, length-set}
 use Rattle.base.specs.Sum.{sumTo, sumTo-bound}
 use Rattle.base.specs.Lists.{concatTo, concatTo-more, drop-over}
-use Rattle.frame.specs.declared.Request.{Request}
+use Rattle.refusals.specs.declared.Request.{Request}
 use Rattle.frame.specs.Pictures.{Pair}
 use Rattle.frame.specs.Grid.{blocks}
 use Rattle.search.specs.declared.Found.{Found}

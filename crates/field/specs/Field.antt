@@ -24,10 +24,10 @@ use Rattle.base.specs.Sum.{sumTo}
 use Rattle.base.specs.Lists.{concatTo}
 use Rattle.order.specs.declared.Vector.{Vector}
 use Rattle.frame.specs.declared.Sizes.{Sizes}
-use Rattle.frame.specs.declared.Request.{Request}
+use Rattle.refusals.specs.declared.Request.{Request}
 use Rattle.frame.specs.Pictures.{Pair, pairOf}
 use Rattle.frame.specs.Grid.{blocks, blockRow, blockColumn}
-use Rattle.frame.specs.Refusals.{unless, first, sizesOf, requestRefusal}
+use Rattle.refusals.specs.Refusals.{unless, first, sizesOf, requestRefusal}
 use Rattle.distortion.specs.Blocks.{blockAt}
 use Rattle.search.specs.declared.Found.{Found}
 use Rattle.search.specs.Found.{onlyAtOne, vectorIn}

@@ -11,8 +11,9 @@ use mathlib.Core.List.{List, [], _∷_, _++_}
 use lib.IntN.{ℤ}
 use lib.ListN.{length, getD, drop}
 use Rattle.order.specs.Vectors.{Within}
-use Rattle.frame.specs.declared.Request.{Request}
-use Rattle.frame.specs.Refusals.{largestDistortion, sizesOf, requestRefusal}
+use Rattle.refusals.specs.declared.Request.{Request}
+use Rattle.refusals.specs.Refusals.{sizesOf, requestRefusal}
+use Rattle.frame.specs.Pictures.{largestDistortion}
 use Rattle.distortion.specs.Blocks.{blockAt}
 use Rattle.search.specs.declared.Found.{Found}
 use Rattle.search.specs.Found.{vectorIn}

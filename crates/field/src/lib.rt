@@ -6,14 +6,14 @@ ghost use Prim.Native.Nat.{_+_, _*_, _<_, _≤_};
 ghost use lib.IntN.{pos};
 ghost use lib.ListN.{length, set, replicate};
 ghost use Rattle.order.specs.Preference.{preference, flat};
-ghost use Rattle.frame.specs.Pictures.{pairOf};
+ghost use Rattle.frame.specs.Pictures.{pairOf, largestDistortion};
 ghost use Rattle.frame.specs.Grid.{blocks};
-ghost use Rattle.frame.specs.Refusals.{largestDistortion, sizesOf};
+ghost use Rattle.refusals.specs.Refusals.{sizesOf};
 ghost use Rattle.reach.specs.Reach.{wholeFrame};
 ghost use Rattle.field.specs.Field.{listSize, fieldRefusal, blockOf, refusedField, filledTable, asFielded, accepted, fielded};
 ghost use Rattle.field.specs.Filling.{Roomy, Summable, Prepared, Sound, totalOver, joined, Few, Filled};
-use frame::Request;
 use order::Vector;
+use refusals::Request;
 use search::Found;
 use search::Spot;
 use sums::Window;
@@ -52,7 +52,7 @@ pub fn refused_field(refusal: u32) -> FieldAnswer
 pub fn field_refusal(older: usize, newer: usize, q: Request, list: usize, table: usize) -> u32
     ensures { λ r. ⌜ r ≡ fieldRefusal older newer q list table ⌝ }
 {
-    let refusal = frame::request_refusal(older, newer, q);
+    let refusal = refusals::request_refusal(older, newer, q);
     if refusal != 0 {
         return refusal;
     }
@@ -61,7 +61,7 @@ pub fn field_refusal(older: usize, newer: usize, q: Request, list: usize, table:
             return 9;
         }
     }
-    if list < 3 * frame::block_count(frame::sizes_of(q)) {
+    if list < 3 * frame::block_count(refusals::sizes_of(q)) {
         return 10;
     }
     0
@@ -101,7 +101,7 @@ fn search_at(
     requires { ⌜ Prepared (now older) (now newer) q (now table) × (now order ≡ flat preference) × (k < blocks (sizesOf q)) ⌝ }
     ensures { λ r. ⌜ (r ≡ blockOf (pairOf (now (older .entry)) (now (newer .entry)) (sizesOf q)) q k) × Sound r ⌝ }
 {
-    let s = frame::sizes_of(q);
+    let s = refusals::sizes_of(q);
     let y = frame::block_row(s, k);
     let x = frame::block_column(s, k);
     if q.search == 2 {
@@ -158,7 +158,7 @@ fn fill_list(
     requires { ⌜ (listSize (sizesOf q) ≤ length (now list)) × (now votes ≡ replicate 1089 0) ⌝ }
     ensures { λ r. ⌜ Filled (blockOf (pairOf (now (older .entry)) (now (newer .entry)) (sizesOf q)) q) (blocks (sizesOf q)) (now (list .entry)) (now (list .exit)) (now (votes .exit)) r ⌝ }
 {
-    let n = frame::block_count(frame::sizes_of(q));
+    let n = frame::block_count(refusals::sizes_of(q));
     let mut total = Total {
         counts: [0; 5],
         dropped: 0,

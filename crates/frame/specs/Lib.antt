@@ -1,5 +1,3 @@
 pub mod Pictures
 pub mod Grid
 pub mod Candidates
-pub mod Cross
-pub mod Refusals

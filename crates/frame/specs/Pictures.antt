@@ -24,6 +24,13 @@ pairOf older newer s = record { older = older; newer = newer; sizes = s }
 abbrev pub pel : List ℕ → ℕ → ℕ → ℕ → ℕ
 pel frame width r c = getD frame (r * width + c) 0
 
+-- the largest N, and 255 × N² of it, the largest distortion
+abbrev pub largestN : ℕ
+largestN = 16
+
+abbrev pub largestDistortion : ℕ
+largestDistortion = largestN * (largestN * 255)
+
 pub record Fitting (s : Sizes) : Type 0 where
   pub some : 0 < s .n
   pub across : s .n ≤ s .width

@@ -20,10 +20,10 @@ use Rattle.signed.specs.Int.{eqZ, up, dn}
 use Rattle.signed.specs.Values.{shiftedBy, shifted-is, shifted-not}
 use Rattle.order.specs.Vectors.{vec}
 use Rattle.frame.specs.declared.Sizes.{Sizes}
-use Rattle.frame.specs.Pictures.{sizes, Fitting}
+use Rattle.frame.specs.Pictures.{sizes, Fitting, largestN, largestDistortion}
 use Rattle.frame.specs.Grid.{blocks, blockRow, blockColumn}
 use Rattle.frame.specs.Candidates.{candidate, candidate-yes}
-use Rattle.frame.specs.Refusals.{largestN, largestDistortion, unless, sideOk, listed, blockOk, searchOk, windowOk, unless-zero, listed-elim, fitting, window-small}
+use Rattle.refusals.specs.Refusals.{unless, sideOk, listed, blockOk, searchOk, windowOk, unless-zero, listed-elim, fitting, window-small}
 use Rattle.heads.specs.declared.Head.{Head}
 
 abbrev pub sizesIn : Head → Sizes

@@ -31,17 +31,17 @@ pub fn sizes_in(h: Head) -> Sizes
 pub fn head_refusal(h: Head) -> u32
     ensures { λ r. ⌜ r ≡ headRefusal h ⌝ }
 {
-    if !frame::side_ok(h.width) {
+    if !refusals::side_ok(h.width) {
         return 1;
     }
-    if !frame::side_ok(h.height) {
+    if !refusals::side_ok(h.height) {
         return 1;
     }
-    if !frame::block_ok(sizes_in(h)) {
+    if !refusals::block_ok(sizes_in(h)) {
         return 3;
     }
-    let search = frame::search_ok(h.search);
-    let window = frame::window_ok(h.search, h.w);
+    let search = refusals::search_ok(h.search);
+    let window = refusals::window_ok(h.search, h.w);
     if !search {
         return 4;
     }

@@ -15,7 +15,7 @@ use Rattle.log.specs.declared.Command.{Command}
 use Rattle.log.specs.declared.Command.the-variants as Cmd
 use Rattle.log.specs.declared.Stepped.{Stepped}
 use Rattle.log.specs.Commands.{commandNumber, isRefused, blockValues}
-use Rattle.frame.specs.Refusals.{largestDistortion}
+use Rattle.frame.specs.Pictures.{largestDistortion}
 use Rattle.heads.specs.Heads.{gridOf, entry}
 use Rattle.put.specs.Put.{Rest, rest-last, put-over, over-fits}
 use Rattle.log.specs.Step.{headIn, stepAt, startCursor}

@@ -6,7 +6,7 @@ ghost use Prim.Native.Nat.{_+_, _≤_};
 ghost use lib.IntN.{pos};
 ghost use lib.ListN.{length, drop};
 ghost use Rattle.put.specs.Put.{Put};
-ghost use Rattle.frame.specs.Refusals.{largestDistortion};
+ghost use Rattle.frame.specs.Pictures.{largestDistortion};
 ghost use Rattle.log.specs.Commands.{blockValues};
 ghost use Rattle.log.specs.Walk.{walk, lastOf};
 ghost use Rattle.log_reading.specs.Reading.{fieldOf, refusedRead, refusedBy, logRead, asReading, readInto};

@@ -15,7 +15,7 @@ use lib.Dec.{leb, leb→le}
 use lib.IntN.{ℤ}
 use lib.ListN.{length}
 use Rattle.frame.specs.Grid.{blocks-few}
-use Rattle.frame.specs.Refusals.{first-zero, unless-zero}
+use Rattle.refusals.specs.Refusals.{first-zero, unless-zero}
 use Rattle.heads.specs.declared.Head.{Head}
 use Rattle.heads.specs.Heads.{sizesIn, headRefusal, gridOf, headed}
 use Rattle.log_writing.specs.Writing.{listRefusal, listedOk, firstWrong}

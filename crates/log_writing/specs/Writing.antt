@@ -10,7 +10,7 @@ use mathlib.Core.Bool.{Bool, cond}
 use lib.Dec.{leb, ltb, eqb}
 use lib.IntN.{ℤ}
 use lib.ListN.{length, drop}
-use Rattle.frame.specs.Refusals.{unless, first}
+use Rattle.refusals.specs.Refusals.{unless, first}
 use Rattle.heads.specs.declared.Head.{Head}
 use Rattle.heads.specs.Heads.{headRefusal, gridOf, entryOk}
 use Rattle.log.specs.Logs.{valueOf, logOf}

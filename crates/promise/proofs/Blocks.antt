@@ -14,7 +14,7 @@ use Rattle.order.specs.Vectors.{Within}
 use Rattle.frame.specs.Pictures.{Pair, Fitting}
 use Rattle.frame.specs.Grid.{blocks, blockRow, blockColumn, block-down, block-across}
 use Rattle.frame.specs.Candidates.{candidate, candidate-yes}
-use Rattle.frame.specs.Refusals.{listed, windowOk, thresholdOk}
+use Rattle.refusals.specs.Refusals.{listed, windowOk, thresholdOk}
 use Rattle.distortion.specs.Blocks.{distortion}
 use Rattle.search.specs.declared.Found.{Found}
 use Rattle.search.specs.Found.{vectorIn, probes}

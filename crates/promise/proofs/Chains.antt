@@ -10,7 +10,7 @@ use lib.IntN.{ℤ}
 use lib.ListN.{length}
 use Rattle.base.specs.Tests.{T-true}
 use Rattle.frame.specs.Pictures.{Pair}
-use Rattle.frame.specs.Refusals.{unless, first, first-zero, searchOk, windowOk, thresholdOk, pairRefusal, requestRefusal, Paired, paired, window-small}
+use Rattle.refusals.specs.Refusals.{unless, first, first-zero, searchOk, windowOk, thresholdOk, pairRefusal, requestRefusal, Paired, paired, window-small}
 use Rattle.frame.specs.Refusals as refusals
 use Rattle.field.specs.Field.{asked, listSize, fieldRefusal}
 

@@ -11,7 +11,7 @@ use lib.ListN.{length, length-append}
 use borrow.Author.Tests.{eq-eqb, ne-eqb}
 use Rattle.order.specs.declared.Vector.{Vector}
 use Rattle.frame.specs.Pictures.{Pair}
-use Rattle.frame.specs.Refusals.{first-zero}
+use Rattle.refusals.specs.Refusals.{first-zero}
 use Rattle.track.specs.declared.Track.{Track}
 use Rattle.track.specs.Track.{newTrack, homedAt, inRange}
 use Rattle.promise.specs.Demand.{Call, travel, refusalOf, accept, reckon, reckoned, accepted, Standing, standingOn, sumDown, sumAcross, trackAt, NoHoming}

@@ -19,7 +19,7 @@ use Rattle.order.specs.Preference.{preferred}
 use Rattle.order.proofs.Order.{once}
 use Rattle.frame.specs.Pictures.{Pair}
 use Rattle.frame.specs.Candidates.{candidate}
-use Rattle.frame.specs.Refusals.{listed}
+use Rattle.refusals.specs.Refusals.{listed}
 use Rattle.distortion.specs.Blocks.{distortion}
 use Rattle.search.specs.Found.{probes}
 use Rattle.probe.specs.Probe.{isIn}

@@ -15,7 +15,7 @@ use Rattle.signed.specs.Values.{movedBy}
 use Rattle.order.specs.declared.Vector.{Vector}
 use Rattle.frame.specs.Pictures.{Pair}
 use Rattle.frame.specs.Grid.{blocks}
-use Rattle.frame.specs.Refusals.{unless, first-zero}
+use Rattle.refusals.specs.Refusals.{unless, first-zero}
 use Rattle.reading.specs.Reading.{majority}
 use Rattle.field.specs.declared.FieldAnswer.{FieldAnswer}
 use Rattle.field.specs.Field.{asked, fieldAnswer, Fielded, filledList, field-accepted}

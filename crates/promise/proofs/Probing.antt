@@ -8,10 +8,10 @@ use lib.IntN.{ℤ}
 use lib.ListN.{length, drop}
 use Rattle.base.specs.Tests.{T-true}
 use Rattle.base.specs.Sum.{sumTo-bound}
-use Rattle.frame.specs.Pictures.{Pair}
+use Rattle.frame.specs.Pictures.{Pair, largestDistortion}
 use Rattle.frame.specs.Grid.{blocks, blockRow, blockColumn, block-down, block-across}
-use Rattle.frame.specs.Cross.{crossWindow, log2}
-use Rattle.frame.specs.Refusals.{largestDistortion, windowOk, thresholdOk}
+use Rattle.refusals.specs.Cross.{crossWindow, log2}
+use Rattle.refusals.specs.Refusals.{windowOk, thresholdOk}
 use Rattle.frame.specs.Refusals as refusals
 use Rattle.search.specs.declared.Found.{Found}
 use Rattle.search.specs.Exhaustive.{best}

@@ -23,11 +23,11 @@ use Rattle.base.specs.Lists.{concatTo}
 use Rattle.order.specs.declared.Vector.{Vector}
 use Rattle.order.specs.Vectors.{vec}
 use Rattle.order.specs.Preference.{preferred}
-use Rattle.frame.specs.Pictures.{Pair}
+use Rattle.frame.specs.Pictures.{Pair, largestDistortion}
 use Rattle.frame.specs.Grid.{blocks, blockRow, blockColumn}
 use Rattle.frame.specs.Candidates.{candidate}
-use Rattle.frame.specs.Cross.{crossWindow, log2}
-use Rattle.frame.specs.Refusals.{largestDistortion, unless, first}
+use Rattle.refusals.specs.Cross.{crossWindow, log2}
+use Rattle.refusals.specs.Refusals.{unless, first}
 use Rattle.distortion.specs.Blocks.{distortion}
 use Rattle.search.specs.declared.Found.{Found}
 use Rattle.search.specs.Found.{vectorIn, probes}

@@ -7,8 +7,8 @@ use native.Mathlib.Omega.{arith}
 use lib.Dec.{T}
 use lib.ListN.{length}
 use Rattle.order.specs.Preference.{preferred}
-use Rattle.frame.specs.Pictures.{Pair}
-use Rattle.frame.specs.Refusals.{largestN, listed, listed-elim}
+use Rattle.frame.specs.Pictures.{Pair, largestN}
+use Rattle.refusals.specs.Refusals.{listed, listed-elim}
 use Rattle.distortion.specs.Blocks.{absolute, distortion, newerBlock, olderBlock}
 use Rattle.search.specs.declared.Spot.{Spot}
 use Rattle.search.specs.Weighing.{Ready}

@@ -8,7 +8,7 @@ use Rattle.base.specs.Least.{_∈_}
 use Rattle.order.specs.Preference.{preferred}
 use Rattle.order.proofs.Order.{first-still}
 use Rattle.frame.specs.Pictures.{Pair}
-use Rattle.frame.specs.Refusals.{listed}
+use Rattle.refusals.specs.Refusals.{listed}
 use Rattle.distortion.specs.Blocks.{absolute, distortion, newerBlock, olderBlock}
 use Rattle.search.specs.Found.{vectorIn, probes}
 use Rattle.search.specs.Exhaustive.{Best, places, best}

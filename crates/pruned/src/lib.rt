@@ -7,7 +7,7 @@ ghost use lib.Dec.{T};
 ghost use lib.ListN.{length};
 ghost use Rattle.order.specs.Preference.{preference, flat};
 ghost use Rattle.frame.specs.Pictures.{pairOf};
-ghost use Rattle.frame.specs.Refusals.{listed};
+ghost use Rattle.refusals.specs.Refusals.{listed};
 ghost use Rattle.search.specs.Weighing.{Ready};
 ghost use Rattle.remaining.specs.Gathered.{Front, Listed, nearestOf, within, swept};
 ghost use Rattle.squares.specs.Squares.{OwnSums};
@@ -33,7 +33,7 @@ fn first_slot(n: usize) -> usize
     requires { ⌜ T (listed n) ⌝ }
     ensures { λ r. ⌜ r ≡ firstSlot n ⌝ }
 {
-    4 - frame::log2_window(n) as usize
+    4 - refusals::log2_window(n) as usize
 }
 
 // All candidates, and E the distortion of (0,0).

@@ -4,7 +4,8 @@ use mathlib.Core.List.{List}
 use native.Mathlib.Nat.{le-trans, mul-le-mul, mul-le-mul-right}
 use native.Mathlib.Omega.{arith}
 use lib.ListN.{length}
-use Rattle.frame.specs.Refusals.{largestN, listed-elim}
+use Rattle.refusals.specs.Refusals.{listed-elim}
+use Rattle.frame.specs.Pictures.{largestN}
 use Rattle.search.specs.declared.Spot.{Spot}
 use Rattle.search.specs.Weighing.{Ready}
 use Rattle.sums.specs.Filling.{windowTable, Fillable}

@@ -10,7 +10,7 @@ use borrow.Author.Tests.{ltb-false, eqb-true, eqb-false, le-ltb, le-leb, eq-eqb}
 use lib.Dec.{leb, ltb, eqb, leb→le}
 use lib.IntN.{ℤ}
 use lib.ListN.{length, drop}
-use Rattle.frame.specs.Refusals.{unless, unless-zero, first-zero, first-none}
+use Rattle.refusals.specs.Refusals.{unless, unless-zero, first-zero, first-none}
 use Rattle.heads.specs.declared.Head.{Head}
 use Rattle.heads.specs.Heads.{headRefusal, gridOf}
 use Rattle.log.specs.Logs.{logOf}

@@ -18,7 +18,7 @@ use Rattle.order.specs.declared.Vector.{Vector}
 use Rattle.order.specs.Vectors.{vec}
 use Rattle.frame.specs.Pictures.{Pair, pairOf}
 use Rattle.frame.specs.Candidates.{candidate, candidate-older}
-use Rattle.frame.specs.Refusals.{Placed}
+use Rattle.refusals.specs.Refusals.{Placed}
 use Rattle.distortion.specs.Blocks.{absolute, blockAt, newerBlock, distortionBy, distortion}
 use Rattle.search.specs.declared.Spot.{Spot}
 use Rattle.search.specs.declared.Weighed.{Weighed}

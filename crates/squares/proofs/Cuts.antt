@@ -12,7 +12,7 @@ use Rattle.base.specs.Rows.{length-grid, grid-at}
 use Rattle.distortion.specs.Blocks.{Block, absolute}
 use Rattle.pruning.specs.Distance.{squareSum, distanceBy}
 use Rattle.sums.specs.Area.{SumsOf}
-use Rattle.frame.specs.Refusals.{largestN}
+use Rattle.frame.specs.Pictures.{largestN}
 use Rattle.sums.specs.Square.{squareAt, leftSum, Square, squared}
 use Rattle.squares.specs.Squares.{largestSquareSum, mostSquares, looked, Looked, IsSquare, squareSums, squareSteps, Cut, gapAt, Compared, IsDistance}
 

@@ -21,7 +21,7 @@ use Rattle.pruning.specs.Distance.{squareSum, distanceBy}
 use Rattle.search.specs.declared.Spot.{Spot}
 use Rattle.sums.specs.declared.Window.{Window}
 use Rattle.sums.specs.Area.{SumsOf}
-use Rattle.frame.specs.Refusals.{largestN}
+use Rattle.frame.specs.Pictures.{largestN}
 use Rattle.sums.specs.Square.{squareAt}
 
 abbrev pub largestSquareSum : ℕ

@@ -6,7 +6,7 @@ ghost use Prim.Native.Nat.{_+_, _*_, _≤_, _<_};
 ghost use lib.ListN.{length, drop};
 ghost use Rattle.base.specs.Sum.{sumTo};
 ghost use Rattle.base.specs.Lists.{fillTo};
-ghost use Rattle.frame.specs.Refusals.{largestN};
+ghost use Rattle.frame.specs.Pictures.{largestN};
 ghost use Rattle.distortion.specs.Blocks.{blockAt};
 ghost use Rattle.pruning.specs.Distance.{squareSum};
 ghost use Rattle.sums.specs.Area.{SumsOf};

@@ -6,7 +6,7 @@ use Prim.Native.Nat.{ℕ, _+_, _*_, _≤_}
 use mathlib.Core.List.{List}
 use lib.ListN.{length, getD}
 use Rattle.base.specs.Sum.{sumTo}
-use Rattle.frame.specs.Refusals.{largestN}
+use Rattle.frame.specs.Pictures.{largestN}
 use Rattle.sums.specs.declared.Window.{Window}
 
 abbrev pub ownTable : ℕ

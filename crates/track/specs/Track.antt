@@ -18,8 +18,8 @@ use lib.ListN.{length}
 use Rattle.signed.specs.declared.Moved.{Moved}
 use Rattle.signed.specs.declared.Moved.the-variants.{To, Out}
 use Rattle.signed.specs.Values.{movedBy}
-use Rattle.frame.specs.declared.Request.{Request}
-use Rattle.frame.specs.Refusals.{unless, first}
+use Rattle.refusals.specs.declared.Request.{Request}
+use Rattle.refusals.specs.Refusals.{unless, first}
 use Rattle.field.specs.declared.FieldAnswer.{FieldAnswer}
 use Rattle.field.specs.Field.{fieldRefusal, refusedField, Fielded, fielded}
 use Rattle.track.specs.declared.Track.{Track}

@@ -5,7 +5,7 @@ ghost use mathlib.Core.Path.{_≡_};
 ghost use Prim.Native.Nat.{_<_};
 ghost use Rattle.track.specs.Track.{newTrack, homed, stepRefusal, refusedStep, arrived, asStepping, stepped};
 use field::FieldAnswer;
-use frame::Request;
+use refusals::Request;
 use signed::Moved;
 
 // Homed or not, the place, and the steps since it was homed.

@@ -15,7 +15,7 @@ use Rattle.base.specs.Tests.{le-both}
 use Rattle.frame.specs.declared.Sizes.{Sizes}
 use Rattle.view.specs.declared.RowView.{RowView}
 use Rattle.frame.specs.Pictures.{Pair, row-inside}
-use Rattle.frame.specs.Refusals.{unless, first, unless-zero, first-zero, pairRefusal, Paired, paired}
+use Rattle.refusals.specs.Refusals.{unless, first, unless-zero, first-zero, pairRefusal, Paired, paired}
 
 -- 7 row view: the N pels not inside one row of the frame asked for
 abbrev pub rowOk : Sizes → ℕ → ℕ → Bool

@@ -26,7 +26,7 @@ pub fn view_refusal(
 ) -> u32
     ensures { λ r. ⌜ r ≡ viewRefusal older newer s side row column ⌝ }
 {
-    let refusal = frame::pair_refusal(older, newer, s);
+    let refusal = refusals::pair_refusal(older, newer, s);
     if refusal != 0 {
         return refusal;
     }

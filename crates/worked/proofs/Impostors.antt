@@ -13,7 +13,7 @@ use Rattle.order.specs.Vectors.{vec}
 use Rattle.order.specs.Preference.{preference}
 use Rattle.frame.specs.Grid.{rows, columns, blocks, blockRow, blockColumn}
 use Rattle.frame.specs.Candidates.{candidate}
-use Rattle.frame.specs.Refusals.{first, listed, windowOk, thresholdOk, pairRefusal, requestRefusal}
+use Rattle.refusals.specs.Refusals.{first, listed, windowOk, thresholdOk, pairRefusal, requestRefusal}
 use Rattle.distortion.specs.Blocks.{distortion, distortionBy}
 use Rattle.probe.specs.Probe.{origin}
 use Rattle.field.specs.Field.{fieldRefusal}

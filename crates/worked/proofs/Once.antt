@@ -14,11 +14,11 @@ use lib.ListN.{length, drop}
 use Rattle.base.specs.Least.{leastOf}
 use Rattle.order.specs.declared.Vector.{Vector}
 use Rattle.order.specs.Preference.{preference, preferred}
-use Rattle.frame.specs.declared.Request.{Request}
+use Rattle.refusals.specs.declared.Request.{Request}
 use Rattle.frame.specs.Pictures.{Pair, pairOf}
 use Rattle.frame.specs.Grid.{blocks, blockRow, blockColumn}
 use Rattle.frame.specs.Candidates.{candidate}
-use Rattle.frame.specs.Refusals.{sizesOf}
+use Rattle.refusals.specs.Refusals.{sizesOf}
 use Rattle.distortion.specs.Blocks.{absolute}
 use Rattle.search.specs.declared.Found.{Found}
 use Rattle.search.specs.Weighing.{target}

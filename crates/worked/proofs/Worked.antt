@@ -9,8 +9,8 @@ use Rattle.signed.specs.Values.{movedBy, signedByte, byteOf}
 use Rattle.order.specs.Preference.{preference}
 use Rattle.frame.specs.Grid.{rows, columns, blocks, blockRow, blockColumn}
 use Rattle.frame.specs.Candidates.{candidate}
-use Rattle.frame.specs.Cross.{crossWindow}
-use Rattle.frame.specs.Refusals.{first, listed, windowOk, thresholdOk, pairRefusal, placedRefusal, requestRefusal}
+use Rattle.refusals.specs.Cross.{crossWindow}
+use Rattle.refusals.specs.Refusals.{first, listed, windowOk, thresholdOk, pairRefusal, placedRefusal, requestRefusal}
 use Rattle.distortion.specs.Blocks.{distortionBy, distortion}
 use Rattle.distortion.specs.Measured.{measureRefusal, measured}
 use Rattle.probe.specs.Probe.{counted, looked, probe, start as probeStart, around, widened, isIn, fresh}
@@ -33,8 +33,7 @@ use Rattle.log.specs.Logs.{blockCommand, logCommands, logOf}
 use Rattle.log_writing.specs.Writing.{listRefusal, firstWrong, wroteListed, wrote}
 use Rattle.log_reading.specs.Reading.{fieldOf, logRead, readInto}
 use Rattle.log_text.specs.Text.{digits, number, spaced, endWord, refusedWord, atWord, worded, printed}
-use Rattle.worked.specs.Table.{pairA, pairB, pairC, pairD, Call, search, measure, distance, field, travelling, calls, writing, reading, walking, printing}
-use Rattle.worked.specs.Table.{Answer, found, filled, travels, results, answer, Row, Right, table}
+use Rattle.worked.specs.Table.{pairA, pairB, pairC, pairD, Call, search, measure, distance, field, travelling, calls, writing, reading, walking, printing, Answer, found, filled, travels, results, answer, Row, Right, table}
 use Rattle.worked.proofs.Places.{walk, after}
 use Rattle.worked.proofs.Alike.{every, alike}
 use Rattle.worked.proofs.Once.{blockOnce, block-once, fieldOnce, field-once, travelOnce, travel-once, runOnce, run-once}

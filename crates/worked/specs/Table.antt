@@ -19,7 +19,7 @@ use lib.ListN.{length, replicate}
 use Rattle.base.specs.Lists.{concatTo}
 use Rattle.order.specs.declared.Vector.{Vector}
 use Rattle.order.specs.Vectors.{vec}
-use Rattle.frame.specs.declared.Request.{Request}
+use Rattle.refusals.specs.declared.Request.{Request}
 use Rattle.frame.specs.Pictures.{Pair, pairOf, sizes}
 use Rattle.distortion.specs.declared.Measured.{Measured}
 use Rattle.distortion.specs.Blocks.{absolute, newerBlock, olderBlock}

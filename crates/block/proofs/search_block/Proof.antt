@@ -4,7 +4,7 @@ use native.Mathlib.Omega.{arith}
 use borrow.Author.Needs.{needs}
 use denote.Ref.{now}
 use lib.ListN.{length}
-use Rattle.frame.specs.Refusals.{windowOk, sizesOf, window-small}
+use Rattle.refusals.specs.Refusals.{windowOk, sizesOf, window-small}
 use Rattle.frame.specs.Pictures.{pairOf}
 use Rattle.search.specs.Weighing.{Ready}
 use Rattle.block.specs.Block.{searchRefusal, blockFound, searched, searched-full, searched-pruned, searched-four-step, searched-cross, searchable, block-refused, block-accepted}

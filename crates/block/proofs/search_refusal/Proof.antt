@@ -2,7 +2,7 @@
 use mathlib.Core.Path.{_≡_, sym}
 use borrow.Author.Needs.{needs}
 use Rattle.base.specs.Tests.{passed, failed}
-use Rattle.frame.specs.Refusals.{unless, placeOk, sizesOf, first-some, first-none}
+use Rattle.refusals.specs.Refusals.{unless, placeOk, sizesOf, first-some, first-none}
 use Rattle.block.specs.Block.{searchRefusal}
 use Rattle.block.proofs.search_refusal.Statement.{statement}
 use Rattle.block.proofs.search_refusal.Tie as tie

@@ -10,7 +10,7 @@ use Rattle.order.specs.Vectors.{vec}
 use Rattle.base.specs.Tests.{T-true}
 use Rattle.frame.specs.Pictures.{Pair, pairOf}
 use Rattle.frame.specs.Candidates.{candidate, olderAt, olderRow, olderColumn, candidate-older, older-is, older-not}
-use Rattle.frame.specs.Refusals.{placedRefusal, placed}
+use Rattle.refusals.specs.Refusals.{placedRefusal, placed}
 use Rattle.distortion.specs.Blocks.{distortion}
 use Rattle.distortion.specs.Measured.{refusedBy, measured-refused, measured-outside, measured-at}
 use Rattle.distortion.proofs.measure.Statement.{statement}

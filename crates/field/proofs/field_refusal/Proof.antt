@@ -11,7 +11,7 @@ use Rattle.field.specs.Field.{fieldRefusal, tableOk}
 use Rattle.base.specs.Tests.{or-true}
 use Rattle.frame.specs.Grid.{blocks, blocks-few}
 use Rattle.frame.specs.Pictures.{Fitting}
-use Rattle.frame.specs.Refusals.{first-none, first-some, sizesOf, requestRefusal, asked}
+use Rattle.refusals.specs.Refusals.{first-none, first-some, sizesOf, requestRefusal, asked}
 use borrow.Author.Needs.{needs}
 use Rattle.field.proofs.field_refusal.Statement.{statement}
 use Rattle.field.proofs.field_refusal.Tie as tie

@@ -1,15 +1,14 @@
 -- `fill`: the table of sums is made first, so each block may be searched; then the reading is that of all votes.
-use borrow.Author.Needs.{sfits-of}
+use borrow.Author.Needs.{sfits-of, needs}
 use mathlib.Core.Path.{refl, _∙_}
 use mir.Facts.{toZ-ofZ}
 use denote.Ref.{now}
 use lib.ListN.{length}
 use Rattle.frame.specs.Pictures.{pairOf}
-use Rattle.frame.specs.Refusals.{sizesOf}
+use Rattle.refusals.specs.Refusals.{sizesOf}
 use Rattle.reading.proofs.Tally.{tally-reading}
 use Rattle.field.proofs.Room.{summable, prepared}
 use Rattle.field.proofs.Turns.{answer-is}
-use borrow.Author.Needs.{needs}
 use Rattle.field.proofs.fill.Statement.{statement}
 use Rattle.field.proofs.fill.Tie as tie
 

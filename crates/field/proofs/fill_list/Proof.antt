@@ -10,7 +10,7 @@ use mir.Val.{SFits, toZ, ofZ}
 use lib.IntN.{ℤ, pos, negsuc, natAbs}
 use Rattle.frame.specs.Grid.{blocks, blocks-few}
 use Rattle.frame.specs.Pictures.{pairOf, Fitting}
-use Rattle.frame.specs.Refusals.{sizesOf, asked}
+use Rattle.refusals.specs.Refusals.{sizesOf, asked}
 use Rattle.reading.proofs.Tally.{tally-room}
 use Rattle.field.specs.Field.{blockOf}
 use Rattle.field.specs.Filling.{Filled}

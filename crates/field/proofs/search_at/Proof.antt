@@ -7,7 +7,7 @@ use native.Mathlib.Omega.{arith}
 use Rattle.block.specs.Block.{search-fine, block-accepted, searched-pruned}
 use Rattle.field.proofs.Sound.{Bytes, block-is}
 use Rattle.frame.specs.Grid.{blockRow, blockColumn, block-down, block-across}
-use Rattle.frame.specs.Refusals.{sizesOf, Asked, asked, window-small}
+use Rattle.refusals.specs.Refusals.{sizesOf, Asked, asked, window-small}
 use Rattle.reach.proofs.Windows.{covers-frame}
 use borrow.Author.Needs.{needs}
 use Rattle.field.proofs.search_at.Statement.{statement}

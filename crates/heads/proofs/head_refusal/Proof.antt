@@ -4,7 +4,7 @@ use borrow.Author.Needs.{needs}
 use mathlib.Core.Bool.{true}
 use Rattle.base.specs.Tests.{passed, failed}
 use Rattle.heads.specs.Heads.{headRefusal, sizesIn}
-use Rattle.frame.specs.Refusals.{sideOk, blockOk, searchOk}
+use Rattle.refusals.specs.Refusals.{sideOk, blockOk, searchOk}
 use Rattle.heads.proofs.head_refusal.Statement.{statement}
 use Rattle.heads.proofs.head_refusal.Tie as tie
 

@@ -3,7 +3,7 @@ use mathlib.Core.Path.{sym, _∙_}
 use native.Mathlib.Omega.{arith}
 use borrow.Author.Needs.{needs}
 use borrow.Author.Tests.{lt-leb, le-leb}
-use Rattle.frame.specs.Refusals.{first-none, first-some}
+use Rattle.refusals.specs.Refusals.{first-none, first-some}
 use Rattle.log_writing.specs.Writing.{listRefusal}
 use Rattle.log_writing.proofs.list_refusal.Statement.{statement}
 use Rattle.log_writing.proofs.list_refusal.Tie as tie

@@ -5,8 +5,8 @@ use native.Mathlib.Omega.{arith}
 use borrow.Author.Needs.{needs}
 use lib.Count.{trailingZeros}
 use lib.Dec.{T}
-use Rattle.frame.specs.Cross.{log2}
-use Rattle.frame.specs.Refusals.{listed, listed-elim}
+use Rattle.refusals.specs.Cross.{log2}
+use Rattle.refusals.specs.Refusals.{listed, listed-elim}
 use Rattle.pruning.specs.Prune.{halves}
 use Rattle.pruned.specs.Memory.{firstSlot}
 use Rattle.pruned.proofs.first_slot.Statement.{statement}

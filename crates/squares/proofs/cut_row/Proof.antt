@@ -10,7 +10,7 @@ use Rattle.base.specs.Index.{row-fits}
 use Rattle.base.specs.Lists.{fillTo, fill-none, fill-more}
 use Rattle.distortion.specs.Blocks.{blockAt}
 use Rattle.pruning.specs.Distance.{squareSum}
-use Rattle.frame.specs.Refusals.{largestN}
+use Rattle.frame.specs.Pictures.{largestN}
 use Rattle.sums.specs.Square.{squared}
 use Rattle.squares.proofs.Cuts.{square-is}
 use Rattle.squares.proofs.cut_row.Statement.{statement}

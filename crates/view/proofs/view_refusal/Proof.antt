@@ -5,7 +5,7 @@ use native.Mathlib.Omega.{arith}
 use borrow.Author.Needs.{needs}
 use borrow.Author.Tests.{le-leb, lt-leb}
 use lib.Dec.{leb}
-use Rattle.frame.specs.Refusals.{unless, Paired, paired, first-some, first-none}
+use Rattle.refusals.specs.Refusals.{unless, Paired, paired, first-some, first-none}
 use Rattle.view.specs.View.{rowOk, viewRefusal}
 use Rattle.view.proofs.view_refusal.Statement.{statement}
 use Rattle.view.proofs.view_refusal.Tie as tie

@@ -9,8 +9,8 @@ use denote.Ref.{now}
 use lib.Dec.{leb}
 use lib.IntN.{ℤ}
 use Rattle.base.specs.Tests.{T-true}
-use Rattle.frame.specs.declared.Request.{Request}
-use Rattle.frame.specs.Refusals.{unless-zero, first-zero}
+use Rattle.refusals.specs.declared.Request.{Request}
+use Rattle.refusals.specs.Refusals.{unless-zero, first-zero}
 use Rattle.field.specs.declared.FieldAnswer.{FieldAnswer}
 use Rattle.field.specs.Field.{fieldRefusal, asFielded, fielded}
 use Rattle.track.specs.declared.Track.{Track}

@@ -4,7 +4,7 @@ use mathlib.Core.Bool.{not}
 use borrow.Author.Needs.{needs}
 use borrow.Author.Tests.{le-leb, lt-leb, not-true, not-false}
 use lib.Dec.{leb}
-use Rattle.frame.specs.Refusals.{unless, first-some, first-none}
+use Rattle.refusals.specs.Refusals.{unless, first-some, first-none}
 use Rattle.track.specs.Track.{stepRefusal}
 use Rattle.track.proofs.Track.step_refusal.Statement.{statement}
 use Rattle.track.proofs.Track.step_refusal.Tie as tie

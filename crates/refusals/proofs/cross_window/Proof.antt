@@ -1,9 +1,9 @@
 -- `cross_window`: below 2 and over 16 there is no such window; between them one bit set decides.
 use mathlib.Core.Path.{sym}
 use native.Mathlib.Omega.{arith}
-use Rattle.frame.specs.Cross.{one-bit, none-below, none-above}
-use Rattle.frame.proofs.cross_window.Statement.{statement}
-use Rattle.frame.proofs.cross_window.Tie as tie
+use Rattle.refusals.specs.Cross.{one-bit, none-below, none-above}
+use Rattle.refusals.proofs.cross_window.Statement.{statement}
+use Rattle.refusals.proofs.cross_window.Tie as tie
 
 returns : tie.Need-returns
 returns c = sym (none-below _ (omega arith))

@@ -4,11 +4,11 @@ use mathlib.Core.Bool.{true}
 use native.Mathlib.Omega.{arith}
 use borrow.Author.Needs.{needs}
 use borrow.Author.Tests.{ne-eqb, eq-eqb}
-use Rattle.frame.specs.Refusals.{pairRefusal, sideOk, side-high}
+use Rattle.refusals.specs.Refusals.{pairRefusal, sideOk, side-high}
 use Rattle.base.specs.Index.{frame-small}
 use Rattle.base.specs.Tests.{true-T, passed, failed}
-use Rattle.frame.proofs.pair_refusal.Statement.{statement}
-use Rattle.frame.proofs.pair_refusal.Tie as tie
+use Rattle.refusals.proofs.pair_refusal.Statement.{statement}
+use Rattle.refusals.proofs.pair_refusal.Tie as tie
 
 -- what was passed on the way, in the chain's words
 wide : (d : tie.Else1) → sideOk (d .before .before .args .s .width) ≡ true

@@ -1,9 +1,9 @@
 -- `window_ok`: the test of the search, then that of its window.
 use borrow.Author.Needs.{needs}
 use borrow.Author.Tests.{le-leb, lt-leb, ne-eqb, eq-eqb}
-use Rattle.frame.specs.Refusals.{windowOk}
-use Rattle.frame.proofs.window_ok.Statement.{statement}
-use Rattle.frame.proofs.window_ok.Tie as tie
+use Rattle.refusals.specs.Refusals.{windowOk}
+use Rattle.refusals.proofs.window_ok.Statement.{statement}
+use Rattle.refusals.proofs.window_ok.Tie as tie
 
 returns : tie.Need-returns
 unfolding windowOk

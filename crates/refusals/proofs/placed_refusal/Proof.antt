@@ -2,9 +2,9 @@
 use mathlib.Core.Path.{_≡_, sym}
 use borrow.Author.Needs.{needs}
 use Rattle.base.specs.Tests.{passed, failed}
-use Rattle.frame.specs.Refusals.{unless, placeOk, placedRefusal, first-some, first-none}
-use Rattle.frame.proofs.placed_refusal.Statement.{statement}
-use Rattle.frame.proofs.placed_refusal.Tie as tie
+use Rattle.refusals.specs.Refusals.{unless, placeOk, placedRefusal, first-some, first-none}
+use Rattle.refusals.proofs.placed_refusal.Statement.{statement}
+use Rattle.refusals.proofs.placed_refusal.Tie as tie
 
 -- past the pair's chain
 rest : (d : tie.Else1) → let a = d .before .before .args in placedRefusal (a .older) (a .newer) (a .s) (a .y) (a .x) ≡ unless (placeOk (a .s) (a .y) (a .x)) 7 0

@@ -4,8 +4,8 @@ use native.Mathlib.Omega.{arith}
 use borrow.Author.Tests.{lt-leb}
 use lib.Dec.{leb→le, le→leb}
 use Rattle.base.specs.Tests.{iff-test}
-use Rattle.frame.proofs.lies_in.Statement.{statement}
-use Rattle.frame.proofs.lies_in.Tie as tie
+use Rattle.refusals.proofs.lies_in.Statement.{statement}
+use Rattle.refusals.proofs.lies_in.Tie as tie
 
 returns : tie.Need-returns
 returns c =

@@ -1,8 +1,8 @@
 -- `threshold_ok`: the test of the search, then that of T.
 use borrow.Author.Tests.{ne-eqb, eq-eqb}
-use Rattle.frame.specs.Refusals.{thresholdOk}
-use Rattle.frame.proofs.threshold_ok.Statement.{statement}
-use Rattle.frame.proofs.threshold_ok.Tie as tie
+use Rattle.refusals.specs.Refusals.{thresholdOk}
+use Rattle.refusals.proofs.threshold_ok.Statement.{statement}
+use Rattle.refusals.proofs.threshold_ok.Tie as tie
 
 returns : tie.Need-returns
 unfolding thresholdOk

@@ -1,7 +1,7 @@
 -- `search_ok`: the two tests of the definition, in its order.
 use borrow.Author.Tests.{le-leb, lt-leb}
-use Rattle.frame.proofs.search_ok.Statement.{statement}
-use Rattle.frame.proofs.search_ok.Tie as tie
+use Rattle.refusals.proofs.search_ok.Statement.{statement}
+use Rattle.refusals.proofs.search_ok.Tie as tie
 
 returns : tie.Need-returns
 returns c = rw (lt-leb _ _ (c .if1 .taken))

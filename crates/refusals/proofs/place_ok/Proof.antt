@@ -1,8 +1,8 @@
 -- `place_ok`: down and across.
 use borrow.Author.Needs.{needs}
 use Rattle.base.specs.Tests.{passed, failed}
-use Rattle.frame.proofs.place_ok.Statement.{statement}
-use Rattle.frame.proofs.place_ok.Tie as tie
+use Rattle.refusals.proofs.place_ok.Statement.{statement}
+use Rattle.refusals.proofs.place_ok.Tie as tie
 
 lies-in-requires : tie.Need-lies-in-requires
 lies-in-requires c κs = search needs

@@ -2,8 +2,8 @@
 use borrow.Author.Needs.{needs}
 use borrow.Author.Tests.{le-leb, lt-leb}
 use Rattle.base.specs.Tests.{passed, failed}
-use Rattle.frame.proofs.block_ok.Statement.{statement}
-use Rattle.frame.proofs.block_ok.Tie as tie
+use Rattle.refusals.proofs.block_ok.Statement.{statement}
+use Rattle.refusals.proofs.block_ok.Tie as tie
 
 is-listed-requires : tie.Need-is-listed-requires
 is-listed-requires c κs = search needs

@@ -12,10 +12,10 @@ use mathlib.Core.Logic.{⊎-elim}
 use native.Mathlib.Omega.{arith}
 use lib.Dec.{T, leb, eqb, leb→le, eqb→eq}
 use Rattle.base.specs.Tests.{and-left, and-right, or-cases, le-both, eqb-subst}
 use Rattle.frame.specs.declared.Sizes.{Sizes}
-use Rattle.frame.specs.declared.Request.{Request}
-use Rattle.frame.specs.Pictures.{sizes, Fitting}
-use Rattle.frame.specs.Cross.{crossWindow, cross}
+use Rattle.refusals.specs.declared.Request.{Request}
+use Rattle.frame.specs.Pictures.{sizes, largestDistortion, Fitting}
+use Rattle.refusals.specs.Cross.{crossWindow, cross}
 
 -- the number where the test fails, else the rest of the chain
 abbrev pub unless : Bool → ℕ → ℕ → ℕ
@@ -40,13 +40,6 @@ frameOk s pels = eqb pels (s .height * s .width)
 -- 3 N not allowed or too big: "Block size N is 4, 8 or 16, at most width and height"
 unfoldable pub listed : ℕ → Bool
 listed n = eqb n 4 || (eqb n 8 || eqb n 16)
-
--- the largest N, and 255 × N² of it, the largest distortion
-abbrev pub largestN : ℕ
-largestN = 16
-
-abbrev pub largestDistortion : ℕ
-largestDistortion = largestN * (largestN * 255)
 
 abbrev pub blockOk : Sizes → Bool
 blockOk s = listed (s .n) && (leb (s .n) (s .width) && leb (s .n) (s .height))

@@ -2,9 +2,9 @@
 use mathlib.Core.Path.{_≡_, ap, sym, _∙_}
 use borrow.Author.Needs.{needs}
 use Rattle.base.specs.Tests.{passed, failed}
-use Rattle.frame.specs.Refusals.{unless, searchOk, windowOk, thresholdOk, pairRefusal, requestRefusal, sizesOf, first-some, first-none}
-use Rattle.frame.proofs.request_refusal.Statement.{statement}
-use Rattle.frame.proofs.request_refusal.Tie as tie
+use Rattle.refusals.specs.Refusals.{unless, searchOk, windowOk, thresholdOk, pairRefusal, requestRefusal, sizesOf, first-some, first-none}
+use Rattle.refusals.proofs.request_refusal.Statement.{statement}
+use Rattle.refusals.proofs.request_refusal.Tie as tie
 
 -- what the pair's chain gave, and past it the rest of the chain
 gave : (d : tie.After-pair-refusal) → let a = d .before .before .args in d .pair-refusal .result ≡ pairRefusal (a .older) (a .newer) (sizesOf (a .q))

@@ -1,8 +1,8 @@
 -- `is_listed`: the three tests of the definition, in its order.
 use borrow.Author.Tests.{ne-eqb, eq-eqb}
-use Rattle.frame.specs.Refusals.{listed}
-use Rattle.frame.proofs.is_listed.Statement.{statement}
-use Rattle.frame.proofs.is_listed.Tie as tie
+use Rattle.refusals.specs.Refusals.{listed}
+use Rattle.refusals.proofs.is_listed.Statement.{statement}
+use Rattle.refusals.proofs.is_listed.Tie as tie
 
 returns : tie.Need-returns
 unfolding listed
