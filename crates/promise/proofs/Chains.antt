@@ -11,7 +11,7 @@ use lib.ListN.{length}
 use Rattle.base.specs.Tests.{T-true}
 use Rattle.frame.specs.Pictures.{Pair}
 use Rattle.refusals.specs.Refusals.{unless, first, first-zero, searchOk, windowOk, thresholdOk, pairRefusal, requestRefusal, Paired, paired, window-small}
-use Rattle.frame.specs.Refusals as refusals
+use Rattle.refusals.specs.Refusals as refusals
 use Rattle.field.specs.Field.{asked, listSize, fieldRefusal}
 
 -- ---- the refusals of a step that come before the field is filled, and the one after

@@ -12,7 +12,7 @@ use Rattle.frame.specs.Pictures.{Pair, largestDistortion}
 use Rattle.frame.specs.Grid.{blocks, blockRow, blockColumn, block-down, block-across}
 use Rattle.refusals.specs.Cross.{crossWindow, log2}
 use Rattle.refusals.specs.Refusals.{windowOk, thresholdOk}
-use Rattle.frame.specs.Refusals as refusals
+use Rattle.refusals.specs.Refusals as refusals
 use Rattle.search.specs.declared.Found.{Found}
 use Rattle.search.specs.Exhaustive.{best}
 use Rattle.search.specs.Weighing.{target}
