@@ -1,15 +1,15 @@
-// The single-block call of document 01: refusals 1 to 7, then the search asked for, of a block at any pel row and column.
+// The single-block call of document 01: refusals 1 to 7, then the search requested for, of a block at any pel row and column.
 
 ghost use mathlib.Core.Path.{_≡_};
 ghost use Rattle.order.specs.Preference.{preference, flat};
 ghost use Rattle.frame.specs.Pictures.{pairOf};
-ghost use Rattle.search.specs.Found.{refusedSearch};
-ghost use Rattle.search.specs.Weighing.{Ready};
-ghost use Rattle.pruned.specs.Answer.{prunedFound};
-ghost use Rattle.block.specs.Block.{searchRefusal, blockFound};
+ghost use Rattle.search.specs.SearchResult.{refusedSearch};
+ghost use Rattle.search.specs.Target.{Ready};
+ghost use Rattle.pruned.specs.Answer.{prunedSearch};
+ghost use Rattle.block.specs.Block.{searchRefusal, searchBlock};
 use refusals::Request;
-use search::Found;
-use search::Spot;
+use search::SearchBlock;
+use search::SearchResult;
 
 // The first of 1 2 3 4 5 6 7 that applies, or 0.
 pub fn search_refusal(older: usize, newer: usize, q: Request, y: usize, x: usize) -> u32
@@ -25,10 +25,10 @@ pub fn search_refusal(older: usize, newer: usize, q: Request, y: usize, x: usize
     0
 }
 
-fn refused(refusal: u32) -> Found
+fn refused_search(refusal: u32) -> SearchResult
     ensures { λ r. ⌜ r ≡ refusedSearch refusal ⌝ }
 {
-    Found {
+    SearchResult {
         refusal,
         dy: 0,
         dx: 0,
@@ -39,26 +39,26 @@ fn refused(refusal: u32) -> Found
 }
 
 // Search 2 of a block by itself: the sums of the older squares come from a table of its search window alone.
-fn pruned_alone(older: &[u8], newer: &[u8], order: &[i32; 2178], b: Spot) -> Found
+fn pruned_alone(older: &[u8], newer: &[u8], order: &[i32; 2178], b: SearchBlock) -> SearchResult
     requires { ⌜ Ready (now older) (now newer) b × (now order ≡ flat preference) ⌝ }
-    ensures { λ r. ⌜ r ≡ prunedFound (pairOf (now (older .entry)) (now (newer .entry)) (b .sizes)) (b .w) (b .y) (b .x) ⌝ }
+    ensures { λ r. ⌜ r ≡ prunedSearch (pairOf (now (older .entry)) (now (newer .entry)) (b .sizes)) (b .w) (b .y) (b .x) ⌝ }
 {
     let s = b.sizes;
-    let a = reach::search_window(b);
-    let mut table = [0u32; sums::WINDOW_TABLE];
-    sums::fill_sums(older, s.width, a, &mut table);
+    let a = pruned_region::search_window(b);
+    let mut table = [0u32; pruned_sums::WINDOW_TABLE];
+    pruned_sums::fill_sums(older, s.width, a, &mut table);
     pruned::search(older, newer, order, b, &table, a)
 }
 
 // Searches the block at row y, column x.
-pub fn search_block(older: &[u8], newer: &[u8], q: Request, y: usize, x: usize) -> Found
-    ensures { λ r. ⌜ r ≡ blockFound (now (older .entry)) (now (newer .entry)) q y x ⌝ }
+pub fn search_block(older: &[u8], newer: &[u8], q: Request, y: usize, x: usize) -> SearchResult
+    ensures { λ r. ⌜ r ≡ searchBlock (now (older .entry)) (now (newer .entry)) q y x ⌝ }
 {
     let refusal = search_refusal(older.len(), newer.len(), q, y, x);
     if refusal != 0 {
-        return refused(refusal);
+        return refused_search(refusal);
     }
-    let b = Spot {
+    let b = SearchBlock {
         sizes: refusals::sizes_of(q),
         w: q.w,
         y,

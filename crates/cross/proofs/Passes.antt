@@ -7,10 +7,10 @@ use borrow.Author.Tests.{lt-ltb, le-ltb}
 use lib.Count.{trailingZeros}
 use lib.Dec.{T, lit≤}
 use Rattle.refusals.specs.Cross.{crossWindow, cross-elim, log2, cross as window}
-use Rattle.search.specs.Weighing.{Target}
-use Rattle.probe.specs.declared.Held.{Held}
-use Rattle.probe.specs.Probe.{origin, Seen, start}
-use Rattle.probe.specs.Held.{seenOf, Holds}
+use Rattle.search.specs.Target.{Target}
+use Rattle.probe.specs.declared.BestSoFar.{BestSoFar}
+use Rattle.probe.specs.Probe.{origin, Seen, atOrigin}
+use Rattle.probe.specs.BestSoFar.{seenOf, Holds}
 use Rattle.cross.specs.Cross.{pass, passes, finished, cross}
 
 -- n passes, p halved after each
@@ -37,25 +37,25 @@ pub log2-some : (w : ℕ) → T (crossWindow w) → 1 ≤ log2 w
 unfolding trailingZeros
 log2-some = cross-elim (λ w. 1 ≤ log2 w) (lit≤ tt) (lit≤ tt) (lit≤ tt) (lit≤ tt)
 
-pub record Passing (t : Target) (w : ℕ) (first best : Held) (p left : ℕ) : Type 0 where
+pub record Passing (t : Target) (w : ℕ) (at-origin best : BestSoFar) (p left : ℕ) : Type 0 where
   pub less : p ≤ w / 2
   pub down : best .y ≤ 32
   pub across : best .x ≤ 32
-  pub few : best .count + 9 * left ≤ first .count + 27
-  pub leads : passesIn left t p (seenOf best) ≡ passes w t (w / 2) (seenOf first)
+  pub few : best .count + 9 * left ≤ at-origin .count + 27
+  pub leads : passesIn left t p (seenOf best) ≡ passes w t (w / 2) (seenOf at-origin)
 
-module _ (t : Target) (w : ℕ) (first : Held) where
-  pub passing-none : T (crossWindow w) → first .y ≤ 32 → first .x ≤ 32 → Passing t w first first (w / 2) (log2 w - 1)
+module _ (t : Target) (w : ℕ) (at-origin : BestSoFar) where
+  pub passing-none : T (crossWindow w) → at-origin .y ≤ 32 → at-origin .x ≤ 32 → Passing t w at-origin at-origin (w / 2) (log2 w - 1)
   passing-none c h k = record {
     less = omega arith;
     down = h;
     across = k;
     few = omega (arith, window w c .few);
-    leads = passes-many t (seenOf first) w c;
+    leads = passes-many t (seenOf at-origin) w c;
   }
 
-  module _ (best : Held) (p left : ℕ) (g : Passing t w first best p left) where
-    pub passing-more : (r : Held) → 0 < left → Holds r (pass t p (seenOf best)) (best .count + 9) → Passing t w first r (p / 2) (left - 1)
+  module _ (best : BestSoFar) (p left : ℕ) (g : Passing t w at-origin best p left) where
+    pub passing-more : (r : BestSoFar) → 0 < left → Holds r (pass t p (seenOf best)) (best .count + 9) → Passing t w at-origin r (p / 2) (left - 1)
     passing-more r h k =
         record {
           less = let l = g .less in omega arith;
@@ -65,7 +65,7 @@ module _ (t : Target) (w : ℕ) (first : Held) where
           leads = ap (passesIn (left - 1) t (p / 2)) (k .is) ∙ sym (pass-more left t p (seenOf best) h) ∙ g .leads;
         }
 
-    pub passing-done : left ≤ 0 → Holds best (passes w t (w / 2) (seenOf first)) (first .count + 27)
+    pub passing-done : left ≤ 0 → Holds best (passes w t (w / 2) (seenOf at-origin)) (at-origin .count + 27)
     passing-done h =
         record {
           is = sym (pass-done left t p (seenOf best) h) ∙ g .leads;
@@ -74,9 +74,9 @@ module _ (t : Target) (w : ℕ) (first : Held) where
           few = let f = g .few in omega arith;
         }
 
-module _ (t : Target) (limit w : ℕ) (s : Seen) (e : s ≡ start t) where
+module _ (t : Target) (limit w : ℕ) (s : Seen) (e : s ≡ atOrigin t) where
   at-start : s .least ≡ t .cost origin
-  unfolding start
+  unfolding atOrigin
   at-start = ap (λ q. q .least) e
 
   pub cross-stops : s .least < limit → s ≡ cross t limit w

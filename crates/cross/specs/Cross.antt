@@ -1,8 +1,8 @@
 -- 01, search 4 "cross", "w 2, 4, 8 or 16, .. document 000, steps 1 to 8, its i and m for dy, its j and n for dx. The threshold T is on the sum:
 -- distortion of (0,0) below T ends the search. In each step the centre comes first, then the points in that document's order; only strictly
 -- smaller replaces." The centre is not measured again.
---   andrew      steps 4 and 8: the ends of a cross (X), at step size 1; greek: step 7: the ends of a cross (+)
---   pass        steps 3 and 4: the best by now is the centre, and the ends of a cross (X) at step size p are looked at
+--   diagonalCross      steps 4 and 8: the ends of a cross (X), at step size 1; plusCross: step 7: the ends of a cross (+)
+--   pass        steps 3 and 4: the best by now is the centre, and the ends of a cross (X) at step size p are probePoint at
 --   passes      step 5: passes, p halved after each, until p is 1
 --   onDiagonal  step 6: the minimum m is the centre i, or the point above and left of it, or the one below and right
 --   ended       steps 7 and 8
@@ -16,19 +16,19 @@ use lib.Dec.{ltb, leb}
 use lib.IntN.{pos, negsuc}
 use Rattle.order.specs.declared.Vector.{Vector}
 use Rattle.order.specs.Vectors.{vec}
-use Rattle.search.specs.Weighing.{Target}
-use Rattle.probe.specs.Probe.{origin, Seen, probe, start, around, widened, isIn}
+use Rattle.search.specs.Target.{Target}
+use Rattle.probe.specs.Probe.{origin, Seen, probe, atOrigin, around, widened, isIn}
 
 -- (i-1,j-1), (i-1,j+1), (i+1,j-1), (i+1,j+1)
-unfoldable pub andrew : List Vector
-andrew = vec (negsuc 0) (negsuc 0) ∷ vec (negsuc 0) (pos 1) ∷ vec (pos 1) (negsuc 0) ∷ vec (pos 1) (pos 1) ∷ []
+unfoldable pub diagonalCross : List Vector
+diagonalCross = vec (negsuc 0) (negsuc 0) ∷ vec (negsuc 0) (pos 1) ∷ vec (pos 1) (negsuc 0) ∷ vec (pos 1) (pos 1) ∷ []
 
 -- (m-1,n), (m,n-1), (m+1,n), (m,n+1)
-unfoldable pub greek : List Vector
-greek = vec (negsuc 0) (pos 0) ∷ vec (pos 0) (negsuc 0) ∷ vec (pos 1) (pos 0) ∷ vec (pos 0) (pos 1) ∷ []
+unfoldable pub plusCross : List Vector
+plusCross = vec (negsuc 0) (pos 0) ∷ vec (pos 0) (negsuc 0) ∷ vec (pos 1) (pos 0) ∷ vec (pos 0) (pos 1) ∷ []
 
 unfoldable pub pass : Target → ℕ → Seen → Seen
-pass t p s = probe t s (around (s .best) (widened p andrew))
+pass t p s = probe t s (around (s .best) (widened p diagonalCross))
 
 -- n is at least the number of passes
 unfoldable pub passes : ℕ → Target → ℕ → Seen → Seen
@@ -43,10 +43,10 @@ unfoldable pub onDiagonal : Vector → Vector → Bool
 onDiagonal i m = isIn m (around i diagonal)
 
 unfoldable pub ended : Target → Bool → Seen → Seen
-ended t k s = probe t s (around (s .best) (cond k greek andrew))
+ended t k s = probe t s (around (s .best) (cond k plusCross diagonalCross))
 
 unfoldable pub finished : Target → Seen → Seen
 finished t s = ended t (onDiagonal (s .best) (pass t 1 s .best)) (pass t 1 s)
 
 unfoldable pub cross : Target → ℕ → ℕ → Seen
-cross t limit w = cond (ltb (t .cost origin) limit) (start t) (finished t (passes w t (w / 2) (start t)))
+cross t limit w = cond (ltb (t .cost origin) limit) (atOrigin t) (finished t (passes w t (w / 2) (atOrigin t)))

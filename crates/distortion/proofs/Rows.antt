@@ -7,7 +7,7 @@ use native.Mathlib.Nat.{add-zero, zero-mul, one-mul, add-mul, mul-comm}
 use native.Mathlib.Omega.{arith}
 use lib.Dec.{T}
 use Rattle.base.specs.Sum.{sumTo, sumTo-none, sumTo-ext, sumTo-four, sumTo-cut, sumTo-group, sumOver-ext}
-use Rattle.refusals.specs.Refusals.{listed, listed-elim}
+use Rattle.refusals.specs.Refusals.{blockSizeOk, block-size-elim}
 use Rattle.distortion.specs.Blocks.{Measure, rowFrom, rowsApart, rowsFrom, rowsUpTo, sumUpTo-is, Rows, BlockRows, UpTo}
 
 module _ (μ : Measure) (older newer : List ℕ) (across width a b n : ℕ) where
@@ -54,5 +54,5 @@ by-four older newer width n a b m groups k e four few =
     record { in-newer = omega (arith, k .in-newer); in-older = omega (arith, k .in-older); wide = k .wide; thin = omega arith; few = few }
 
 -- an allowed N that is not 16 and not 8
-pub last-size : (n : ℕ) → T (listed n) → (n ≡ 16 → ⊥) → (n ≡ 8 → ⊥) → n ≡ 4
-last-size n t = listed-elim (λ m. (m ≡ 16 → ⊥) → (m ≡ 8 → ⊥) → m ≡ 4) (λ a b. refl) (λ a b. absurd (b refl)) (λ a b. absurd (a refl)) n t
+pub last-size : (n : ℕ) → T (blockSizeOk n) → (n ≡ 16 → ⊥) → (n ≡ 8 → ⊥) → n ≡ 4
+last-size n t = block-size-elim (λ m. (m ≡ 16 → ⊥) → (m ≡ 8 → ⊥) → m ≡ 4) (λ a b. refl) (λ a b. absurd (b refl)) (λ a b. absurd (a refl)) n t

@@ -27,7 +27,7 @@ use Rattle.order.specs.declared.Vector.{Vector}
 use Rattle.frame.specs.declared.Sizes.{Sizes}
 use Rattle.frame.specs.Pictures.{Pair, pel}
 use Rattle.frame.specs.Candidates.{olderRow, olderColumn}
-use Rattle.refusals.specs.Refusals.{listed, Placed}
+use Rattle.refusals.specs.Refusals.{blockSizeOk, Placed}
 
 abbrev pub Block : Type 0
 Block = ℕ → ℕ → ℕ
@@ -128,7 +128,7 @@ pub record BlockRows (older newer : List ℕ) (width n a b : ℕ) : Type 0 where
   pub in-newer : a + n * width + n ≤ length newer + width
   pub in-older : b + n * width + n ≤ length older + width
   pub wide : width ≤ 1024
-  pub allowed : T (listed n)
+  pub allowed : T (blockSizeOk n)
 
 -- d is the sum `all` as far as a ceiling goes: below the ceiling it is that sum, and else the sum is not below it either
 pub record UpTo (ceiling all d : ℕ) : Type 0 where

@@ -11,19 +11,19 @@ use Rattle.order.specs.declared.Vector.{Vector}
 use Rattle.frame.specs.declared.Sizes.{Sizes}
 use Rattle.frame.specs.Pictures.{Pair}
 use Rattle.frame.specs.Candidates.{candidate}
-use Rattle.refusals.specs.Refusals.{unless, first, first-some, first-none, placedRefusal}
+use Rattle.refusals.specs.Refusals.{unless, firstRefusal, first-refusal-some, first-refusal-none, placedRefusal}
 use Rattle.distortion.specs.declared.Measured.{Measured}
 use Rattle.distortion.specs.Blocks.{distortion}
 
 -- 8 measuring one vector: not a candidate of window 16
 unfoldable pub measureRefusal : ℕ → ℕ → Sizes → ℕ → ℕ → Vector → ℕ
-measureRefusal older newer s y x v = first (placedRefusal older newer s y x) (unless (candidate s 16 y x v) 8 0)
+measureRefusal older newer s y x v = firstRefusal (placedRefusal older newer s y x) (unless (candidate s 16 y x v) 8 0)
 
 abbrev pub refusedBy : ℕ → Measured
 refusedBy refusal = record { refusal = refusal; distortion = 0 }
 
-unfoldable pub measured : Pair → ℕ → ℕ → Vector → Measured
-measured p y x v =
+unfoldable pub measure : Pair → ℕ → ℕ → Vector → Measured
+measure p y x v =
     let refusal = measureRefusal (length (p .older)) (length (p .newer)) (p .sizes) y x v in
     cond (eqb refusal 0)
     (record { refusal = 0; distortion = distortion p y x v })
@@ -35,14 +35,14 @@ module _ (p : Pair) (y x : ℕ) (v : Vector) where
   abbrev before : ℕ
   before = placedRefusal (length (p .older)) (length (p .newer)) (p .sizes) y x
 
-  pub measured-refused : (before ≡ 0 → ⊥) → measured p y x v ≡ refusedBy before
-  unfolding measured measureRefusal
-  measured-refused h = rw (first-some before _ h, ne-eqb before 0 h)
+  pub measured-refused : (before ≡ 0 → ⊥) → measure p y x v ≡ refusedBy before
+  unfolding measure measureRefusal
+  measured-refused h = rw (first-refusal-some before _ h, ne-eqb before 0 h)
 
-  pub measured-outside : before ≡ 0 → candidate (p .sizes) 16 y x v ≡ false → measured p y x v ≡ refusedBy 8
-  unfolding measured measureRefusal
-  measured-outside h e = rw (first-none before _ h, e)
+  pub measured-outside : before ≡ 0 → candidate (p .sizes) 16 y x v ≡ false → measure p y x v ≡ refusedBy 8
+  unfolding measure measureRefusal
+  measured-outside h e = rw (first-refusal-none before _ h, e)
 
-  pub measured-at : before ≡ 0 → candidate (p .sizes) 16 y x v ≡ true → measured p y x v ≡ record { refusal = 0; distortion = distortion p y x v }
-  unfolding measured measureRefusal
-  measured-at h e = rw (first-none before _ h, e)
+  pub measured-at : before ≡ 0 → candidate (p .sizes) 16 y x v ≡ true → measure p y x v ≡ record { refusal = 0; distortion = distortion p y x v }
+  unfolding measure measureRefusal
+  measured-at h e = rw (first-refusal-none before _ h, e)

@@ -7,7 +7,7 @@ ghost use Rattle.base.specs.Lists.{fillTo};
 ghost use Rattle.order.specs.Vectors.{vec};
 ghost use Rattle.frame.specs.Pictures.{pairOf};
 ghost use Rattle.distortion.specs.Blocks.{absolute, blockAt, distortionBy, rowFrom, rowsApart, rowsFrom, rowsUpTo, blockCopy, UpTo, Rows, BlockRows, Comparable};
-ghost use Rattle.distortion.specs.Measured.{measured, refusedBy};
+ghost use Rattle.distortion.specs.Measured.{measure, refusedBy};
 use frame::Older;
 use frame::Sizes;
 
@@ -184,7 +184,7 @@ pub fn measure(
     dy: i32,
     dx: i32,
 ) -> Measured
-    ensures { λ m. ⌜ m ≡ measured (pairOf (now (older .entry)) (now (newer .entry)) s) y x (vec dy dx) ⌝ }
+    ensures { λ m. ⌜ m ≡ measure (pairOf (now (older .entry)) (now (newer .entry)) s) y x (vec dy dx) ⌝ }
 {
     let refusal = refusals::placed_refusal(older.len(), newer.len(), s, y, x);
     if refusal != 0 {

@@ -15,25 +15,25 @@ use Rattle.refusals.specs.declared.Request.{Request}
 use Rattle.frame.specs.Pictures.{Pair, pairOf, largestDistortion}
 use Rattle.frame.specs.Candidates.{Candidate, candidate, candidate-yes}
 use Rattle.refusals.specs.Cross.{crossWindow, cross as cross-is}
-use Rattle.refusals.specs.Refusals.{sizesOf, listed, listed-elim, Asked, window-small, windowOk}
+use Rattle.refusals.specs.Refusals.{sizesOf, blockSizeOk, block-size-elim, Requested, window-small, windowOk}
 use Rattle.distortion.specs.Blocks.{distortion, distortion-bound}
-use Rattle.search.specs.declared.Found.{Found}
-use Rattle.search.specs.Found.{foundAs, onlyAtOne}
-use Rattle.search.specs.Weighing.{target}
+use Rattle.search.specs.declared.SearchResult.{SearchResult}
+use Rattle.search.specs.SearchResult.{searchResult, onlyAtOne}
+use Rattle.search.specs.Target.{target}
 use Rattle.search.specs.Exhaustive.{places}
 use Rattle.search.proofs.Exhaustive.{best-is}
-use Rattle.probe.specs.Probe.{Seen, Honest}
+use Rattle.probe.specs.Probe.{Seen, OwnDistortion}
 use Rattle.probe.proofs.Probe.{within-more}
-use Rattle.probe.specs.Held.{foundOf}
-use Rattle.four_step.proofs.FourStep.{four-step-honest-at, four-step-count}
-use Rattle.cross.proofs.Cross.{cross-honest-at, cross-count}
-use Rattle.full.specs.Full.{fullFound}
-use Rattle.pruned.specs.Answer.{prunedFound}
-use Rattle.pruned.proofs.Blocks.{listed-power}
+use Rattle.probe.specs.BestSoFar.{resultOf}
+use Rattle.four_step.proofs.FourStep.{four-step-own-distortion-at, four-step-count}
+use Rattle.cross.proofs.Cross.{cross-own-distortion-at, cross-count}
+use Rattle.full.specs.Full.{fullSearch}
+use Rattle.pruned.specs.Answer.{prunedSearch}
+use Rattle.pruned.proofs.Blocks.{block-size-power}
 use Rattle.pruned.proofs.Laws.{pruned-distortion, pruned-best, counts-at-most, dropped-at-most}
 use Rattle.frame.specs.Grid.{blocks, blockRow, blockColumn, block-down, block-across}
-use Rattle.block.specs.Block.{searched, searched-full, searched-pruned, searched-four-step, searched-cross}
-use Rattle.field.specs.Field.{blockOf}
+use Rattle.block.specs.Block.{searchBy, searched-full, searched-pruned, searched-four-step, searched-cross}
+use Rattle.field.specs.Field.{searchAt}
 use Rattle.field.specs.Filling.{Sound}
 
 -- pels are bytes
@@ -50,7 +50,7 @@ at-one n (suc (suc (suc (suc zero)))) h = h
 at-one n (suc (suc (suc (suc (suc i))))) h = omega arith
 
 -- an answer that counts at m = 1 alone
-sound-at-one : (v : Vector) (d n : ℕ) → Within 16 v → d ≤ largestDistortion → n ≤ 1089 → Sound (foundAs v d (onlyAtOne n) 0)
+sound-at-one : (v : Vector) (d n : ℕ) → Within 16 v → d ≤ largestDistortion → n ≤ 1089 → Sound (searchResult v d (onlyAtOne n) 0)
 sound-at-one v d n near few h = record {
   within = near;
   distortion = few;
@@ -65,28 +65,28 @@ sound-at-one v d n near few h = record {
 places-few : (p : Pair) (w y x : ℕ) → length (places (p .sizes) w y x) ≤ 1089
 places-few p w y x = pick-few _ 1089
 
-module _ (p : Pair) (bytes : Bytes (p .older) × Bytes (p .newer)) (allowed : T (listed (p .sizes .n))) where
+module _ (p : Pair) (bytes : Bytes (p .older) × Bytes (p .newer)) (allowed : T (blockSizeOk (p .sizes .n))) where
   distortion-few : (y x : ℕ) (v : Vector) → distortion p y x v ≤ largestDistortion
   unfolding distortion
   distortion-few y x v =
       le-trans
       (distortion-bound 255 (p .sizes .n) _ _ (λ i j hi hj. (bytes .1 _, bytes .0 _)))
-      (listed-elim (λ (n : ℕ). n * (n * 255) ≤ largestDistortion) (omega arith) (omega arith) (omega arith) (p .sizes .n) allowed)
+      (block-size-elim (λ (n : ℕ). n * (n * 255) ≤ largestDistortion) (omega arith) (omega arith) (omega arith) (p .sizes .n) allowed)
 
   module _ (w y x : ℕ) (small : w ≤ 16) (down : y + p .sizes .n ≤ p .sizes .height) (across : x + p .sizes .n ≤ p .sizes .width) where
     near : (v : Vector) → Candidate (p .sizes) w y x v → Within 16 v
     near v c = within-more small (c .window)
 
-    full-sound : Sound (fullFound p w y x)
-    unfolding fullFound
+    full-sound : Sound (fullSearch p w y x)
+    unfolding fullSearch
     full-sound = sound-at-one _ _ _ (near _ (best-is p w y x small down across .candidate)) (distortion-few y x _) (places-few p w y x)
 
-    pruned-sound : Sound (prunedFound p w y x)
+    pruned-sound : Sound (prunedSearch p w y x)
     pruned-sound =
         let few = places-few p w y x in
-        let c : (j : ℕ) → getD (prunedFound p w y x .counts) j 0 ≤ 1089 = λ j. le-trans (counts-at-most p w y x j) few in
+        let c : (j : ℕ) → getD (prunedSearch p w y x .counts) j 0 ≤ 1089 = λ j. le-trans (counts-at-most p w y x j) few in
         record {
-          within = near _ (pruned-best p w y x (listed-power (p .sizes .n) allowed) small down across .candidate);
+          within = near _ (pruned-best p w y x (block-size-power (p .sizes .n) allowed) small down across .candidate);
           distortion = rw (pruned-distortion p w y x) (distortion-few y x _);
           count0 = c 0;
           count1 = c 1;
@@ -97,52 +97,52 @@ module _ (p : Pair) (bytes : Bytes (p .older) × Bytes (p .newer)) (allowed : T 
         }
 
     -- searches 3 and 4
-    probed-sound : (s : Seen) → Honest (target p w y x) s → s .count ≤ 1089 → Sound (foundOf s)
-    unfolding foundOf
+    probed-sound : (s : Seen) → OwnDistortion (target p w y x) s → s .count ≤ 1089 → Sound (resultOf s)
+    unfolding resultOf
     probed-sound s h few =
         sound-at-one (s .best) (s .least) (s .count) (near _ (candidate-yes (p .sizes) w y x (s .best) (h .chosen))) (rw (h .reported) (distortion-few y x (s .best))) few
 
 -- whichever search a request asks for
-module _ (older newer : List ℕ) (q : Request) (bytes : Bytes older × Bytes newer) (asked : Asked (length older) (length newer) q) (y x : ℕ)
+module _ (older newer : List ℕ) (q : Request) (bytes : Bytes older × Bytes newer) (requestOf : Requested (length older) (length newer) q) (y x : ℕ)
     (down : y + q .n ≤ q .height) (across : x + q .n ≤ q .width) where
   abbrev p : Pair
   p = pairOf older newer (sizesOf q)
 
   small : q .w ≤ 16
-  small = window-small (q .search) (q .w) (asked .window)
+  small = window-small (q .search) (q .w) (requestOf .window)
 
-  four-step-sound : q .search ≡ 3 → Sound (searched p q y x)
+  four-step-sound : q .search ≡ 3 → Sound (searchBy p q y x)
   unfolding windowOk
   four-step-sound e =
-      let seven : q .w ≡ 7 = eqb→eq (q .w) 7 (rw e at (asked .window)) in
+      let seven : q .w ≡ 7 = eqb→eq (q .w) 7 (rw e at (requestOf .window)) in
       rw (searched-four-step p q y x e, seven)
-      (probed-sound p bytes (asked .paired .allowed) 7 y x (omega arith) down across _ (four-step-honest-at p y x down across) (le-trans (four-step-count _) (omega arith)))
+      (probed-sound p bytes (requestOf .paired .allowed) 7 y x (omega arith) down across _ (four-step-own-distortion-at p y x down across) (le-trans (four-step-count _) (omega arith)))
 
-  cross-sound : q .search ≡ 4 → Sound (searched p q y x)
+  cross-sound : q .search ≡ 4 → Sound (searchBy p q y x)
   unfolding windowOk
   cross-sound e =
-      let c : T (crossWindow (q .w)) = rw e at (asked .window) in
+      let c : T (crossWindow (q .w)) = rw e at (requestOf .window) in
       let few = cross-count (target p (q .w) y x) (q .t) (q .w) (T-true _ c) in
       rw (searched-cross p q y x e)
-      (probed-sound p bytes (asked .paired .allowed) (q .w) y x small down across _ (cross-honest-at p (q .t) (q .w) y x down across)
+      (probed-sound p bytes (requestOf .paired .allowed) (q .w) y x small down across _ (cross-own-distortion-at p (q .t) (q .w) y x down across)
       (omega (arith, few, cross-is (q .w) c .few)))
 
-  pub searched-sound : Sound (searched p q y x)
-  searched-sound = go (q .search) refl (asked .least) (asked .most)
+  pub searched-sound : Sound (searchBy p q y x)
+  searched-sound = go (q .search) refl (requestOf .least) (requestOf .most)
     where
-      go : (n : ℕ) → q .search ≡ n → 1 ≤ n → n ≤ 4 → Sound (searched p q y x)
+      go : (n : ℕ) → q .search ≡ n → 1 ≤ n → n ≤ 4 → Sound (searchBy p q y x)
       go zero e a b = absurd (omega arith)
-      go (suc zero) e a b = rw (searched-full p q y x e) (full-sound p bytes (asked .paired .allowed) (q .w) y x small down across)
-      go (suc (suc zero)) e a b = rw (searched-pruned p q y x e) (pruned-sound p bytes (asked .paired .allowed) (q .w) y x small down across)
+      go (suc zero) e a b = rw (searched-full p q y x e) (full-sound p bytes (requestOf .paired .allowed) (q .w) y x small down across)
+      go (suc (suc zero)) e a b = rw (searched-pruned p q y x e) (pruned-sound p bytes (requestOf .paired .allowed) (q .w) y x small down across)
       go (suc (suc (suc zero))) e a b = four-step-sound e
       go (suc (suc (suc (suc zero)))) e a b = cross-sound e
       go (suc (suc (suc (suc (suc n))))) e a b = absurd (omega arith)
 
 -- what a search answers at grid block k
-pub block-is : (older newer : List ℕ) (q : Request) (bytes : Bytes older × Bytes newer) (asked : Asked (length older) (length newer) q) (k : ℕ) → k < blocks (sizesOf q)
-    → (r : Found) → r ≡ searched (pairOf older newer (sizesOf q)) q (blockRow (sizesOf q) k) (blockColumn (sizesOf q) k)
-    → (r ≡ blockOf (pairOf older newer (sizesOf q)) q k) × Sound r
-unfolding blockOf
-block-is older newer q bytes asked k h r e =
-    let f = asked .paired .fitting in
-    (e, rw e (searched-sound older newer q bytes asked _ _ (block-down (sizesOf q) f k h) (block-across (sizesOf q) f k h)))
+pub block-is : (older newer : List ℕ) (q : Request) (bytes : Bytes older × Bytes newer) (requestOf : Requested (length older) (length newer) q) (k : ℕ) → k < blocks (sizesOf q)
+    → (r : SearchResult) → r ≡ searchBy (pairOf older newer (sizesOf q)) q (blockRow (sizesOf q) k) (blockColumn (sizesOf q) k)
+    → (r ≡ searchAt (pairOf older newer (sizesOf q)) q k) × Sound r
+unfolding searchAt
+block-is older newer q bytes requestOf k h r e =
+    let f = requestOf .paired .fitting in
+    (e, rw e (searched-sound older newer q bytes requestOf _ _ (block-down (sizesOf q) f k h) (block-across (sizesOf q) f k h)))

@@ -15,18 +15,18 @@ use Rattle.base.specs.Lists.{concatTo, concatTo-more, drop-over}
 use Rattle.refusals.specs.declared.Request.{Request}
 use Rattle.frame.specs.Pictures.{Pair}
 use Rattle.frame.specs.Grid.{blocks}
-use Rattle.search.specs.declared.Found.{Found}
-use Rattle.search.specs.Found.{vectorIn}
+use Rattle.search.specs.declared.SearchResult.{SearchResult}
+use Rattle.search.specs.SearchResult.{vectorIn}
 use Rattle.reading.specs.declared.Reading.{Reading}
 use Rattle.reading.specs.Reading.{readingOf}
 use Rattle.reading.specs.Tally.{code}
 use Rattle.reading.proofs.Tally.{tally-none, tally-more}
 use Rattle.field.specs.declared.Total.{Total}
-use Rattle.field.specs.Field.{blockOf, vectorOf, entry, entries, fieldAnswer}
+use Rattle.field.specs.Field.{searchAt, vectorOf, entry, entries, fieldAnswer}
 use Rattle.field.proofs.Places.{length-entries}
-use Rattle.field.specs.Filling.{Sound, asTotal, totalOver, joined, Few, Filled}
+use Rattle.field.specs.Filling.{Sound, asTotal, totalOver, joined, Bounded, BlocksFilled}
 
-pub filled-none : (found : ℕ → Found) (list : List ℤ) (votes : List ℕ) → votes ≡ replicate 1089 0 → Filled found 0 list list votes (asTotal (0 ∷ 0 ∷ 0 ∷ 0 ∷ 0 ∷ []) 0)
+pub filled-none : (found : ℕ → SearchResult) (list : List ℤ) (votes : List ℕ) → votes ≡ replicate 1089 0 → BlocksFilled found 0 list list votes (asTotal (0 ∷ 0 ∷ 0 ∷ 0 ∷ 0 ∷ []) 0)
 unfolding entries concatTo totalOver sumTo
 filled-none found list votes e = record {
   sound = λ k h. absurd (omega arith);
@@ -36,12 +36,12 @@ filled-none found list votes e = record {
   sums = refl;
 }
 
-module _ (found : ℕ → Found) (n : ℕ) (before after : List ℤ) (votes : List ℕ) (total : Total) (f : Filled found n before after votes total) where
+module _ (found : ℕ → SearchResult) (n : ℕ) (before after : List ℤ) (votes : List ℕ) (total : Total) (f : BlocksFilled found n before after votes total) where
   -- a sum over the blocks
   most : n ≤ 1048576 → (g : ℕ → ℕ) → ((k : ℕ) → k < n → g k ≤ 1089) → sumTo g n ≤ 1141899264
   most few g h = le-trans (sumTo-bound 1089 g n h) (mul-le-mul-right 1089 few)
 
-  pub filled-few : n ≤ 1048576 → Few total
+  pub filled-few : n ≤ 1048576 → Bounded total
   unfolding totalOver
   filled-few few =
       rw (f .sums)
@@ -58,7 +58,7 @@ module _ (found : ℕ → Found) (n : ℕ) (before after : List ℤ) (votes : Li
   unfolding totalOver sumTo
   total-more = rw (f .sums, add-one n)
 
-  abbrev three : Found → List ℤ
+  abbrev three : SearchResult → List ℤ
   three r = set (set (set after (3 * n) (r .dy)) (3 * n + 1) (r .dx)) (3 * n + 2) (pos (r .distortion))
 
   list-more : 3 * n + 3 ≤ length before → three (found n) ≡ entries found (n + 1) ++ drop (3 * (n + 1)) before
@@ -76,8 +76,8 @@ module _ (found : ℕ → Found) (n : ℕ) (before after : List ℤ) (votes : Li
       (drop-over (entries found n) before (3 * n) (3 * n + 3) made (omega arith))
       ∙ ap (λ (l : List ℤ). l ++ drop (3 * n + 3) before) (sym (concatTo-more (λ k. entry (found k)) n)))
 
-  pub filled-more : (r : Found) → r ≡ found n → Sound r → 3 * n + 3 ≤ length before
-      → Filled found (n + 1) before (three r) (set votes (code (vectorIn r)) (getD votes (code (vectorIn r)) 0 + 1)) (joined total r)
+  pub filled-more : (r : SearchResult) → r ≡ found n → Sound r → 3 * n + 3 ≤ length before
+      → BlocksFilled found (n + 1) before (three r) (set votes (code (vectorIn r)) (getD votes (code (vectorIn r)) 0 + 1)) (joined total r)
   filled-more r e s h = record {
     sound = λ k l. ⊎-elim (λ (i : k ≡ n). rw (i, ← e) s) (f .sound k) (eq-or-lt-of-le (omega (arith, l)));
     long = simp length-set (f .long);
@@ -87,7 +87,7 @@ module _ (found : ℕ → Found) (n : ℕ) (before after : List ℤ) (votes : Li
   }
 
 -- the answer, made of the sums and the reading
-pub answer-is : (p : Pair) (q : Request) (total : Total) (r : Reading) → total ≡ totalOver (blockOf p q) (blocks (p .sizes)) → r ≡ readingOf (vectorOf p q) (blocks (p .sizes))
+pub answer-is : (p : Pair) (q : Request) (total : Total) (r : Reading) → total ≡ totalOver (searchAt p q) (blocks (p .sizes)) → r ≡ readingOf (vectorOf p q) (blocks (p .sizes))
     → record { refusal = 0; dy = r .dy; dx = r .dx; votes = r .votes; counts = total .counts; dropped = total .dropped } ≡ fieldAnswer p q
 unfolding totalOver readingOf fieldAnswer
 answer-is p q total r e f = rw (e, f)

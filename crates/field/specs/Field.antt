@@ -5,12 +5,12 @@
 --   asked            a request at these sizes
 --   tableOk, listOk  9, 10     what each number asks for
 --   fieldRefusal     1 2 3 4 5 6 9 10
---   blockOf          what the search asked for answers at grid block k; vectorOf: its vector
+--   searchAt          what the search asked for answers at grid block k; vectorOf: its vector
 --   entry, entries   the three numbers of a block, and of all grid blocks in order
 --   tableOf          the table of sums
 --   countOver        a count, summed over the blocks
---   fieldAnswer      what an accepted call answers; refusedField: a refused one
---   Fielded          what a field call answers, with what list and table then hold: fielded; accepted: of an accepted call
+--   fieldAnswer      what an acceptedField call answers; refusedField: a refused one
+--   FieldResult          what a field call answers, with what list and table then hold: field; acceptedField: of an acceptedField call
 use Prim.Native.Nat.{ℕ, _+_, _*_}
 use mathlib.Core.Path.{_≡_, ap, sym, _∙_}
 use mathlib.Core.Bool.{Bool, cond, not, _||_}
@@ -27,17 +27,17 @@ use Rattle.frame.specs.declared.Sizes.{Sizes}
 use Rattle.refusals.specs.declared.Request.{Request}
 use Rattle.frame.specs.Pictures.{Pair, pairOf}
 use Rattle.frame.specs.Grid.{blocks, blockRow, blockColumn}
-use Rattle.refusals.specs.Refusals.{unless, first, sizesOf, requestRefusal}
+use Rattle.refusals.specs.Refusals.{unless, firstRefusal, sizesOf, requestRefusal}
 use Rattle.distortion.specs.Blocks.{blockAt}
-use Rattle.search.specs.declared.Found.{Found}
-use Rattle.search.specs.Found.{onlyAtOne, vectorIn}
-use Rattle.sums.specs.Area.{summed}
-use Rattle.block.specs.Block.{searched}
+use Rattle.search.specs.declared.SearchResult.{SearchResult}
+use Rattle.search.specs.SearchResult.{onlyAtOne, vectorIn}
+use Rattle.pruned_sums.specs.Area.{summed}
+use Rattle.block.specs.Block.{searchBy}
 use Rattle.reading.specs.Reading.{votes, majority}
 use Rattle.field.specs.declared.FieldAnswer.{FieldAnswer}
 
-abbrev pub asked : Sizes → (search w t : ℕ) → Request
-asked s search w t = record { width = s .width; height = s .height; n = s .n; search = search; w = w; t = t }
+abbrev pub requestOf : Sizes → (search w t : ℕ) → Request
+requestOf s search w t = record { width = s .width; height = s .height; n = s .n; search = search; w = w; t = t }
 
 -- ---- refusals
 
@@ -60,23 +60,23 @@ listOk q list = leb (listSize (sizesOf q)) list
 -- frames, list and table come in by their lengths
 unfoldable pub fieldRefusal : ℕ → ℕ → Request → ℕ → ℕ → ℕ
 fieldRefusal older newer q list table =
-    first (requestRefusal older newer q)
+    firstRefusal (requestRefusal older newer q)
     (unless (tableOk q table) 9
     (unless (listOk q list) 10 0))
 
 -- ---- the blocks
 
 module _ (p : Pair) (q : Request) where
-  unfoldable pub blockOf : ℕ → Found
-  blockOf k = searched p q (blockRow (p .sizes) k) (blockColumn (p .sizes) k)
+  unfoldable pub searchAt : ℕ → SearchResult
+  searchAt k = searchBy p q (blockRow (p .sizes) k) (blockColumn (p .sizes) k)
 
   abbrev pub vectorOf : ℕ → Vector
-  vectorOf k = vectorIn (blockOf k)
+  vectorOf k = vectorIn (searchAt k)
 
-abbrev pub entry : Found → List ℤ
+abbrev pub entry : SearchResult → List ℤ
 entry f = f .dy ∷ f .dx ∷ pos (f .distortion) ∷ []
 
-unfoldable pub entries : (ℕ → Found) → ℕ → List ℤ
+unfoldable pub entries : (ℕ → SearchResult) → ℕ → List ℤ
 entries found n = concatTo (λ k. entry (found k)) n
 
 unfoldable pub tableOf : List ℕ → Sizes → List ℕ
@@ -85,13 +85,13 @@ tableOf older s = summed (blockAt older (s .width) 0 0) (s .height) (s .width)
 -- ---- the answer
 
 -- the count at place i of five (m = 16, 8, 4, 2, 1), over the first n blocks
-abbrev pub countOver : (ℕ → Found) → ℕ → ℕ → ℕ
+abbrev pub countOver : (ℕ → SearchResult) → ℕ → ℕ → ℕ
 countOver found n i = sumTo (λ k. getD (found k .counts) i 0) n
 
-abbrev pub countsOver : (ℕ → Found) → ℕ → List ℕ
+abbrev pub countsOver : (ℕ → SearchResult) → ℕ → List ℕ
 countsOver found n = let c = countOver found n in c 0 ∷ c 1 ∷ c 2 ∷ c 3 ∷ c 4 ∷ []
 
-abbrev pub droppedOver : (ℕ → Found) → ℕ → ℕ
+abbrev pub droppedOver : (ℕ → SearchResult) → ℕ → ℕ
 droppedOver found n = sumTo (λ k. found k .dropped) n
 
 unfoldable pub fieldAnswer : Pair → Request → FieldAnswer
@@ -103,8 +103,8 @@ fieldAnswer p q =
       dy = reading .dy;
       dx = reading .dx;
       votes = votes (vectorOf p q) n reading;
-      counts = countsOver (blockOf p q) n;
-      dropped = droppedOver (blockOf p q) n;
+      counts = countsOver (searchAt p q) n;
+      dropped = droppedOver (searchAt p q) n;
     }
 
 abbrev pub refusedField : ℕ → FieldAnswer
@@ -112,47 +112,47 @@ refusedField refusal = record { refusal = refusal; dy = pos 0; dx = pos 0; votes
 
 -- ---- the call
 
-pub record Fielded : Type 0 where
+pub record FieldResult : Type 0 where
   pub answer : FieldAnswer
   pub list : List ℤ
   pub table : List ℕ
 
-abbrev pub asFielded : FieldAnswer → List ℤ → List ℕ → Fielded
-asFielded answer list table = record { answer = answer; list = list; table = table }
+abbrev pub fieldResult : FieldAnswer → List ℤ → List ℕ → FieldResult
+fieldResult answer list table = record { answer = answer; list = list; table = table }
 
--- an accepted call
+-- an acceptedField call
 abbrev pub filledList : Pair → Request → List ℤ → List ℤ
-filledList p q list = entries (blockOf p q) (blocks (p .sizes)) ++ drop (listSize (p .sizes)) list
+filledList p q list = entries (searchAt p q) (blocks (p .sizes)) ++ drop (listSize (p .sizes)) list
 
 abbrev pub filledTable : List ℕ → Request → List ℕ → List ℕ
 filledTable older q table = let s = sizesOf q in cond (eqb (q .search) 2) (tableOf older s ++ drop (tableSize s) table) table
 
-abbrev pub accepted : List ℕ → List ℕ → Request → List ℤ → List ℕ → Fielded
-accepted older newer q list table =
+abbrev pub acceptedField : List ℕ → List ℕ → Request → List ℤ → List ℕ → FieldResult
+acceptedField older newer q list table =
     let p = pairOf older newer (sizesOf q) in
-    asFielded (fieldAnswer p q) (filledList p q list) (filledTable older q table)
+    fieldResult (fieldAnswer p q) (filledList p q list) (filledTable older q table)
 
-unfoldable pub fielded : List ℕ → List ℕ → Request → List ℤ → List ℕ → Fielded
-fielded older newer q list table =
+unfoldable pub field : List ℕ → List ℕ → Request → List ℤ → List ℕ → FieldResult
+field older newer q list table =
     let refusal = fieldRefusal (length older) (length newer) q (length list) (length table) in
-    cond (eqb refusal 0) (accepted older newer q list table) (asFielded (refusedField refusal) list table)
+    cond (eqb refusal 0) (acceptedField older newer q list table) (fieldResult (refusedField refusal) list table)
 
 module _ (older newer : List ℕ) (q : Request) (list : List ℤ) (table : List ℕ) where
   abbrev pub refusalIs : ℕ
   refusalIs = fieldRefusal (length older) (length newer) q (length list) (length table)
 
-  pub field-refused : (refusalIs ≡ 0 → ⊥) → fielded older newer q list table ≡ asFielded (refusedField refusalIs) list table
-  unfolding fielded
+  pub field-refused : (refusalIs ≡ 0 → ⊥) → field older newer q list table ≡ fieldResult (refusedField refusalIs) list table
+  unfolding field
   field-refused h = rw (ne-eqb _ 0 h)
 
-  -- a call that answers 0 was accepted
-  pub field-unrefused : fielded older newer q list table .answer .refusal ≡ 0 → refusalIs ≡ 0
+  -- a call that answers 0 was acceptedField
+  pub field-unrefused : field older newer q list table .answer .refusal ≡ 0 → refusalIs ≡ 0
   field-unrefused e = go (ℕ-discrete refusalIs 0)
     where
       go : Dec (refusalIs ≡ 0) → refusalIs ≡ 0
       go (yes h) = h
-      go (no h) = sym (ap (λ (f : Fielded). f .answer .refusal) (field-refused h)) ∙ e
+      go (no h) = sym (ap (λ (f : FieldResult). f .answer .refusal) (field-refused h)) ∙ e
 
-  pub field-accepted : refusalIs ≡ 0 → fielded older newer q list table ≡ accepted older newer q list table
-  unfolding fielded
+  pub field-accepted : refusalIs ≡ 0 → field older newer q list table ≡ acceptedField older newer q list table
+  unfolding field
   field-accepted h = rw h

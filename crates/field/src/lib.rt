@@ -1,4 +1,4 @@
-// The field of document 01: every grid block searched, its vector and distortion in a lent list, and the reading and the sums over the blocks
+// The field of document 01: every grid block searchBy, its vector and distortion in a lent list, and the reading and the sums over the blocks
 // as the answer.
 
 ghost use mathlib.Core.Path.{_≡_};
@@ -9,14 +9,14 @@ ghost use Rattle.order.specs.Preference.{preference, flat};
 ghost use Rattle.frame.specs.Pictures.{pairOf, largestDistortion};
 ghost use Rattle.frame.specs.Grid.{blocks};
 ghost use Rattle.refusals.specs.Refusals.{sizesOf};
-ghost use Rattle.reach.specs.Reach.{wholeFrame};
-ghost use Rattle.field.specs.Field.{listSize, fieldRefusal, blockOf, refusedField, filledTable, asFielded, accepted, fielded};
-ghost use Rattle.field.specs.Filling.{Roomy, Summable, Prepared, Sound, totalOver, joined, Few, Filled};
+ghost use Rattle.pruned_region.specs.Reach.{wholeFrame};
+ghost use Rattle.field.specs.Field.{listSize, fieldRefusal, searchAt, refusedField, filledTable, fieldResult, acceptedField, field};
+ghost use Rattle.field.specs.Filling.{HasRoom, Summable, Prepared, Sound, totalOver, joined, Bounded, BlocksFilled};
 use order::Vector;
+use pruned_sums::Region;
 use refusals::Request;
-use search::Found;
-use search::Spot;
-use sums::Window;
+use search::SearchBlock;
+use search::SearchResult;
 
 // What a field call answers: the reading with its votes, and the counts and the number dropped, summed over the blocks.
 #[repr(C)]
@@ -68,10 +68,10 @@ pub fn field_refusal(older: usize, newer: usize, q: Request, list: usize, table:
 }
 
 // The whole of the older frame, which the table is of.
-fn whole(q: Request) -> Window
+fn whole(q: Request) -> Region
     ensures { λ r. ⌜ r ≡ wholeFrame (sizesOf q) ⌝ }
 {
-    Window {
+    Region {
         top: 0,
         left: 0,
         rows: q.height,
@@ -85,7 +85,7 @@ fn fill_table(older: &[u8], q: Request, table: &mut [u32])
     ensures { λ _. ⌜ now (table .exit) ≡ filledTable (now (older .entry)) q (now (table .entry)) ⌝ }
 {
     if q.search == 2 {
-        sums::fill_sums(older, q.width, whole(q), table);
+        pruned_sums::fill_sums(older, q.width, whole(q), table);
     }
 }
 
@@ -97,15 +97,15 @@ fn search_at(
     q: Request,
     table: &[u32],
     k: usize,
-) -> Found
+) -> SearchResult
     requires { ⌜ Prepared (now older) (now newer) q (now table) × (now order ≡ flat preference) × (k < blocks (sizesOf q)) ⌝ }
-    ensures { λ r. ⌜ (r ≡ blockOf (pairOf (now (older .entry)) (now (newer .entry)) (sizesOf q)) q k) × Sound r ⌝ }
+    ensures { λ r. ⌜ (r ≡ searchAt (pairOf (now (older .entry)) (now (newer .entry)) (sizesOf q)) q k) × Sound r ⌝ }
 {
     let s = refusals::sizes_of(q);
     let y = frame::block_row(s, k);
     let x = frame::block_column(s, k);
     if q.search == 2 {
-        let b = Spot {
+        let b = SearchBlock {
             sizes: s,
             w: q.w,
             y,
@@ -127,8 +127,8 @@ fn put_entry(list: &mut [i32], k: usize, dy: i32, dx: i32, distortion: u32)
 }
 
 // The sums with one block more.
-fn join(s: Total, f: Found) -> Total
-    requires { ⌜ Few s × Sound f ⌝ }
+fn join(s: Total, f: SearchResult) -> Total
+    requires { ⌜ Bounded s × Sound f ⌝ }
     ensures { λ r. ⌜ r ≡ joined s f ⌝ }
 {
     let c = [
@@ -156,7 +156,7 @@ fn fill_list(
 ) -> Total
     requires { ⌜ Prepared (now older) (now newer) q (now table) × (now order ≡ flat preference) ⌝ }
     requires { ⌜ (listSize (sizesOf q) ≤ length (now list)) × (now votes ≡ replicate 1089 0) ⌝ }
-    ensures { λ r. ⌜ Filled (blockOf (pairOf (now (older .entry)) (now (newer .entry)) (sizesOf q)) q) (blocks (sizesOf q)) (now (list .entry)) (now (list .exit)) (now (votes .exit)) r ⌝ }
+    ensures { λ r. ⌜ BlocksFilled (searchAt (pairOf (now (older .entry)) (now (newer .entry)) (sizesOf q)) q) (blocks (sizesOf q)) (now (list .entry)) (now (list .exit)) (now (votes .exit)) r ⌝ }
 {
     let n = frame::block_count(refusals::sizes_of(q));
     let mut total = Total {
@@ -177,8 +177,8 @@ fn fill_list(
 
 // The field call behind its refusals.
 fn fill(older: &[u8], newer: &[u8], q: Request, list: &mut [i32], table: &mut [u32]) -> FieldAnswer
-    requires { ⌜ Roomy (length (now older)) (length (now newer)) q (length (now list)) (length (now table)) ⌝ }
-    ensures { λ r. ⌜ asFielded r (now (list .exit)) (now (table .exit)) ≡ accepted (now (older .entry)) (now (newer .entry)) q (now (list .entry)) (now (table .entry)) ⌝ }
+    requires { ⌜ HasRoom (length (now older)) (length (now newer)) q (length (now list)) (length (now table)) ⌝ }
+    ensures { λ r. ⌜ fieldResult r (now (list .exit)) (now (table .exit)) ≡ acceptedField (now (older .entry)) (now (newer .entry)) q (now (list .entry)) (now (table .entry)) ⌝ }
 {
     let order = order::table();
     fill_table(older, q, table);
@@ -204,7 +204,7 @@ pub fn field(
     list: &mut [i32],
     table: &mut [u32],
 ) -> FieldAnswer
-    ensures { λ r. ⌜ asFielded r (now (list .exit)) (now (table .exit)) ≡ fielded (now (older .entry)) (now (newer .entry)) q (now (list .entry)) (now (table .entry)) ⌝ }
+    ensures { λ r. ⌜ fieldResult r (now (list .exit)) (now (table .exit)) ≡ field (now (older .entry)) (now (newer .entry)) q (now (list .entry)) (now (table .entry)) ⌝ }
 {
     let refusal = field_refusal(older.len(), newer.len(), q, list.len(), table.len());
     if refusal != 0 {

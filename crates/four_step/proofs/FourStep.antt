@@ -12,57 +12,57 @@ use Rattle.order.specs.Vectors.{Within, same?}
 use Rattle.frame.specs.Pictures.{Pair}
 use Rattle.frame.specs.Candidates.{still-candidate}
 use Rattle.distortion.specs.Blocks.{distortion}
-use Rattle.search.specs.Weighing.{Target, target}
+use Rattle.search.specs.Target.{Target, target}
 use Rattle.search.specs.Exhaustive.{Best}
 use Rattle.base.specs.Lists.{Each}
-use Rattle.probe.specs.Probe.{origin, plus, Seen, start, around, isIn, fresh, Honest, Alike}
-use Rattle.probe.proofs.Probe.{probe-honest, start-honest, never-lower, probe-count, probe-best, each-fresh, each-around, all?, all-each, all-within, fresh-moved, length-around, around-plus, plus-origin, within-more, each-more, around-within, probe-alike, start-within, start-alike}
+use Rattle.probe.specs.Probe.{origin, plus, Seen, atOrigin, around, isIn, fresh, OwnDistortion, Alike}
+use Rattle.probe.proofs.Probe.{probe-own-distortion, at-origin-own-distortion, never-lower, probe-count, probe-best, each-fresh, each-around, all?, all-each, all-within, fresh-moved, length-around, around-plus, plus-origin, within-more, each-more, around-within, probe-alike, at-origin-within, at-origin-alike}
 use Rattle.four_step.specs.FourStep.{square, ring, moved, step1, step23, step4, from3, from2, fourStep}
 
 -- ---- honest
 
 module _ (t : Target) where
-  moved-honest : (before : List Vector) (s : Seen) → Honest t s → Honest t (moved t before s)
+  moved-own-distortion : (before : List Vector) (s : Seen) → OwnDistortion t s → OwnDistortion t (moved t before s)
   unfolding moved
-  moved-honest before s h = probe-honest t s (fresh before (around (s .best) square)) h
+  moved-own-distortion before s h = probe-own-distortion t s (fresh before (around (s .best) square)) h
 
-  step23-honest : (c : Vector) (s : Seen) → Honest t s → Honest t (step23 t c s)
+  step23-own-distortion : (c : Vector) (s : Seen) → OwnDistortion t s → OwnDistortion t (step23 t c s)
   unfolding step23
-  step23-honest c s h = moved-honest (around c square) s h
+  step23-own-distortion c s h = moved-own-distortion (around c square) s h
 
-  step4-honest : (s : Seen) → Honest t s → Honest t (step4 t s)
+  step4-own-distortion : (s : Seen) → OwnDistortion t s → OwnDistortion t (step4 t s)
   unfolding step4
-  step4-honest s h = probe-honest t s (around (s .best) ring) h
+  step4-own-distortion s h = probe-own-distortion t s (around (s .best) ring) h
 
-  from3-honest : (c : Vector) (s : Seen) → Honest t s → Honest t (from3 t c s)
+  from3-own-distortion : (c : Vector) (s : Seen) → OwnDistortion t s → OwnDistortion t (from3 t c s)
   unfolding from3
-  from3-honest c s h = go (same? (s .best) c)
+  from3-own-distortion c s h = go (same? (s .best) c)
     where
-      go : (k : Bool) → Honest t (cond k (step4 t s) (step4 t (step23 t c s)))
-      go true = step4-honest s h
-      go false = step4-honest (step23 t c s) (step23-honest c s h)
+      go : (k : Bool) → OwnDistortion t (cond k (step4 t s) (step4 t (step23 t c s)))
+      go true = step4-own-distortion s h
+      go false = step4-own-distortion (step23 t c s) (step23-own-distortion c s h)
 
-  from2-honest : (c : Vector) (s : Seen) → Honest t s → Honest t (from2 t c s)
+  from2-own-distortion : (c : Vector) (s : Seen) → OwnDistortion t s → OwnDistortion t (from2 t c s)
   unfolding from2
-  from2-honest c s h = go (same? (s .best) c)
+  from2-own-distortion c s h = go (same? (s .best) c)
     where
-      go : (k : Bool) → Honest t (cond k (step4 t s) (from3 t (s .best) (step23 t c s)))
-      go true = step4-honest s h
-      go false = from3-honest (s .best) (step23 t c s) (step23-honest c s h)
+      go : (k : Bool) → OwnDistortion t (cond k (step4 t s) (from3 t (s .best) (step23 t c s)))
+      go true = step4-own-distortion s h
+      go false = from3-own-distortion (s .best) (step23 t c s) (step23-own-distortion c s h)
 
   -- four-step ends at a candidate, and reports that vector's own distortion
-  pub four-step-honest : T (t .candidate origin) → Honest t (fourStep t)
+  pub four-step-own-distortion : T (t .candidate origin) → OwnDistortion t (fourStep t)
   unfolding fourStep step1
-  four-step-honest c = from2-honest origin (step1 t) (moved-honest (origin ∷ []) (start t) (start-honest t c))
+  four-step-own-distortion c = from2-own-distortion origin (step1 t) (moved-own-distortion (origin ∷ []) (atOrigin t) (at-origin-own-distortion t c))
 
 -- a block that stands wholly inside the newer frame
 module _ (p : Pair) (y x : ℕ) (down : y + p .sizes .n ≤ p .sizes .height) (across : x + p .sizes .n ≤ p .sizes .width) where
-  pub four-step-honest-at : Honest (target p 7 y x) (fourStep (target p 7 y x))
-  four-step-honest-at = four-step-honest (target p 7 y x) (still-candidate (p .sizes) 7 y x down across)
+  pub four-step-own-distortion-at : OwnDistortion (target p 7 y x) (fourStep (target p 7 y x))
+  four-step-own-distortion-at = four-step-own-distortion (target p 7 y x) (still-candidate (p .sizes) 7 y x down across)
 
   -- four-step is never lower than the exhaustive best of a window that is no smaller
   pub four-step-never-lower : (w : ℕ) (v : Vector) → 7 ≤ w → Best p w y x v → distortion p y x v ≤ fourStep (target p 7 y x) .least
-  four-step-never-lower w v l b = never-lower p 7 w y x v (fourStep (target p 7 y x)) l b four-step-honest-at
+  four-step-never-lower w v l b = never-lower p 7 w y x v (fourStep (target p 7 y x)) l b four-step-own-distortion-at
 
 -- ---- at most 27 are measured
 
@@ -107,12 +107,12 @@ module _ (t : Target) where
   step23-few c s = moved-few (around c square) s
 
   step1-few : new origin (step1 t .best) ≤ 5
-  unfolding step1 start
-  step1-few = moved-few (origin ∷ []) (start t)
+  unfolding step1 atOrigin
+  step1-few = moved-few (origin ∷ []) (atOrigin t)
 
   step1-count : step1 t .count ≤ 9
-  unfolding step1 moved start fresh isIn around square
-  step1-count = probe-count t (start t) (fresh (origin ∷ []) (around origin square))
+  unfolding step1 moved atOrigin fresh isIn around square
+  step1-count = probe-count t (atOrigin t) (fresh (origin ∷ []) (around origin square))
 
   step23-count : (c : Vector) (s : Seen) → new c (s .best) ≤ 5 → step23 t c s .count ≤ s .count + 5
   unfolding step23 moved
@@ -142,7 +142,7 @@ module _ (t : Target) where
   unfolding fourStep
   four-step-count = omega (arith, from2-count origin (step1 t) step1-few, step1-count)
 
--- ---- no point outside window 7 is looked at
+-- ---- no point outside window 7 is probePoint at
 
 square-reach : Each (Within 2) square
 unfolding square all?
@@ -174,7 +174,7 @@ step23-within t c s r h = moved-within s r h t (around c square)
 
 pub step1-within : (t : Target) → Within 2 (step1 t .best)
 unfolding step1
-step1-within t = moved-within (start t) 0 (start-within t) t (origin ∷ [])
+step1-within t = moved-within (atOrigin t) 0 (at-origin-within t) t (origin ∷ [])
 
 module _ (t u : Target) (a : Alike 7 t u) where
   moved-alike : (before : List Vector) (s : Seen) (r : ℕ) → Within r (s .best) → r + 2 ≤ 7 → moved t before s ≡ moved u before s
@@ -206,4 +206,4 @@ module _ (t u : Target) (a : Alike 7 t u) where
   unfolding fourStep step1
   four-step-alike =
       from2-alike origin (step1 t) (step1-within t)
-      ∙ ap (from2 u origin) (moved-alike (origin ∷ []) (start t) 0 (start-within t) (omega arith) ∙ ap (moved u (origin ∷ [])) (start-alike 7 t u a))
+      ∙ ap (from2 u origin) (moved-alike (origin ∷ []) (atOrigin t) 0 (at-origin-within t) (omega arith) ∙ ap (moved u (origin ∷ [])) (at-origin-alike 7 t u a))

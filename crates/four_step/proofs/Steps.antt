@@ -3,14 +3,14 @@ use mathlib.Core.Path.{_≡_, ap}
 use mathlib.Core.Bool.{true, false}
 use mathlib.Core.List.{[], _∷_}
 use Rattle.order.specs.declared.Vector.{Vector}
-use Rattle.search.specs.Weighing.{Target}
+use Rattle.search.specs.Target.{Target}
 use Rattle.order.specs.Vectors.{same?}
-use Rattle.probe.specs.Probe.{origin, Seen, probe, start, around, isIn, fresh}
+use Rattle.probe.specs.Probe.{origin, Seen, probe, atOrigin, around, isIn, fresh}
 use Rattle.four_step.specs.FourStep.{square, moved, step1, step23, step4, from3, from2}
 
 -- step 1 is the square without its centre, around (0,0)
-pub step1-is : (t : Target) (s : Seen) → s ≡ start t → probe t s (around (s .best) (fresh (origin ∷ []) square)) ≡ step1 t
-unfolding step1 moved start fresh isIn around square
+pub step1-is : (t : Target) (s : Seen) → s ≡ atOrigin t → probe t s (around (s .best) (fresh (origin ∷ []) square)) ≡ step1 t
+unfolding step1 moved atOrigin fresh isIn around square
 step1-is t s e = ap (λ q. probe t q (around (q .best) (fresh (origin ∷ []) square))) e
 
 module _ (t : Target) (c : Vector) (s : Seen) where

@@ -11,10 +11,10 @@ use lib.ListN.{length}
 use Rattle.base.specs.Tests.{or-cases}
 use Rattle.order.specs.declared.Vector.{Vector}
 use Rattle.order.specs.Vectors.{Within, same?, same-self}
-use Rattle.search.specs.Weighing.{Target}
+use Rattle.search.specs.Target.{Target}
 use Rattle.base.specs.Lists.{Each}
-use Rattle.probe.specs.Probe.{origin, plus, Seen, probe, start, around, isIn, fresh}
-use Rattle.probe.proofs.Probe.{probe-best, probe-all, each-map, each-fresh, each-around, all?, all-each, same-moved, length-around, plus-origin, within-more, start-within}
+use Rattle.probe.specs.Probe.{origin, plus, Seen, probe, atOrigin, around, isIn, fresh}
+use Rattle.probe.proofs.Probe.{probe-best, probe-all, each-map, each-fresh, each-around, all?, all-each, same-moved, length-around, plus-origin, within-more, at-origin-within}
 use Rattle.four_step.specs.FourStep.{square, ring, moved, step1, step23, step4, from3, from2, fourStep}
 use Rattle.four_step.proofs.FourStep.{new, newBy, new-moved, moved-points, ring-points, step23-within, step1-within}
 
@@ -63,7 +63,7 @@ moved-move t before s =
 -- ---- the counts
 
 module _ (t : Target) (all : (v : Vector) → Within 7 v → T (t .candidate v)) where
-  -- every point of window 7 that is looked at is measured
+  -- every point of window 7 that is probePoint at is measured
   points-all : (s : Seen) (vs : List Vector) → Each (Within 7) vs → probe t s vs .count ≡ s .count + length vs
   points-all s vs e = probe-all t s vs (each-map (Within 7) (λ v. T (t .candidate v)) vs all e)
 
@@ -80,12 +80,12 @@ module _ (t : Target) (all : (v : Vector) → Within 7 v → T (t .candidate v))
   step23-moved c s = moved-move t (around c square) s
 
   step1-is : step1 t .count ≡ 9
-  unfolding step1 moved start fresh isIn around square
-  step1-is = points-all (start t) (fresh (origin ∷ []) (around origin square)) (moved-points (start t) 0 (start-within t) (origin ∷ []) (omega arith))
+  unfolding step1 moved atOrigin fresh isIn around square
+  step1-is = points-all (atOrigin t) (fresh (origin ∷ []) (around origin square)) (moved-points (atOrigin t) 0 (at-origin-within t) (origin ∷ []) (omega arith))
 
   step1-moved : Moved origin (step1 t .best)
-  unfolding step1 start
-  step1-moved = moved-move t (origin ∷ []) (start t)
+  unfolding step1 atOrigin
+  step1-moved = moved-move t (origin ∷ []) (atOrigin t)
 
   from3-is : (c : Vector) (s : Seen) → Within 4 (s .best) → Moved c (s .best)
       → (from3 t c s .count ≡ s .count + 8) ⊎ ((from3 t c s .count ≡ s .count + 11) ⊎ (from3 t c s .count ≡ s .count + 13))

@@ -13,8 +13,8 @@ use mathlib.Core.List.{List, [], _∷_}
 use lib.IntN.{pos, negsuc}
 use Rattle.order.specs.declared.Vector.{Vector}
 use Rattle.order.specs.Vectors.{vec, same?}
-use Rattle.search.specs.Weighing.{Target}
-use Rattle.probe.specs.Probe.{origin, Seen, probe, start, around, fresh}
+use Rattle.search.specs.Target.{Target}
+use Rattle.probe.specs.Probe.{origin, Seen, probe, atOrigin, around, fresh}
 
 -- `negsuc 1` is -2
 unfoldable pub square : List Vector
@@ -35,7 +35,7 @@ moved t before s = probe t s (fresh before (around (s .best) square))
 
 -- the nine points around (0,0), whose centre is measured first
 unfoldable pub step1 : Target → Seen
-step1 t = moved t (origin ∷ []) (start t)
+step1 t = moved t (origin ∷ []) (atOrigin t)
 
 unfoldable pub step23 : Target → Vector → Seen → Seen
 step23 t centre s = moved t (around centre square) s

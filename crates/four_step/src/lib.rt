@@ -3,13 +3,13 @@
 
 ghost use mathlib.Core.Path.{_≡_};
 ghost use Prim.Native.Nat.{_+_, _≤_};
-ghost use Rattle.search.specs.Weighing.{Ready, targetOf};
+ghost use Rattle.search.specs.Target.{Ready, targetOf};
 ghost use Rattle.order.specs.Vectors.{same?};
-ghost use Rattle.probe.specs.Held.{point, seenOf, Ongoing, Holds, foundOf};
+ghost use Rattle.probe.specs.BestSoFar.{point, seenOf, Ongoing, Holds, resultOf};
 ghost use Rattle.four_step.specs.FourStep.{step1, step23, step4, from3, from2, fourStep};
-use probe::Held;
-use search::Found;
-use search::Spot;
+use probe::BestSoFar;
+use search::SearchBlock;
+use search::SearchResult;
 
 // The tables of offset pairs, dy and dx: centre, then the eight around it, row by row, at distance 2; the eight at distance 1.
 const SQUARE: [[i32; 2]; 9] = [
@@ -36,17 +36,24 @@ const RING: [[i32; 2]; 8] = [
 ];
 
 // Step 1: (0,0), then the eight around it.
-fn step_one(older: &[u8], newer: &[u8], b: Spot) -> Held
+fn step_one(older: &[u8], newer: &[u8], b: SearchBlock) -> BestSoFar
     requires { ⌜ Ready (now older) (now newer) b ⌝ }
     ensures { λ r. ⌜ Holds r (step1 (targetOf (now (older .entry)) (now (newer .entry)) b)) 10 ⌝ }
 {
-    let s = probe::first(older, newer, b);
+    let s = probe::at_origin(older, newer, b);
     let t = SQUARE;
     probe::pattern(older, newer, b, s, &t[1..9], 1)
 }
 
 // Steps 2 and 3, after a pattern around (cy, cx).
-fn step_on(older: &[u8], newer: &[u8], b: Spot, s: Held, cy: usize, cx: usize) -> Held
+fn step_on(
+    older: &[u8],
+    newer: &[u8],
+    b: SearchBlock,
+    s: BestSoFar,
+    cy: usize,
+    cx: usize,
+) -> BestSoFar
     requires { ⌜ Ongoing (now older) (now newer) b s 9 × (cy ≤ 32) × (cx ≤ 32) ⌝ }
     ensures { λ r. ⌜ Holds r (step23 (targetOf (now (older .entry)) (now (newer .entry)) b) (point cy cx) (seenOf s)) (s .count + 9) ⌝ }
 {
@@ -55,7 +62,7 @@ fn step_on(older: &[u8], newer: &[u8], b: Spot, s: Held, cy: usize, cx: usize) -
 }
 
 // Step 4.
-fn step_last(older: &[u8], newer: &[u8], b: Spot, s: Held) -> Held
+fn step_last(older: &[u8], newer: &[u8], b: SearchBlock, s: BestSoFar) -> BestSoFar
     requires { ⌜ Ongoing (now older) (now newer) b s 9 ⌝ }
     ensures { λ r. ⌜ Holds r (step4 (targetOf (now (older .entry)) (now (newer .entry)) b) (seenOf s)) (s .count + 9) ⌝ }
 {
@@ -64,7 +71,7 @@ fn step_last(older: &[u8], newer: &[u8], b: Spot, s: Held) -> Held
 }
 
 // The centre (cy, cx) stays: it is still the best.
-fn stays(s: Held, cy: usize, cx: usize) -> bool
+fn stays(s: BestSoFar, cy: usize, cx: usize) -> bool
     ensures { λ r. ⌜ r ≡ same? (point (s .y) (s .x)) (point cy cx) ⌝ }
 {
     if s.y == cy {
@@ -74,7 +81,14 @@ fn stays(s: Held, cy: usize, cx: usize) -> bool
 }
 
 // From step 3 on, after a pattern around (cy, cx): a centre that stays leads to step 4, and so does step 3.
-fn from_three(older: &[u8], newer: &[u8], b: Spot, s: Held, cy: usize, cx: usize) -> Held
+fn from_three(
+    older: &[u8],
+    newer: &[u8],
+    b: SearchBlock,
+    s: BestSoFar,
+    cy: usize,
+    cx: usize,
+) -> BestSoFar
     requires { ⌜ Ongoing (now older) (now newer) b s 18 × (cy ≤ 32) × (cx ≤ 32) ⌝ }
     ensures { λ r. ⌜ Holds r (from3 (targetOf (now (older .entry)) (now (newer .entry)) b) (point cy cx) (seenOf s)) (s .count + 18) ⌝ }
 {
@@ -86,7 +100,14 @@ fn from_three(older: &[u8], newer: &[u8], b: Spot, s: Held, cy: usize, cx: usize
 }
 
 // From step 2 on, after a pattern around (cy, cx): a centre that stays leads to step 4, step 2 to step 3.
-fn from_two(older: &[u8], newer: &[u8], b: Spot, s: Held, cy: usize, cx: usize) -> Held
+fn from_two(
+    older: &[u8],
+    newer: &[u8],
+    b: SearchBlock,
+    s: BestSoFar,
+    cy: usize,
+    cx: usize,
+) -> BestSoFar
     requires { ⌜ Ongoing (now older) (now newer) b s 27 × (cy ≤ 32) × (cx ≤ 32) ⌝ }
     ensures { λ r. ⌜ Holds r (from2 (targetOf (now (older .entry)) (now (newer .entry)) b) (point cy cx) (seenOf s)) (s .count + 27) ⌝ }
 {
@@ -98,11 +119,11 @@ fn from_two(older: &[u8], newer: &[u8], b: Spot, s: Held, cy: usize, cx: usize) 
 }
 
 // The search.
-pub fn search(older: &[u8], newer: &[u8], b: Spot) -> Found
+pub fn search(older: &[u8], newer: &[u8], b: SearchBlock) -> SearchResult
     requires { ⌜ Ready (now older) (now newer) b ⌝ }
-    ensures { λ r. ⌜ r ≡ foundOf (fourStep (targetOf (now (older .entry)) (now (newer .entry)) b)) ⌝ }
+    ensures { λ r. ⌜ r ≡ resultOf (fourStep (targetOf (now (older .entry)) (now (newer .entry)) b)) ⌝ }
 {
     let s = step_one(older, newer, b);
     let r = from_two(older, newer, b, s, 16, 16);
-    probe::answered(r)
+    probe::result_of(r)
 }

@@ -23,7 +23,7 @@ use Rattle.frame.specs.declared.Older.{Older}
 use Rattle.frame.specs.declared.Older.the-variants.{At as Older·At, Outside as Older·Outside}
 use Rattle.signed.specs.declared.Shifted.{Shifted}
 use Rattle.signed.specs.declared.Shifted.the-variants.{At, Outside}
-use Rattle.signed.specs.Values.{placed, shiftedBy}
+use Rattle.signed.specs.Values.{atPlace, shiftedBy}
 
 abbrev pub olderRow : ℕ → Vector → ℕ
 olderRow y v = up (pos y +ℤ v .dy)
@@ -201,7 +201,7 @@ module _ (at : ℕ) (d : ℤ) (w n side : ℕ) where
           iff-test (leb (a + n) side) (leb a (side - n)) (λ t. le→leb a (side - n) (omega (arith, leb→le (a + n) side t)))
           (λ t. le→leb (a + n) side (omega (arith, leb→le a (side - n) t)))
 
-      same : (z : ℤ) → cond (inside z n side) (At (up z)) Outside ≡ placed z (side - n)
+      same : (z : ℤ) → cond (inside z n side) (At (up z)) Outside ≡ atPlace z (side - n)
       same (pos a) = rw (fits a) refl
       same (negsuc a) = refl
 

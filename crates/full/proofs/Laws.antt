@@ -3,21 +3,21 @@ use Prim.Native.Nat.{ℕ, _+_, _≤_}
 use mathlib.Core.Path.{_≡_, refl}
 use Rattle.frame.specs.Pictures.{Pair}
 use Rattle.distortion.specs.Blocks.{distortion}
-use Rattle.search.specs.Found.{vectorIn, probes}
+use Rattle.search.specs.SearchResult.{vectorIn, probes}
 use Rattle.search.specs.Exhaustive.{Best, candidates}
 use Rattle.search.proofs.Exhaustive.{best-is}
 use Rattle.search.proofs.Counted.{places-counted}
-use Rattle.full.specs.Full.{fullFound}
+use Rattle.full.specs.Full.{fullSearch}
 
 module _ (p : Pair) (w y x : ℕ) (small : w ≤ 16) (down : y + p .sizes .n ≤ p .sizes .height) (across : x + p .sizes .n ≤ p .sizes .width) where
-  pub full-best : Best p w y x (vectorIn (fullFound p w y x))
-  unfolding fullFound
+  pub full-best : Best p w y x (vectorIn (fullSearch p w y x))
+  unfolding fullSearch
   full-best = best-is p w y x small down across
 
-  pub full-distortion : fullFound p w y x .distortion ≡ distortion p y x (vectorIn (fullFound p w y x))
-  unfolding fullFound
+  pub full-distortion : fullSearch p w y x .distortion ≡ distortion p y x (vectorIn (fullSearch p w y x))
+  unfolding fullSearch
   full-distortion = refl
 
-  pub full-count : probes (fullFound p w y x) ≡ candidates (p .sizes) w y x
-  unfolding fullFound
+  pub full-count : probes (fullSearch p w y x) ≡ candidates (p .sizes) w y x
+  unfolding fullSearch
   full-count = places-counted (p .sizes) w y x

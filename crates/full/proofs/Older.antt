@@ -10,16 +10,16 @@ use Rattle.base.specs.Index.{frame-small}
 use Rattle.order.specs.Preference.{preferred}
 use Rattle.frame.specs.Candidates.{olderRow, olderColumn, candidate-older}
 use Rattle.distortion.specs.Blocks.{absolute, distortion, rowsFrom, rowsApart, Comparable, begins, block-inside, block-rows, copy-rows}
-use Rattle.search.specs.declared.Spot.{Spot}
-use Rattle.search.specs.Weighing.{Ready, candidate-past}
-use Rattle.remaining.specs.Gathered.{passes}
+use Rattle.search.specs.declared.SearchBlock.{SearchBlock}
+use Rattle.search.specs.Target.{Ready, candidate-past}
+use Rattle.pruned_remaining.specs.Gathered.{candidateAt}
 use Rattle.full.specs.Full.{beginsAt, Stands, CopyOf, distortionOf}
 
-module _ (older newer : List ℕ) (b : Spot) (k : ℕ) where
-  pub stands : Ready older newer b → T (passes b k) → Stands b k
+module _ (older newer : List ℕ) (b : SearchBlock) (k : ℕ) where
+  pub stands : Ready older newer b → T (candidateAt b k) → Stands b k
   stands r t = let p = candidate-past older newer b (preferred k) r t in record { row = p .0; column = p .1; wide = r .placed .paired .fitting .wide }
 
-  pub comparable : Ready older newer b → T (passes b k)
+  pub comparable : Ready older newer b → T (candidateAt b k)
       → Comparable older newer (b .sizes) (b .y) (b .x) (olderRow (b .y) (preferred k)) (olderColumn (b .x) (preferred k))
   comparable r t =
       let o = candidate-older (b .sizes) (b .w) (b .y) (b .x) (preferred k) t in
@@ -37,7 +37,7 @@ module _ (older newer : List ℕ) (b : Spot) (k : ℕ) where
       ∙ sym (by-rows ∙ ap (λ (n : ℕ). rowsFrom absolute older newer width here (beginsAt b k) n n) (c .sixteen))
 
   -- what code may ask of the place where it begins
-  module _ (r : Ready older newer b) (t : T (passes b k)) where
+  module _ (r : Ready older newer b) (t : T (candidateAt b k)) where
     pub begins-low : beginsAt b k ≤ 1048576
     begins-low =
         let p = r .placed .paired in

@@ -6,11 +6,11 @@ ghost use lib.Dec.{T};
 ghost use Rattle.order.specs.Preference.{preference, flat};
 ghost use Rattle.frame.specs.Pictures.{pairOf};
 ghost use Rattle.distortion.specs.Blocks.{UpTo};
-ghost use Rattle.search.specs.Weighing.{Ready};
-ghost use Rattle.remaining.specs.Gathered.{passes, Listed};
-ghost use Rattle.full.specs.Full.{beginsAt, Stands, CopyOf, distortionOf, distortionUpTo, Choice, fullFound};
-use search::Found;
-use search::Spot;
+ghost use Rattle.search.specs.Target.{Ready};
+ghost use Rattle.pruned_remaining.specs.Gathered.{candidateAt, ListedCandidates};
+ghost use Rattle.full.specs.Full.{beginsAt, Stands, CopyOf, distortionOf, distortionUpTo, Choice, fullSearch};
+use search::SearchBlock;
+use search::SearchResult;
 
 // A candidate's place in the preference table, and its distortion.
 pub struct Chosen {
@@ -19,7 +19,7 @@ pub struct Chosen {
 }
 
 // Where the older block of the candidate at place k of the preference table begins.
-fn begins_at(order: &[i32; 2178], b: Spot, k: usize) -> usize
+fn begins_at(order: &[i32; 2178], b: SearchBlock, k: usize) -> usize
     requires { ⌜ Stands b k × (now order ≡ flat preference) × (k < 1089) ⌝ }
     ensures { λ r. ⌜ r ≡ beginsAt b k ⌝ }
 {
@@ -35,12 +35,12 @@ pub fn distortion_of(
     older: &[u8],
     newer: &[u8],
     order: &[i32; 2178],
-    b: Spot,
+    b: SearchBlock,
     k: usize,
     ceiling: u32,
 ) -> u32
     requires { ⌜ Ready (now older) (now newer) b × (now order ≡ flat preference) ⌝ }
-    requires { ⌜ (k < 1089) × T (passes b k) ⌝ }
+    requires { ⌜ (k < 1089) × T (candidateAt b k) ⌝ }
     ensures { λ d. ⌜ UpTo ceiling (distortionOf (now (older .entry)) (now (newer .entry)) b k) d × (d < 4294967295) × (d ≡ distortionUpTo (now (older .entry)) (now (newer .entry)) b k ceiling) ⌝ }
 {
     let s = b.sizes;
@@ -55,12 +55,12 @@ fn copied_distortion_of(
     older: &[u8],
     newer: &[u8],
     order: &[i32; 2178],
-    b: Spot,
+    b: SearchBlock,
     k: usize,
     block: &[u8; 256],
 ) -> u32
     requires { ⌜ Ready (now older) (now newer) b × (now order ≡ flat preference) ⌝ }
-    requires { ⌜ (k < 1089) × T (passes b k) × CopyOf (now newer) b (now block) ⌝ }
+    requires { ⌜ (k < 1089) × T (candidateAt b k) × CopyOf (now newer) b (now block) ⌝ }
     ensures { λ d. ⌜ d ≡ distortionOf (now (older .entry)) (now (newer .entry)) b k ⌝ }
 {
     let s = b.sizes;
@@ -73,19 +73,19 @@ pub fn choose(
     older: &[u8],
     newer: &[u8],
     order: &[i32; 2178],
-    b: Spot,
-    alive: &[u16; 1089],
+    b: SearchBlock,
+    remaining: &[u16; 1089],
     count: usize,
 ) -> Chosen
     requires { ⌜ Ready (now older) (now newer) b × (now order ≡ flat preference) ⌝ }
-    requires { ⌜ Listed b (now alive) count × (0 < count) ⌝ }
-    ensures { λ r. ⌜ Choice (distortionOf (now (older .entry)) (now (newer .entry)) b) (now (alive .entry)) count (r .place) (r .distortion) ⌝ }
+    requires { ⌜ ListedCandidates b (now remaining) count × (0 < count) ⌝ }
+    ensures { λ r. ⌜ Choice (distortionOf (now (older .entry)) (now (newer .entry)) b) (now (remaining .entry)) count (r .place) (r .distortion) ⌝ }
 {
-    let mut best = remaining::wide(alive[0]);
+    let mut best = pruned_remaining::wide(remaining[0]);
     let mut least = distortion_of(older, newer, order, b, best, 4294967295);
     let mut i: usize = 1;
     while i < count {
-        let k = remaining::wide(alive[i]);
+        let k = pruned_remaining::wide(remaining[i]);
         let d = distortion_of(older, newer, order, b, k, least);
         if d < least {
             best = k;
@@ -104,20 +104,20 @@ fn choose_copied(
     older: &[u8],
     newer: &[u8],
     order: &[i32; 2178],
-    b: Spot,
-    alive: &[u16; 1089],
+    b: SearchBlock,
+    remaining: &[u16; 1089],
     count: usize,
     block: &[u8; 256],
 ) -> Chosen
     requires { ⌜ Ready (now older) (now newer) b × (now order ≡ flat preference) ⌝ }
-    requires { ⌜ Listed b (now alive) count × (0 < count) × CopyOf (now newer) b (now block) ⌝ }
-    ensures { λ r. ⌜ Choice (distortionOf (now (older .entry)) (now (newer .entry)) b) (now (alive .entry)) count (r .place) (r .distortion) ⌝ }
+    requires { ⌜ ListedCandidates b (now remaining) count × (0 < count) × CopyOf (now newer) b (now block) ⌝ }
+    ensures { λ r. ⌜ Choice (distortionOf (now (older .entry)) (now (newer .entry)) b) (now (remaining .entry)) count (r .place) (r .distortion) ⌝ }
 {
-    let mut best = remaining::wide(alive[0]);
+    let mut best = pruned_remaining::wide(remaining[0]);
     let mut least = distortion_of(older, newer, order, b, best, 4294967295);
     let mut i: usize = 1;
     while i < count {
-        let k = remaining::wide(alive[i]);
+        let k = pruned_remaining::wide(remaining[i]);
         let whole = copied_distortion_of(older, newer, order, b, k, block);
         if whole < least {
             best = k;
@@ -136,35 +136,35 @@ fn choose_of_many(
     older: &[u8],
     newer: &[u8],
     order: &[i32; 2178],
-    b: Spot,
-    alive: &[u16; 1089],
+    b: SearchBlock,
+    remaining: &[u16; 1089],
     count: usize,
 ) -> Chosen
     requires { ⌜ Ready (now older) (now newer) b × (now order ≡ flat preference) ⌝ }
-    requires { ⌜ Listed b (now alive) count × (0 < count) ⌝ }
-    ensures { λ r. ⌜ Choice (distortionOf (now (older .entry)) (now (newer .entry)) b) (now (alive .entry)) count (r .place) (r .distortion) ⌝ }
+    requires { ⌜ ListedCandidates b (now remaining) count × (0 < count) ⌝ }
+    ensures { λ r. ⌜ Choice (distortionOf (now (older .entry)) (now (newer .entry)) b) (now (remaining .entry)) count (r .place) (r .distortion) ⌝ }
 {
     let s = b.sizes;
     if s.n != 16 {
-        return choose(older, newer, order, b, alive, count);
+        return choose(older, newer, order, b, remaining, count);
     }
     let width = s.width;
     let here = b.y * width + b.x;
     let mut block = [0u8; 256];
     distortion::copy_block(newer, width, here, &mut block);
-    choose_copied(older, newer, order, b, alive, count, &block)
+    choose_copied(older, newer, order, b, remaining, count, &block)
 }
 
 // Search 1 of one block.
-pub fn search(older: &[u8], newer: &[u8], order: &[i32; 2178], b: Spot) -> Found
+pub fn search(older: &[u8], newer: &[u8], order: &[i32; 2178], b: SearchBlock) -> SearchResult
     requires { ⌜ Ready (now older) (now newer) b × (now order ≡ flat preference) ⌝ }
-    ensures { λ r. ⌜ r ≡ fullFound (pairOf (now (older .entry)) (now (newer .entry)) (b .sizes)) (b .w) (b .y) (b .x) ⌝ }
+    ensures { λ r. ⌜ r ≡ fullSearch (pairOf (now (older .entry)) (now (newer .entry)) (b .sizes)) (b .w) (b .y) (b .x) ⌝ }
 {
-    let mut alive = [0u16; 1089];
-    let count = remaining::gather(order, b, &mut alive);
-    let best = choose_of_many(older, newer, order, b, &alive, count);
+    let mut remaining = [0u16; 1089];
+    let count = pruned_remaining::gather(order, b, &mut remaining);
+    let best = choose_of_many(older, newer, order, b, &remaining, count);
     let v = order::vector_at(order, best.place);
-    Found {
+    SearchResult {
         refusal: 0,
         dy: v.dy,
         dx: v.dx,

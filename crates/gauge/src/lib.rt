@@ -6,26 +6,26 @@ ghost use lib.ListN.{length};
 ghost use Rattle.order.specs.Vectors.{vec};
 ghost use Rattle.frame.specs.Pictures.{sizes, pairOf};
 ghost use Rattle.view.specs.View.{viewPlace};
-ghost use Rattle.distortion.specs.Measured.{measured};
-ghost use Rattle.block.specs.Block.{blockFound};
-ghost use Rattle.field.specs.Field.{asFielded, fielded};
-ghost use Rattle.track.specs.Track.{newTrack, homed, asStepping, stepped};
+ghost use Rattle.distortion.specs.Measured.{measure};
+ghost use Rattle.block.specs.Block.{searchBlock};
+ghost use Rattle.field.specs.Field.{fieldResult, field};
+ghost use Rattle.track.specs.Track.{trackNew, trackHome, stepResult, trackStep};
 ghost use Prim.Native.Nat.{_≤_};
-ghost use Rattle.put.specs.Put.{over};
-ghost use Rattle.log_writing.specs.Writing.{asWriting, wrote};
-ghost use Rattle.log_reading.specs.Reading.{asReading, readInto};
-ghost use Rattle.log_text.specs.Text.{longestText, printed};
-ghost use Rattle.plain.specs.Plain.{walkedFrom};
+ghost use Rattle.put.specs.Put.{overFront};
+ghost use Rattle.log_writing.specs.Writing.{writeResult, writeLog};
+ghost use Rattle.log_reading.specs.Reading.{readResult, readLog};
+ghost use Rattle.log_text.specs.Text.{longestText, printLog};
+ghost use Rattle.log_plain.specs.Plain.{walkFrom};
 use distortion::Measured;
 use field::FieldAnswer;
 use frame::Sizes;
-use heads::Head;
+use log_head::Head;
+use log_plain::Place;
+use log_plain::Walked;
 use log_reading::LogRead;
 use log_writing::Written;
-use plain::Place;
-use plain::Walked;
 use refusals::Request;
-use search::Found;
+use search::SearchResult;
 use track::Homed;
 use track::Stepped;
 use track::Track;
@@ -44,7 +44,7 @@ pub extern "C" fn gauge_measure(
     dy: i32,
     dx: i32,
 ) -> Measured
-    ensures { λ r. ⌜ r ≡ measured (pairOf (now (older .entry)) (now (newer .entry)) (sizes width height n)) row column (vec dy dx) ⌝ }
+    ensures { λ r. ⌜ r ≡ measure (pairOf (now (older .entry)) (now (newer .entry)) (sizes width height n)) row column (vec dy dx) ⌝ }
 {
     let s = Sizes { width, height, n };
     distortion::measure(older, newer, s, row, column, dy, dx)
@@ -76,8 +76,8 @@ pub extern "C" fn gauge_search_block(
     request: Request,
     row: usize,
     column: usize,
-) -> Found
-    ensures { λ r. ⌜ r ≡ blockFound (now (older .entry)) (now (newer .entry)) request row column ⌝ }
+) -> SearchResult
+    ensures { λ r. ⌜ r ≡ searchBlock (now (older .entry)) (now (newer .entry)) request row column ⌝ }
 {
     block::search_block(older, newer, request, row, column)
 }
@@ -91,7 +91,7 @@ pub extern "C" fn gauge_field(
     list: &mut [i32],
     table: &mut [u32],
 ) -> FieldAnswer
-    ensures { λ r. ⌜ asFielded r (now (list .exit)) (now (table .exit)) ≡ fielded (now (older .entry)) (now (newer .entry)) request (now (list .entry)) (now (table .entry)) ⌝ }
+    ensures { λ r. ⌜ fieldResult r (now (list .exit)) (now (table .exit)) ≡ field (now (older .entry)) (now (newer .entry)) request (now (list .entry)) (now (table .entry)) ⌝ }
 {
     field::field(older, newer, request, list, table)
 }
@@ -99,7 +99,7 @@ pub extern "C" fn gauge_field(
 // A new track.
 #[no_mangle]
 pub extern "C" fn gauge_track_new() -> Track
-    ensures { λ r. ⌜ r ≡ newTrack ⌝ }
+    ensures { λ r. ⌜ r ≡ trackNew ⌝ }
 {
     Track::new()
 }
@@ -107,7 +107,7 @@ pub extern "C" fn gauge_track_new() -> Track
 // Homes a track at (y, x).
 #[no_mangle]
 pub extern "C" fn gauge_home(track: Track, y: i32, x: i32) -> Homed
-    ensures { λ r. ⌜ r ≡ homed track y x ⌝ }
+    ensures { λ r. ⌜ r ≡ trackHome track y x ⌝ }
 {
     track.home(y, x)
 }
@@ -122,7 +122,7 @@ pub extern "C" fn gauge_step(
     list: &mut [i32],
     table: &mut [u32],
 ) -> Stepped
-    ensures { λ r. ⌜ asStepping r (now (list .exit)) (now (table .exit)) ≡ stepped track (now (older .entry)) (now (newer .entry)) request (now (list .entry)) (now (table .entry)) ⌝ }
+    ensures { λ r. ⌜ stepResult r (now (list .exit)) (now (table .exit)) ≡ trackStep track (now (older .entry)) (now (newer .entry)) request (now (list .entry)) (now (table .entry)) ⌝ }
 {
     track.step(older, newer, request, list, table)
 }
@@ -130,7 +130,7 @@ pub extern "C" fn gauge_step(
 // Writes the log of a field: head numbers and a list, as bytes in a buffer.
 #[no_mangle]
 pub extern "C" fn gauge_write_log(head: Head, list: &[i32], buffer: &mut [u8]) -> Written
-    ensures { λ r. ⌜ asWriting r (now (buffer .exit)) ≡ wrote head (now (list .entry)) (now (buffer .entry)) ⌝ }
+    ensures { λ r. ⌜ writeResult r (now (buffer .exit)) ≡ writeLog head (now (list .entry)) (now (buffer .entry)) ⌝ }
 {
     log_writing::write_log(head, list, buffer)
 }
@@ -138,7 +138,7 @@ pub extern "C" fn gauge_write_log(head: Head, list: &[i32], buffer: &mut [u8]) -
 // Reads a whole log into a list, and answers with the head's numbers.
 #[no_mangle]
 pub extern "C" fn gauge_read_log(log: &[u8], list: &mut [i32]) -> LogRead
-    ensures { λ r. ⌜ asReading r (now (list .exit)) ≡ readInto (now (log .entry)) (now (list .entry)) ⌝ }
+    ensures { λ r. ⌜ readResult r (now (list .exit)) ≡ readLog (now (log .entry)) (now (list .entry)) ⌝ }
 {
     log_reading::read_log(log, list)
 }
@@ -146,7 +146,7 @@ pub extern "C" fn gauge_read_log(log: &[u8], list: &mut [i32]) -> LogRead
 // Prints a log: the text that the program writes, over the front of a buffer as far as it fits. Answers with the whole text's length.
 #[no_mangle]
 pub extern "C" fn gauge_print_log(log: &[u8], buffer: &mut [u8]) -> usize
-    ensures { λ r. ⌜ (now (buffer .exit) ≡ over (printed (now (log .entry))) (now (buffer .entry))) × (r ≡ length (printed (now (log .entry)))) × (r ≤ longestText) ⌝ }
+    ensures { λ r. ⌜ (now (buffer .exit) ≡ overFront (printLog (now (log .entry))) (now (buffer .entry))) × (r ≡ length (printLog (now (log .entry)))) × (r ≤ longestText) ⌝ }
 {
     log_text::print_log(log, buffer)
 }
@@ -154,7 +154,7 @@ pub extern "C" fn gauge_print_log(log: &[u8], buffer: &mut [u8]) -> usize
 // Walks a log: the command at a cursor, and the cursor to go on with.
 #[no_mangle]
 pub extern "C" fn gauge_walk(log: &[u8], cursor: Place) -> Walked
-    ensures { λ r. ⌜ r ≡ walkedFrom (now (log .entry)) cursor ⌝ }
+    ensures { λ r. ⌜ r ≡ walkFrom (now (log .entry)) cursor ⌝ }
 {
-    plain::walk_from(log, cursor)
+    log_plain::walk_from(log, cursor)
 }

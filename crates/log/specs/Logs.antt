@@ -9,11 +9,11 @@ use lib.ListN.{getD}
 use lib.IntN.{ℤ, pos}
 use Rattle.base.specs.Lists.{listTo}
 use Rattle.signed.specs.Int.{up}
-use Rattle.heads.specs.declared.Head.{Head}
+use Rattle.log_head.specs.declared.Head.{Head}
 use Rattle.log.specs.declared.Command.{Command}
 use Rattle.log.specs.declared.Command.the-variants as Cmd
 use Rattle.log.specs.Commands.{commandBytes}
-use Rattle.heads.specs.Heads.{gridOf, isStill}
+use Rattle.log_head.specs.Heads.{headBlocks, isStill}
 
 -- the number at place i of block k's three
 abbrev pub valueOf : List ℤ → ℕ → ℕ → ℤ
@@ -27,7 +27,7 @@ blockCommand list k =
     cond (isStill dy dx distortion) Cmd.Still (Cmd.Block dy dx (up distortion))
 
 unfoldable pub logCommands : Head → List ℤ → List Command
-logCommands h list = Cmd.Head h ∷ listTo (blockCommand list) (gridOf h) ++ (Cmd.End (gridOf h) ∷ [])
+logCommands h list = Cmd.Head h ∷ listTo (blockCommand list) (headBlocks h) ++ (Cmd.End (headBlocks h) ∷ [])
 
 unfoldable pub logOf : Head → List ℤ → List ℕ
 logOf h list = flatMap commandBytes (logCommands h list)

@@ -9,7 +9,7 @@ use mathlib.Core.Bool.{Bool, cond}
 use native.Mathlib.Omega.{arith}
 use lib.ListN.{length}
 use Rattle.log.specs.declared.Cursor.{Cursor}
-use Rattle.log.specs.declared.Stepped.{Stepped}
+use Rattle.log.specs.declared.WalkStep.{WalkStep}
 use Rattle.log.specs.declared.Command.{Command}
 use Rattle.log.specs.declared.Command.the-variants as Cmd
 use Rattle.log.specs.Commands.{isRefused}
@@ -30,7 +30,7 @@ lastOf (c ∷ []) = c
 lastOf (c ∷ d ∷ ds) = lastOf (d ∷ ds)
 
 -- one call, as a loop over a walk makes it
-pub commands-next : (calls : ℕ) (log : List ℕ) (c : Cursor) (s : Stepped) (t : Bool) → 0 < calls → s ≡ stepAt log c → t ≡ isRefused (s .command)
+pub commands-next : (calls : ℕ) (log : List ℕ) (c : Cursor) (s : WalkStep) (t : Bool) → 0 < calls → s ≡ stepAt log c → t ≡ isRefused (s .command)
     → commandsFrom calls log c ≡ s .command ∷ cond t [] (commandsFrom (calls - 1) log (s .next))
 unfolding commandsFrom
 commands-next zero log c s t p e f = absurd (omega arith)

@@ -8,9 +8,9 @@ ghost use lib.ListN.{length};
 ghost use Rattle.log.specs.declared.Phase.the-variants.{Start, Body};
 ghost use Rattle.log.specs.Numbers.{be2, be4};
 ghost use Rattle.log.specs.Commands.{commandNumber, sizeOf, placeOf, isRefused};
-ghost use Rattle.heads.specs.Heads.{headRefusal, gridOf};
-ghost use Rattle.log.specs.Step.{turnedAway, headIn, headAt, blockTaken, blockAt, stillAt, endAt, commandAt, afterEnd, standingOk, phaseOk, stepAt, startCursor};
-use heads::Head;
+ghost use Rattle.log_head.specs.Heads.{headRefusal, headBlocks};
+ghost use Rattle.log.specs.Step.{refusedStep, headIn, headAt, blockTaken, blockAt, stillAt, endAt, commandAt, afterEnd, standingOk, phaseOk, stepAt, startCursor};
+use log_head::Head;
 
 // How far a walk is: before the head, among the blocks with the head's numbers and how many blocks were read, after the end command, or
 // after a refusal.
@@ -37,7 +37,7 @@ pub enum Command {
 }
 
 // The command of one call, and the cursor after it.
-pub struct Stepped {
+pub struct WalkStep {
     pub command: Command,
     pub next: Cursor,
 }
@@ -177,10 +177,10 @@ pub fn head_in(log: &[u8], at: usize) -> Head
 // ---- one command
 
 // A refusal; the walk is over.
-fn turned_away(at: usize, number: u32, place: usize) -> Stepped
-    ensures { λ r. ⌜ r ≡ turnedAway at number place ⌝ }
+fn refused_step(at: usize, number: u32, place: usize) -> WalkStep
+    ensures { λ r. ⌜ r ≡ refusedStep at number place ⌝ }
 {
-    Stepped {
+    WalkStep {
         command: Command::Refused { number, place },
         next: Cursor {
             at,
@@ -190,18 +190,18 @@ fn turned_away(at: usize, number: u32, place: usize) -> Stepped
 }
 
 // A head where one is due.
-fn head_due(log: &[u8], at: usize) -> Stepped
+fn head_due(log: &[u8], at: usize) -> WalkStep
     requires { ⌜ at ≤ length (now log) ⌝ }
     ensures { λ r. ⌜ r ≡ headAt (now (log .entry)) at Start ⌝ }
 {
     if log.len() - at < HEAD_SIZE {
-        return turned_away(at, 13, at);
+        return refused_step(at, 13, at);
     }
     let head = head_in(log, at);
-    if heads::head_refusal(head) != 0 {
-        return turned_away(at, 15, at);
+    if log_head::head_refusal(head) != 0 {
+        return refused_step(at, 15, at);
     }
-    Stepped {
+    WalkStep {
         command: Command::Head(head),
         next: Cursor {
             at: at + HEAD_SIZE,
@@ -210,48 +210,48 @@ fn head_due(log: &[u8], at: usize) -> Stepped
     }
 }
 
-fn head_at(log: &[u8], at: usize, phase: Phase) -> Stepped
+fn head_at(log: &[u8], at: usize, phase: Phase) -> WalkStep
     requires { ⌜ at ≤ length (now log) ⌝ }
     ensures { λ r. ⌜ r ≡ headAt (now (log .entry)) at phase ⌝ }
 {
     match phase {
         Phase::Start => head_due(log, at),
-        Phase::Body { head: _, blocks: _ } => turned_away(at, 14, at),
-        Phase::Ended => turned_away(at, 14, at),
-        Phase::Over => turned_away(at, 14, at),
+        Phase::Body { head: _, blocks: _ } => refused_step(at, 14, at),
+        Phase::Ended => refused_step(at, 14, at),
+        Phase::Over => refused_step(at, 14, at),
     }
 }
 
 // A block as command 2, among the blocks.
-fn block_due(log: &[u8], at: usize, head: Head, blocks: usize) -> Stepped
+fn block_due(log: &[u8], at: usize, head: Head, blocks: usize) -> WalkStep
     requires { ⌜ (at ≤ length (now log)) × (standingOk head blocks ≡ true) ⌝ }
     ensures { λ r. ⌜ r ≡ blockAt (now (log .entry)) at (Body head blocks) ⌝ }
 {
-    if blocks >= heads::grid(head) {
-        return turned_away(at, 14, at);
+    if blocks >= log_head::head_blocks(head) {
+        return refused_step(at, 14, at);
     }
     if log.len() - at < BLOCK_SIZE {
-        return turned_away(at, 13, at);
+        return refused_step(at, 13, at);
     }
     block_taken(log, at, head, blocks)
 }
 
 // What a whole block command that is due hands out: the block, or 16.
 pub fn block_in(log: &[u8], at: usize, head: Head, blocks: usize) -> Command
-    requires { ⌜ (at + 5 ≤ length (now log)) × (headRefusal head ≡ 0) × (blocks < gridOf head) ⌝ }
+    requires { ⌜ (at + 5 ≤ length (now log)) × (headRefusal head ≡ 0) × (blocks < headBlocks head) ⌝ }
     ensures { λ r. ⌜ r ≡ blockTaken (now (log .entry)) at head blocks .command ⌝ }
 {
     let dy = signed::from_byte(log[at + 1]);
     let dx = signed::from_byte(log[at + 2]);
     let distortion = two(log, at + 3);
     let d = distortion as i32;
-    if !heads::entry_ok(head, blocks, dy, dx, d) {
+    if !log_head::entry_ok(head, blocks, dy, dx, d) {
         return Command::Refused {
             number: 16,
             place: at,
         };
     }
-    if heads::is_still(dy, dx, d) {
+    if log_head::is_still(dy, dx, d) {
         return Command::Refused {
             number: 16,
             place: at,
@@ -265,15 +265,15 @@ pub fn block_in(log: &[u8], at: usize, head: Head, blocks: usize) -> Command
 }
 
 // A whole block command that is due.
-fn block_taken(log: &[u8], at: usize, head: Head, blocks: usize) -> Stepped
-    requires { ⌜ (at + 5 ≤ length (now log)) × (headRefusal head ≡ 0) × (blocks < gridOf head) ⌝ }
+fn block_taken(log: &[u8], at: usize, head: Head, blocks: usize) -> WalkStep
+    requires { ⌜ (at + 5 ≤ length (now log)) × (headRefusal head ≡ 0) × (blocks < headBlocks head) ⌝ }
     ensures { λ r. ⌜ r ≡ blockTaken (now (log .entry)) at head blocks ⌝ }
 {
     let command = block_in(log, at, head, blocks);
     if is_refused(command) {
-        return turned_away(at, 16, at);
+        return refused_step(at, 16, at);
     }
-    Stepped {
+    WalkStep {
         command,
         next: Cursor {
             at: at + BLOCK_SIZE,
@@ -285,27 +285,27 @@ fn block_taken(log: &[u8], at: usize, head: Head, blocks: usize) -> Stepped
     }
 }
 
-fn block_at(log: &[u8], at: usize, phase: Phase) -> Stepped
+fn block_at(log: &[u8], at: usize, phase: Phase) -> WalkStep
     requires { ⌜ (at ≤ length (now log)) × (phaseOk phase ≡ true) ⌝ }
     ensures { λ r. ⌜ r ≡ blockAt (now (log .entry)) at phase ⌝ }
 {
     match phase {
         Phase::Body { head, blocks } => block_due(log, at, head, blocks),
-        Phase::Start => turned_away(at, 14, at),
-        Phase::Ended => turned_away(at, 14, at),
-        Phase::Over => turned_away(at, 14, at),
+        Phase::Start => refused_step(at, 14, at),
+        Phase::Ended => refused_step(at, 14, at),
+        Phase::Over => refused_step(at, 14, at),
     }
 }
 
 // A still block, among the blocks.
-fn still_due(log: &[u8], at: usize, head: Head, blocks: usize) -> Stepped
+fn still_due(log: &[u8], at: usize, head: Head, blocks: usize) -> WalkStep
     requires { ⌜ (at < length (now log)) × (standingOk head blocks ≡ true) ⌝ }
     ensures { λ r. ⌜ r ≡ stillAt (now (log .entry)) at (Body head blocks) ⌝ }
 {
-    if blocks >= heads::grid(head) {
-        return turned_away(at, 14, at);
+    if blocks >= log_head::head_blocks(head) {
+        return refused_step(at, 14, at);
     }
-    Stepped {
+    WalkStep {
         command: Command::Still,
         next: Cursor {
             at: at + STILL_SIZE,
@@ -317,35 +317,35 @@ fn still_due(log: &[u8], at: usize, head: Head, blocks: usize) -> Stepped
     }
 }
 
-fn still_at(log: &[u8], at: usize, phase: Phase) -> Stepped
+fn still_at(log: &[u8], at: usize, phase: Phase) -> WalkStep
     requires { ⌜ (at < length (now log)) × (phaseOk phase ≡ true) ⌝ }
     ensures { λ r. ⌜ r ≡ stillAt (now (log .entry)) at phase ⌝ }
 {
     match phase {
         Phase::Body { head, blocks } => still_due(log, at, head, blocks),
-        Phase::Start => turned_away(at, 14, at),
-        Phase::Ended => turned_away(at, 14, at),
-        Phase::Over => turned_away(at, 14, at),
+        Phase::Start => refused_step(at, 14, at),
+        Phase::Ended => refused_step(at, 14, at),
+        Phase::Over => refused_step(at, 14, at),
     }
 }
 
 // An end command, among the blocks.
-fn end_due(log: &[u8], at: usize, head: Head, blocks: usize) -> Stepped
+fn end_due(log: &[u8], at: usize, head: Head, blocks: usize) -> WalkStep
     requires { ⌜ (at ≤ length (now log)) × (standingOk head blocks ≡ true) ⌝ }
     ensures { λ r. ⌜ r ≡ endAt (now (log .entry)) at (Body head blocks) ⌝ }
 {
-    let all = heads::grid(head);
+    let all = log_head::head_blocks(head);
     let left = log.len() - at;
     if blocks < all {
-        return turned_away(at, 14, at); // not due
+        return refused_step(at, 14, at); // not due
     }
     if left < END_SIZE {
-        return turned_away(at, 13, at); // cut off
+        return refused_step(at, 13, at); // cut off
     }
     if four(log, at + 1) != all {
-        return turned_away(at, 17, at);
+        return refused_step(at, 17, at);
     }
-    Stepped {
+    WalkStep {
         command: Command::End(all),
         next: Cursor {
             at: at + END_SIZE, // the first extra byte, where there is one
@@ -354,45 +354,45 @@ fn end_due(log: &[u8], at: usize, head: Head, blocks: usize) -> Stepped
     }
 }
 
-fn end_at(log: &[u8], at: usize, phase: Phase) -> Stepped
+fn end_at(log: &[u8], at: usize, phase: Phase) -> WalkStep
     requires { ⌜ (at ≤ length (now log)) × (phaseOk phase ≡ true) ⌝ }
     ensures { λ r. ⌜ r ≡ endAt (now (log .entry)) at phase ⌝ }
 {
     match phase {
         Phase::Body { head, blocks } => end_due(log, at, head, blocks),
-        Phase::Start => turned_away(at, 14, at),
-        Phase::Ended => turned_away(at, 14, at),
-        Phase::Over => turned_away(at, 14, at),
+        Phase::Start => refused_step(at, 14, at),
+        Phase::Ended => refused_step(at, 14, at),
+        Phase::Over => refused_step(at, 14, at),
     }
 }
 
 // The command byte decides.
-fn command_at(log: &[u8], at: usize, phase: Phase) -> Stepped
+fn command_at(log: &[u8], at: usize, phase: Phase) -> WalkStep
     requires { ⌜ (at ≤ length (now log)) × (phaseOk phase ≡ true) ⌝ }
     ensures { λ r. ⌜ r ≡ commandAt (now (log .entry)) at phase ⌝ }
 {
     if log.len() <= at {
-        return turned_away(at, 13, at);
+        return refused_step(at, 13, at);
     }
     let command = log[at];
     match command {
-        0 => turned_away(at, 14, at),
+        0 => refused_step(at, 14, at),
         1 => head_at(log, at, phase),
         2 => block_at(log, at, phase),
         3 => still_at(log, at, phase),
         4 => end_at(log, at, phase),
-        5..=255 => turned_away(at, 14, at),
+        5..=255 => refused_step(at, 14, at),
     }
 }
 
 // The call after the end command.
-fn after_end(log: &[u8], at: usize) -> Stepped
+fn after_end(log: &[u8], at: usize) -> WalkStep
     ensures { λ r. ⌜ r ≡ afterEnd (now (log .entry)) at ⌝ }
 {
     if at < log.len() {
-        turned_away(at, 18, at)
+        refused_step(at, 18, at)
     } else {
-        turned_away(at, 34, 0)
+        refused_step(at, 34, 0)
     }
 }
 
@@ -400,20 +400,20 @@ fn after_end(log: &[u8], at: usize) -> Stepped
 fn standing(head: Head, blocks: usize) -> bool
     ensures { λ r. ⌜ r ≡ standingOk head blocks ⌝ }
 {
-    if heads::head_refusal(head) != 0 {
+    if log_head::head_refusal(head) != 0 {
         return false;
     }
-    blocks <= heads::grid(head)
+    blocks <= log_head::head_blocks(head)
 }
 
 // One call of the walker: the command at the cursor, and the cursor after it.
-pub fn step_at(log: &[u8], cursor: Cursor) -> Stepped
+pub fn step_at(log: &[u8], cursor: Cursor) -> WalkStep
     ensures { λ r. ⌜ r ≡ stepAt (now (log .entry)) cursor ⌝ }
 {
     let at = cursor.at;
     let phase = cursor.phase;
     if log.len() < at {
-        return turned_away(at, 34, 0);
+        return refused_step(at, 34, 0);
     }
     match phase {
         Phase::Start => command_at(log, at, phase),
@@ -421,11 +421,11 @@ pub fn step_at(log: &[u8], cursor: Cursor) -> Stepped
             if standing(head, blocks) {
                 command_at(log, at, phase)
             } else {
-                turned_away(at, 34, 0)
+                refused_step(at, 34, 0)
             }
         }
         Phase::Ended => after_end(log, at),
-        Phase::Over => turned_away(at, 34, 0),
+        Phase::Over => refused_step(at, 34, 0),
     }
 }
 

@@ -9,36 +9,36 @@ use borrow.Author.Tests.{eqb-true, ltb-false}
 use lib.Dec.{ltb, eqb}
 use lib.IntN.{ℤ}
 use lib.ListN.{length, drop, length-append}
-use Rattle.heads.specs.declared.Head.{Head}
+use Rattle.log_head.specs.declared.Head.{Head}
 use Rattle.log.specs.declared.Cursor.{Cursor}
 use Rattle.log.specs.declared.Command.{Command}
 use Rattle.log.specs.declared.Command.the-variants as Cmd
-use Rattle.log.specs.declared.Stepped.{Stepped}
+use Rattle.log.specs.declared.WalkStep.{WalkStep}
 use Rattle.log.specs.Commands.{commandNumber, isRefused, blockValues}
 use Rattle.frame.specs.Pictures.{largestDistortion}
-use Rattle.heads.specs.Heads.{gridOf, entry}
-use Rattle.put.specs.Put.{Rest, rest-last, put-over, over-fits}
+use Rattle.log_head.specs.Heads.{headBlocks, entry}
+use Rattle.put.specs.Put.{StillToPut, rest-last, put-over, over-fits}
 use Rattle.log.specs.Step.{headIn, stepAt, startCursor}
 use Rattle.log.specs.Walk.{commandsFrom, commands-next, walk, lastOf}
-use Rattle.walks.specs.Cases.{Kind, kinds}
-use Rattle.walks.specs.Cases as Cases
-use Rattle.walks.proofs.Ends.{last-after, refused-number, ends}
-use Rattle.walks.proofs.Accepted.{field-length}
+use Rattle.log_walks.specs.Cases.{Kind, kinds}
+use Rattle.log_walks.specs.Cases as Cases
+use Rattle.log_walks.proofs.Ends.{last-after, refused-number, ends}
+use Rattle.log_walks.proofs.Accepted.{field-length}
 use Rattle.log_reading.specs.Reading.{fieldOf, refusedRead, refusedBy, acceptedRead, logRead}
 use Rattle.log_reading.specs.Storing.{distortionIn}
 
-module _ (left : ℕ) (log : List ℕ) (c : Cursor) (s : Stepped) (t : Bool) (some : 0 < left) (e : s ≡ stepAt log c) (f : t ≡ isRefused (s .command)) where
+module _ (left : ℕ) (log : List ℕ) (c : Cursor) (s : WalkStep) (t : Bool) (some : 0 < left) (e : s ≡ stepAt log c) (f : t ≡ isRefused (s .command)) where
   -- how it ends
   pub end-turn : (x whole : Command) → lastOf (x ∷ commandsFrom left log c) ≡ whole → lastOf (s .command ∷ cond t [] (commandsFrom (left - 1) log (s .next))) ≡ whole
   unfolding lastOf
   end-turn x whole h = rw (commands-next left log c s t some e f) at h
 
 -- all is stored
-pub stored : {list before whole : List ℤ} {at : ℕ} → Rest list at [] before 0 whole → length whole ≤ length before → list ≡ whole ++ drop (length whole) before
+pub stored : {list before whole : List ℤ} {at : ℕ} → StillToPut list at [] before 0 whole → length whole ≤ length before → list ≡ whole ++ drop (length whole) before
 stored {before} {whole} r fits = put-over (rest-last r) .0 ∙ over-fits whole before fits
 
 -- the numbers of a call's command are among those of the rest
-pub store-room : (left : ℕ) (log : List ℕ) (c : Cursor) (s : Stepped) → 0 < left → s ≡ stepAt log c
+pub store-room : (left : ℕ) (log : List ℕ) (c : Cursor) (s : WalkStep) → 0 < left → s ≡ stepAt log c
     → length (blockValues (s .command)) ≤ length (fieldOf (commandsFrom left log c))
 unfolding fieldOf flatMap
 store-room left log c s some e =
@@ -56,7 +56,7 @@ end-first x log = last-after x (length log + 1) log startCursor (omega arith)
 pub step-fits : (log : List ℕ) (c : Cursor) → distortionIn (stepAt log c .command) ≤ largestDistortion
 step-fits log c = go (stepAt log c) (kinds log c)
   where
-    go : (s : Stepped) → Kind log c s → distortionIn (s .command) ≤ largestDistortion
+    go : (s : WalkStep) → Kind log c s → distortionIn (s .command) ≤ largestDistortion
     go s (Cases.refused number place a b w) = omega arith
     go s (Cases.head q b f r) = omega arith
     go s (Cases.block h k q r g b f o t) = entry h r k _ _ _ o .most
@@ -68,7 +68,7 @@ step-fits log c = go (stepAt log c) (kinds log c)
 -- the list has room for the blocks
 pub roomy : (log : List ℕ) (list : ℕ) → logRead log list .refusal ≡ 0 → length (fieldOf (walk log)) ≤ list
 unfolding logRead fieldOf
-roomy log list e = go (isRefused begun) refl (ltb list (3 * gridOf h)) refl (eqb (commandNumber ended) 34) refl e
+roomy log list e = go (isRefused begun) refl (ltb list (3 * headBlocks h)) refl (eqb (commandNumber ended) 34) refl e
   where
     begun : Command
     begun = stepAt log startCursor .command
@@ -79,9 +79,9 @@ roomy log list e = go (isRefused begun) refl (ltb list (3 * gridOf h)) refl (eqb
     h : Head
     h = headIn log 0
 
-    go : (a : Bool) → isRefused begun ≡ a → (b : Bool) → ltb list (3 * gridOf h) ≡ b → (t : Bool) → eqb (commandNumber ended) 34 ≡ t
+    go : (a : Bool) → isRefused begun ≡ a → (b : Bool) → ltb list (3 * headBlocks h) ≡ b → (t : Bool) → eqb (commandNumber ended) 34 ≡ t
         → cond a (refusedBy begun) (cond b (refusedRead 10 8) (cond t (acceptedRead h) (refusedBy ended))) .refusal ≡ 0 → length (flatMap blockValues (walk log)) ≤ list
     go true ea b eb t et e = absurd (omega (arith, refused-number log startCursor ea))
     go false ea true eb t et e = absurd (omega arith)
-    go false ea false eb true et e = omega (arith, field-length log (eqb-true (commandNumber ended) 34 et), ltb-false list (3 * gridOf h) eb)
+    go false ea false eb true et e = omega (arith, field-length log (eqb-true (commandNumber ended) 34 et), ltb-false list (3 * headBlocks h) eb)
     go false ea false eb false et e = absurd (omega (arith, ends log .least))

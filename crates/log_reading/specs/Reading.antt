@@ -2,17 +2,17 @@
 -- after an accepted head, with place 8". Nothing is stored before the whole log is accepted.
 --   fieldOf    the list that a walk's blocks make, three numbers each, in order
 --   logRead    what the call answers: the head's refusal; 10; the refusal of the rest; or the head's numbers. The list comes in by its length
---   Reading    that, with what the list then holds: readInto
+--   ReadResult    that, with what the list then holds: readLog
 use Prim.Native.Nat.{ℕ, _*_}
 use mathlib.Core.List.{List, _++_, flatMap}
 use mathlib.Core.Bool.{cond}
 use lib.Dec.{ltb, eqb}
 use lib.IntN.{ℤ}
 use lib.ListN.{length, drop}
-use Rattle.heads.specs.declared.Head.{Head}
+use Rattle.log_head.specs.declared.Head.{Head}
 use Rattle.log.specs.declared.Command.{Command}
 use Rattle.log.specs.Commands.{commandNumber, placeOf, isRefused, blockValues}
-use Rattle.heads.specs.Heads.{gridOf}
+use Rattle.log_head.specs.Heads.{headBlocks}
 use Rattle.log.specs.Step.{headIn, stepAt, startCursor}
 use Rattle.log.specs.Walk.{walk, lastOf}
 use Rattle.log_reading.specs.declared.LogRead.{LogRead}
@@ -38,20 +38,20 @@ logRead log list =
     let ended = lastOf (walk log) in
     let h = headIn log 0 in
     cond (isRefused begun) (refusedBy begun)
-    (cond (ltb list (3 * gridOf h)) (refusedRead 10 8)
+    (cond (ltb list (3 * headBlocks h)) (refusedRead 10 8)
     (cond (eqb (commandNumber ended) 34) (acceptedRead h) (refusedBy ended)))
 
 -- ---- the call
 
-pub record Reading : Type 0 where
+pub record ReadResult : Type 0 where
   pub answer : LogRead
   pub list : List ℤ
 
-abbrev pub asReading : LogRead → List ℤ → Reading
-asReading answer list = record { answer = answer; list = list }
+abbrev pub readResult : LogRead → List ℤ → ReadResult
+readResult answer list = record { answer = answer; list = list }
 
-unfoldable pub readInto : List ℕ → List ℤ → Reading
-readInto log list =
+unfoldable pub readLog : List ℕ → List ℤ → ReadResult
+readLog log list =
     let answer = logRead log (length list) in
     let field = fieldOf (walk log) in
-    asReading answer (cond (eqb (answer .refusal) 0) (field ++ drop (length field) list) list)
+    readResult answer (cond (eqb (answer .refusal) 0) (field ++ drop (length field) list) list)

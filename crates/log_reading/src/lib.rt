@@ -1,4 +1,4 @@
-// Reading a whole log of document 01 into a lent list, three numbers a block. Nothing is stored before the whole log is accepted.
+// ReadResult a whole log of document 01 into a lent list, three numbers a block. Nothing is stored before the whole log is accepted.
 
 ghost use mathlib.Core.Path.{_≡_};
 ghost use mathlib.Core.List.{[], _∷_, _++_};
@@ -9,10 +9,10 @@ ghost use Rattle.put.specs.Put.{Put};
 ghost use Rattle.frame.specs.Pictures.{largestDistortion};
 ghost use Rattle.log.specs.Commands.{blockValues};
 ghost use Rattle.log.specs.Walk.{walk, lastOf};
-ghost use Rattle.log_reading.specs.Reading.{fieldOf, refusedRead, refusedBy, logRead, asReading, readInto};
+ghost use Rattle.log_reading.specs.Reading.{fieldOf, refusedRead, refusedBy, logRead, readResult, readLog};
 ghost use Rattle.log_reading.specs.Storing.{distortionIn};
-use heads::Head;
 use log::Command;
+use log_head::Head;
 
 // What reading answers: the head's numbers, or a refusal with its place.
 #[repr(C)]
@@ -78,7 +78,7 @@ fn log_read(log: &[u8], list: usize) -> LogRead
         return refused_by(begun);
     }
     let head = log::head_in(log, 0);
-    if list < 3 * heads::grid(head) {
+    if list < 3 * log_head::head_blocks(head) {
         return refused_read(10, 8);
     }
     let ended = walk_end(log);
@@ -143,7 +143,7 @@ fn fill(log: &[u8], list: &mut [i32])
 
 // Reads the whole log into the list.
 pub fn read_log(log: &[u8], list: &mut [i32]) -> LogRead
-    ensures { λ r. ⌜ asReading r (now (list .exit)) ≡ readInto (now (log .entry)) (now (list .entry)) ⌝ }
+    ensures { λ r. ⌜ readResult r (now (list .exit)) ≡ readLog (now (log .entry)) (now (list .entry)) ⌝ }
 {
     let answer = log_read(log, list.len());
     if answer.refusal != 0 {

@@ -6,21 +6,21 @@ use mathlib.Core.List.{List, [], _++_, flatMap}
 use mathlib.Core.Bool.{false, cond}
 use borrow.Author.Tests.{lt-ltb}
 use lib.ListN.{length, getD}
-use Rattle.put.specs.Put.{Put, Rest}
-use Rattle.heads.specs.declared.Head.{Head}
-use Rattle.heads.specs.Heads.{headRefusal, gridOf}
+use Rattle.put.specs.Put.{Put, StillToPut}
+use Rattle.log_head.specs.declared.Head.{Head}
+use Rattle.log_head.specs.Heads.{headRefusal, headBlocks}
 use Rattle.log.specs.declared.Command.{Command}
 use Rattle.log.specs.declared.Command.the-variants as Cmd
-use Rattle.log.specs.declared.Stepped.{Stepped}
+use Rattle.log.specs.declared.WalkStep.{WalkStep}
 use Rattle.log.specs.declared.Phase.the-variants.{Body}
 use Rattle.log.specs.Commands.{commandNumber, commandBytes, isRefused}
-use Rattle.log.specs.Step.{handedOut, blockTaken, byCommand, stepAt, startCursor, judged-whole, block-handed}
+use Rattle.log.specs.Step.{commandStep, blockTaken, byCommand, stepAt, startCursor, judged-whole, block-handed}
 use Rattle.log.specs.Walk.{commandsFrom, walk}
-use Rattle.walks.specs.Cases.{kinds}
-use Rattle.walks.proofs.Ends.{goes-on}
-use Rattle.walks.proofs.Steps.{decides}
-use Rattle.walks.proofs.Accepted.{walk-begins}
-use Rattle.walks.proofs.Turns.{turn}
+use Rattle.log_walks.specs.Cases.{kinds}
+use Rattle.log_walks.proofs.Ends.{goes-on}
+use Rattle.log_walks.proofs.Steps.{decides}
+use Rattle.log_walks.proofs.Accepted.{walk-begins}
+use Rattle.log_walks.proofs.Turns.{turn}
 use Rattle.log_text.specs.Text.{lineOf}
 use Rattle.log_text.specs.Quick.{among, Quick}
 
@@ -29,11 +29,11 @@ use Rattle.log_text.specs.Quick.{among, Quick}
 pub quick-none : (log : List ℕ) (at : ℕ) (h : Head) (k : ℕ) → Quick log at h k (Cmd.Refused 0 0)
 quick-none log at h k = record { says = λ e. cc }
 
-module _ (log : List ℕ) (at : ℕ) (h : Head) (k : ℕ) (ok : headRefusal h ≡ 0) (due : k < gridOf h) where
+module _ (log : List ℕ) (at : ℕ) (h : Head) (k : ℕ) (ok : headRefusal h ≡ 0) (due : k < headBlocks h) where
   pub quick-still : at < length log → getD log at 0 ≡ 3 → Quick log at h k Cmd.Still
   unfolding byCommand
   quick-still there byte = record {
-    says = λ e. decides log at h k ok (omega arith) there ∙ rw byte (judged-whole 1 log at _ _ (lt-ltb k (gridOf h) due) (omega arith));
+    says = λ e. decides log at h k ok (omega arith) there ∙ rw byte (judged-whole 1 log at _ _ (lt-ltb k (headBlocks h) due) (omega arith));
   }
 
   pub quick-block : at + 5 ≤ length log → getD log at 0 ≡ 2 → (command : Command) → command ≡ blockTaken log at h k .command → Quick log at h k command
@@ -41,8 +41,8 @@ module _ (log : List ℕ) (at : ℕ) (h : Head) (k : ℕ) (ok : headRefusal h �
   quick-block whole byte command is = record {
     says = λ e.
         let b = block-handed log at h k (ap isRefused (sym is) ∙ e) in
-        let c : command ≡ Cmd.Block _ _ _ = is ∙ ap (λ (s : Stepped). s .command) b in
-        decides log at h k ok (omega arith) (omega arith) ∙ rw byte (judged-whole 5 log at _ _ (lt-ltb k (gridOf h) due) whole ∙ b ∙ rw c);
+        let c : command ≡ Cmd.Block _ _ _ = is ∙ ap (λ (s : WalkStep). s .command) b in
+        decides log at h k ok (omega arith) (omega arith) ∙ rw byte (judged-whole 5 log at _ _ (lt-ltb k (headBlocks h) due) whole ∙ b ∙ rw c);
   }
 
 -- ---- a turn
@@ -59,19 +59,19 @@ module _ (log : List ℕ) (at : ℕ) (h : Head) (k : ℕ) (command : Command) (q
   abbrev size : ℕ
   size = length (commandBytes command)
 
-  step : stepAt log (among h at k) ≡ handedOut command at (Body h (k + 1))
+  step : stepAt log (among h at k) ≡ commandStep command at (Body h (k + 1))
   step = q .says e
 
   -- it goes on inside the log
   pub quick-on : (at < at + size) × (at + size ≤ length log)
-  quick-on = rw step at (goes-on log (among h at k) (stepAt log (among h at k)) (kinds log (among h at k)) (ap (λ (s : Stepped). isRefused (s .command)) step ∙ e))
+  quick-on = rw step at (goes-on log (among h at k) (stepAt log (among h at k)) (kinds log (among h at k)) (ap (λ (s : WalkStep). isRefused (s .command)) step ∙ e))
 
   pub quick-turn : {out m before whole : List ℕ} {place next from : ℕ} → k < length log
-      → Rest out place (flatMap lineOf (commandsFrom (length log - k) log (among h at k))) before from whole → Put out place (lineOf command) m next
-      → Rest m next (flatMap lineOf (commandsFrom (length log - (k + 1)) log (among h (at + size) (k + 1)))) before from whole
+      → StillToPut out place (flatMap lineOf (commandsFrom (length log - k) log (among h at k))) before from whole → Put out place (lineOf command) m next
+      → StillToPut m next (flatMap lineOf (commandsFrom (length log - (k + 1)) log (among h (at + size) (k + 1)))) before from whole
   quick-turn {next} l r p =
       let n : length log - k - 1 ≡ length log - (k + 1) = omega arith in
-      rw n at (turn lineOf (length log - k) log (among h at k) (handedOut command at (Body h (k + 1))) false (omega arith) (sym step) (sym e) r p)
+      rw n at (turn lineOf (length log - k) log (among h at k) (commandStep command at (Body h (k + 1))) false (omega arith) (sym step) (sym e) r p)
 
 -- ---- the first line
 

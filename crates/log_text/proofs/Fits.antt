@@ -14,17 +14,17 @@ use borrow.Author.Tests.{lt-ltb, le-ltb}
 use lib.ListN.{length, length-append}
 use lib.Dec.{ltb, eqb}
 use lib.IntN.{ℤ, pos, negsuc, natAbs}
-use Rattle.put.specs.Put.{Put, over, put-over}
-use Rattle.heads.specs.declared.Head.{Head}
+use Rattle.put.specs.Put.{Put, overFront, put-over}
+use Rattle.log_head.specs.declared.Head.{Head}
 use Rattle.log.specs.declared.Cursor.{Cursor}
 use Rattle.log.specs.declared.Command.the-variants as Cmd
-use Rattle.log.specs.declared.Stepped.{Stepped}
+use Rattle.log.specs.declared.WalkStep.{WalkStep}
 use Rattle.log.specs.Commands.{isRefused}
-use Rattle.heads.specs.Heads.{Headed, headed, Entry, entry}
+use Rattle.log_head.specs.Heads.{Headed, headed, Entry, entry}
 use Rattle.log.specs.Step.{stepAt, startCursor}
 use Rattle.log.specs.Walk.{commandsFrom, walk}
-use Rattle.walks.specs.Cases.{Kind, kinds}
-use Rattle.log_text.specs.Text.{digits, decimal, number, spaced, endWord, refusedWord, atWord, worded, lineOf, longestLog, longestText, printed}
+use Rattle.log_walks.specs.Cases.{Kind, kinds}
+use Rattle.log_text.specs.Text.{digits, decimal, numberText, spaced, endWord, refusedWord, atWord, worded, lineOf, longestLog, longestText, printLog}
 use Rattle.log_text.proofs.Texts.{digits-one, cond-length, digits-length}
 
 record Short (text : List ℕ) (n : ℕ) : Type 0 where
@@ -48,17 +48,17 @@ digits-few (suc k) (suc most) n h =
     cond-length (ltb n 10) ((48 + n) ∷ []) (digits most (n / 10) ++ ((48 + n % 10) ∷ [])) (suc (suc k)) (omega arith)
     (omega (arith, length-append (digits most (n / 10)) ((48 + n % 10) ∷ []), digits-few k most (n / 10) (omega arith)))
 
-any-number : (n after : ℕ) → Short (number (pos n) after) 21
-unfolding number
+any-number : (n after : ℕ) → Short (numberText (pos n) after) 21
+unfolding numberText
 any-number n after = record { most = omega (arith, length-append (decimal n) (after ∷ []), digits-length 20 n) }
 
 -- a number of at most k + 1 digits
-few-digits : (k n after : ℕ) → n < limit k → Short (number (pos n) after) (k + 2)
-unfolding number
+few-digits : (k n after : ℕ) → n < limit k → Short (numberText (pos n) after) (k + 2)
+unfolding numberText
 few-digits k n after h = record { most = omega (arith, length-append (decimal n) (after ∷ []), digits-few k 20 n h) }
 
-few-signed : (k : ℕ) (z : ℤ) (after : ℕ) → natAbs z < limit k → Short (number z after) (k + 3)
-unfolding number
+few-signed : (k : ℕ) (z : ℤ) (after : ℕ) → natAbs z < limit k → Short (numberText z after) (k + 3)
+unfolding numberText
 few-signed k (pos n) after h = record { most = omega (arith, few-digits k n after h .most) }
 few-signed k (negsuc n) after h = record { most = omega (arith, few-digits k (suc n) after h .most) }
 
@@ -103,7 +103,7 @@ refused-line n place h p =
     record { most = cond-length (eqb n 34) [] (worded (Cmd.Refused n place)) 20 (omega arith) (refused-words n place h p .most) }
 
 still-line : Short (lineOf Cmd.Still) 6
-unfolding worded spaced number digits
+unfolding worded spaced numberText digits
 still-line = record { most = omega arith }
 
 -- ---- the text
@@ -125,7 +125,7 @@ one-more calls log c small after h = go (stepAt log c) (kinds log c)
         → length (line ++ textFrom calls log next) + 6 * c .at ≤ 6 * length log + 20
     more line next m s l g = omega (arith, length-append line (textFrom calls log next), s .most, after next l)
 
-    go : (s : Stepped) → Kind log c s
+    go : (s : WalkStep) → Kind log c s
         → length (lineOf (s .command) ++ flatMap lineOf (cond (isRefused (s .command)) [] (commandsFrom calls log (s .next)))) + 6 * c .at ≤ 6 * length log + 20
     go s (Kind.refused n place a b none) = omega (arith, length-append (lineOf (Cmd.Refused n place)) [], refused-line n place a (omega arith) .most)
     go s (Kind.head phase byte whole ok) = more _ _ _ (head-line _ (headed _ ok)) whole (omega arith)
@@ -138,25 +138,25 @@ unfolding commandsFrom flatMap
 from-here zero log c small h = omega arith
 from-here (suc calls) log c small h = one-more calls log c small (λ next l. from-here calls log next small l) h
 
-pub printed-long : (log : List ℕ) → longestLog < length log → printed log ≡ worded (Cmd.Refused 20 longestLog)
-unfolding printed
+pub printed-long : (log : List ℕ) → longestLog < length log → printLog log ≡ worded (Cmd.Refused 20 longestLog)
+unfolding printLog
 printed-long log h = rw (lt-ltb longestLog (length log) h)
 
-pub printed-walk : (log : List ℕ) → length log ≤ longestLog → printed log ≡ flatMap lineOf (walk log)
-unfolding printed
+pub printed-walk : (log : List ℕ) → length log ≤ longestLog → printLog log ≡ flatMap lineOf (walk log)
+unfolding printLog
 printed-walk log h = rw (le-ltb longestLog (length log) h)
 
-pub fits : (log : List ℕ) → length (printed log) ≤ longestText
+pub fits : (log : List ℕ) → length (printLog log) ≤ longestText
 unfolding walk
 fits log = go (decLt longestLog (length log))
   where
-    go : Dec (65536 < length log) → length (printed log) ≤ longestText
+    go : Dec (65536 < length log) → length (printLog log) ≤ longestText
     go (yes h) = rw (printed-long log h) (omega (arith, refused-words 20 longestLog (omega arith) (omega arith) .most))
     go (no h) = rw (printed-walk log (omega arith)) (omega (arith, from-here (length log + 1) log startCursor (omega arith) (omega arith)))
 
 -- the whole text put from the start on
-pub all-put : {before after text : List ℕ} {next : ℕ} (log : List ℕ) → printed log ≡ text → Put before 0 text after next → (after ≡ over (printed log) before) × (next ≡ length (printed log)) × (next ≤ longestText)
+pub all-put : {before after text : List ℕ} {next : ℕ} (log : List ℕ) → printLog log ≡ text → Put before 0 text after next → (after ≡ overFront (printLog log) before) × (next ≡ length (printLog log)) × (next ≤ longestText)
 all-put {next} log e p =
     let o = put-over p in
-    let n : next ≡ length (printed log) = rw e (o .1) in
+    let n : next ≡ length (printLog log) = rw e (o .1) in
     (rw e (o .0), n, omega (arith, fits log))

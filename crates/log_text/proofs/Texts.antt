@@ -17,7 +17,7 @@ use lib.Dec.{ltb}
 use lib.IntN.{ℤ, pos, negsuc, natAbs}
 use Rattle.signed.specs.Int.{dn}
 use Rattle.put.specs.Put.{Put, put-then}
-use Rattle.log_text.specs.Text.{digits, number}
+use Rattle.log_text.specs.Text.{digits, numberText}
 
 pub digits-one : (most n : ℕ) → 0 < most → n < 10 → digits most n ≡ (48 + n) ∷ []
 unfolding digits
@@ -42,13 +42,13 @@ digits-length (suc most) n =
     cond-length (ltb n 10) ((48 + n) ∷ []) (digits most (n / 10) ++ ((48 + n % 10) ∷ [])) (suc most) (omega arith)
     (omega (arith, length-append (digits most (n / 10)) ((48 + n % 10) ∷ []), digits-length most (n / 10)))
 
-pub number-below : (z : ℤ) (after : ℕ) → 0 < dn z → number z after ≡ 45 ∷ number (pos (natAbs z)) after
-unfolding number
+pub number-below : (z : ℤ) (after : ℕ) → 0 < dn z → numberText z after ≡ 45 ∷ numberText (pos (natAbs z)) after
+unfolding numberText
 number-below (pos n) after h = absurd (omega arith)
 number-below (negsuc n) after h = refl
 
-pub number-kept : (z : ℤ) (after : ℕ) → dn z ≡ 0 → number z after ≡ number (pos (natAbs z)) after
-unfolding number
+pub number-kept : (z : ℤ) (after : ℕ) → dn z ≡ 0 → numberText z after ≡ numberText (pos (natAbs z)) after
+unfolding numberText
 number-kept (pos n) after h = refl
 number-kept (negsuc n) after h = absurd (omega arith)
 

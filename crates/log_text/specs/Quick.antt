@@ -5,15 +5,15 @@ use Prim.Native.Nat.{ℕ, _+_}
 use mathlib.Core.Path.{_≡_}
 use mathlib.Core.Bool.{false}
 use mathlib.Core.List.{List}
-use Rattle.heads.specs.declared.Head.{Head}
+use Rattle.log_head.specs.declared.Head.{Head}
 use Rattle.log.specs.declared.Cursor.{Cursor}
 use Rattle.log.specs.declared.Command.{Command}
 use Rattle.log.specs.declared.Phase.the-variants.{Body}
 use Rattle.log.specs.Commands.{isRefused}
-use Rattle.log.specs.Step.{handedOut, stepAt}
+use Rattle.log.specs.Step.{commandStep, stepAt}
 
 abbrev pub among : Head → ℕ → ℕ → Cursor
 among h at k = record { at = at; phase = Body h k }
 
 pub record Quick (log : List ℕ) (at : ℕ) (h : Head) (k : ℕ) (command : Command) : Type 0 where
-  pub says : isRefused command ≡ false → stepAt log (among h at k) ≡ handedOut command at (Body h (k + 1))
+  pub says : isRefused command ≡ false → stepAt log (among h at k) ≡ commandStep command at (Body h (k + 1))

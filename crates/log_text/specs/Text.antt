@@ -35,14 +35,14 @@ space = 32
 abbrev pub newline : ℕ
 newline = 10
 
-unfoldable pub number : ℤ → ℕ → List ℕ
-number (pos n) after = decimal n ++ (after ∷ [])
-number (negsuc n) after = 45 ∷ decimal (suc n) ++ (after ∷ [])
+unfoldable pub numberText : ℤ → ℕ → List ℕ
+numberText (pos n) after = decimal n ++ (after ∷ [])
+numberText (negsuc n) after = 45 ∷ decimal (suc n) ++ (after ∷ [])
 
 unfoldable pub spaced : List ℤ → List ℕ
 spaced [] = []
-spaced (z ∷ []) = number z newline
-spaced (z ∷ y ∷ zs) = number z space ++ spaced (y ∷ zs)
+spaced (z ∷ []) = numberText z newline
+spaced (z ∷ y ∷ zs) = numberText z space ++ spaced (y ∷ zs)
 
 -- ---- lines
 
@@ -62,7 +62,7 @@ wordsOf (Cmd.Head h) = []
 wordsOf (Cmd.Block dy dx distortion) = []
 wordsOf Cmd.Still = []
 wordsOf (Cmd.End blocks) = endWord
-wordsOf (Cmd.Refused n place) = refusedWord ++ number (pos n) space ++ atWord
+wordsOf (Cmd.Refused n place) = refusedWord ++ numberText (pos n) space ++ atWord
 
 unfoldable pub worded : Command → List ℕ
 worded command = wordsOf command ++ spaced (commandValues command)
@@ -83,5 +83,5 @@ longestLog = 65536
 abbrev pub longestText : ℕ
 longestText = 6 * longestLog + 20
 
-unfoldable pub printed : List ℕ → List ℕ
-printed log = cond (ltb longestLog (length log)) (lineOf (Cmd.Refused 20 longestLog)) (flatMap lineOf (walk log))
+unfoldable pub printLog : List ℕ → List ℕ
+printLog log = cond (ltb longestLog (length log)) (lineOf (Cmd.Refused 20 longestLog)) (flatMap lineOf (walk log))

@@ -6,17 +6,17 @@ ghost use mathlib.Core.List.{flatMap};
 ghost use Prim.Native.Nat.{_+_, _*_, _≤_, _<_};
 ghost use lib.ListN.{length};
 ghost use lib.IntN.{pos};
-ghost use Rattle.put.specs.Put.{Put, over};
+ghost use Rattle.put.specs.Put.{Put, overFront};
 ghost use Rattle.log.specs.declared.Command.the-variants as Cmd;
 ghost use Rattle.log.specs.Commands.{isRefused};
 ghost use Rattle.log.specs.Walk.{commandsFrom, walk};
-ghost use Rattle.heads.specs.Heads.{headRefusal, gridOf};
+ghost use Rattle.log_head.specs.Heads.{headRefusal, headBlocks};
 ghost use Rattle.log_text.specs.Quick.{among, Quick};
-ghost use Rattle.log_text.specs.Text.{digits, decimal, number, worded, lineOf, longestLog, longestText, printed};
-use heads::Head;
+ghost use Rattle.log_text.specs.Text.{digits, decimal, numberText, worded, lineOf, longestLog, longestText, printLog};
 use log::Command;
 use log::Cursor;
 use log::Phase;
+use log_head::Head;
 
 // A log that is printed has no more bytes, and its text no more than these: a byte of a log prints 6 at most, the refusal 20.
 pub const LONGEST_LOG: usize = 65536;
@@ -60,7 +60,7 @@ fn put_number(out: &mut [u8], at: usize, n: usize) -> usize
 // A number, and the byte after it.
 fn put_field(out: &mut [u8], at: usize, n: usize, after: u8) -> usize
     requires { ⌜ at ≤ 1000001000 ⌝ }
-    ensures { λ r. ⌜ (Put (now (out .entry)) at (number (pos n) after) (now (out .exit)) r) × (r ≤ at + 21) ⌝ }
+    ensures { λ r. ⌜ (Put (now (out .entry)) at (numberText (pos n) after) (now (out .exit)) r) × (r ≤ at + 21) ⌝ }
 {
     let k = put_number(out, at, n);
     put::put_byte(out, k, after)
@@ -83,7 +83,7 @@ fn put_word(out: &mut [u8], at: usize, word: &[u8]) -> usize
 // A signed number, and the byte after it.
 fn put_signed(out: &mut [u8], at: usize, z: i32, after: u8) -> usize
     requires { ⌜ at ≤ 1000000900 ⌝ }
-    ensures { λ r. ⌜ (Put (now (out .entry)) at (number z after) (now (out .exit)) r) × (r ≤ at + 22) ⌝ }
+    ensures { λ r. ⌜ (Put (now (out .entry)) at (numberText z after) (now (out .exit)) r) × (r ≤ at + 22) ⌝ }
 {
     let n = signed::magnitude(z) as usize;
     if z < 0 {
@@ -175,7 +175,7 @@ fn put_from(log: &[u8], out: &mut [u8], from: usize, start: Cursor, most: usize)
 
 // Block k, where a block stands there that passes; a refusal says nothing.
 fn block_here(log: &[u8], at: usize, head: Head, all: usize, k: usize) -> Command
-    requires { ⌜ (at ≤ length (now log)) × (headRefusal head ≡ 0) × (all ≡ gridOf head) ⌝ }
+    requires { ⌜ (at ≤ length (now log)) × (headRefusal head ≡ 0) × (all ≡ headBlocks head) ⌝ }
     ensures { λ r. ⌜ Quick (now (log .entry)) at head k r ⌝ }
 {
     if k < all {
@@ -213,7 +213,7 @@ fn put_body(log: &[u8], out: &mut [u8], from: usize, head: Head) -> usize
     requires { ⌜ (8 ≤ length (now log)) × (length (now log) ≤ longestLog) × (from ≤ 128) × (headRefusal head ≡ 0) ⌝ }
     ensures { λ r. ⌜ Put (now (out .entry)) from (flatMap lineOf (commandsFrom (length (now (log .entry))) (now (log .entry)) (among head 8 0))) (now (out .exit)) r ⌝ }
 {
-    let all = heads::grid(head);
+    let all = log_head::head_blocks(head);
     let mut next = log::HEAD_SIZE;
     let mut k: usize = 0;
     let mut at = from;
@@ -247,7 +247,7 @@ fn put_walk(log: &[u8], out: &mut [u8]) -> usize
 
 // All that the program prints for the bytes of a log, over the front of the buffer as far as it fits. Answers with the text's length.
 pub fn print_log(log: &[u8], out: &mut [u8]) -> usize
-    ensures { λ r. ⌜ (now (out .exit) ≡ over (printed (now (log .entry))) (now (out .entry))) × (r ≡ length (printed (now (log .entry)))) × (r ≤ longestText) ⌝ }
+    ensures { λ r. ⌜ (now (out .exit) ≡ overFront (printLog (now (log .entry))) (now (out .entry))) × (r ≡ length (printLog (now (log .entry)))) × (r ≤ longestText) ⌝ }
 {
     if log.len() > LONGEST_LOG {
         return put_refused(out, 0, 20, LONGEST_LOG);

@@ -9,19 +9,19 @@ use lib.ListN.{length, drop, length-append}
 use Rattle.base.specs.Lists.{listTo, concatTo, concatTo-more}
 use Rattle.base.specs.Fronts.{flatMap-append, flatMap-listTo}
 use Rattle.put.specs.Put.{Put, put-over, over-fits}
-use Rattle.heads.specs.declared.Head.{Head}
+use Rattle.log_head.specs.declared.Head.{Head}
 use Rattle.log.specs.Commands.{commandBytes}
-use Rattle.heads.specs.Heads.{gridOf, isStill}
+use Rattle.log_head.specs.Heads.{headBlocks, isStill}
 use Rattle.log.specs.Logs.{valueOf, blockCommand, logCommands, logOf}
-use Rattle.log_writing.specs.Writing.{asWriting}
+use Rattle.log_writing.specs.Writing.{writeResult}
 use Rattle.log_writing.specs.Parts.{headBytes, numbersBytes, endBytes, blockBytes}
 
 module _ (list : List ℤ) where
-  pub log-parts : (h : Head) → logOf h list ≡ headBytes h ++ (concatTo (blockBytes list) (gridOf h) ++ endBytes (gridOf h))
+  pub log-parts : (h : Head) → logOf h list ≡ headBytes h ++ (concatTo (blockBytes list) (headBlocks h) ++ endBytes (headBlocks h))
   unfolding logOf logCommands headBytes blockBytes endBytes flatMap
   log-parts h =
       ap (_++_ (headBytes h))
-      (flatMap-append commandBytes (listTo (blockCommand list) (gridOf h)) _ ∙ rw (flatMap-listTo commandBytes (blockCommand list) (gridOf h)))
+      (flatMap-append commandBytes (listTo (blockCommand list) (headBlocks h)) _ ∙ rw (flatMap-listTo commandBytes (blockCommand list) (headBlocks h)))
 
   module _ (k : ℕ) where
     pub block-still : isStill (valueOf list k 0) (valueOf list k 1) (valueOf list k 2) ≡ true → blockBytes list k ≡ 3 ∷ []
@@ -43,15 +43,15 @@ module _ (list : List ℤ) where
   sized-more size k more e m =
       omega (arith, ap length (concatTo-more (blockBytes list) k), length-append (concatTo (blockBytes list) k) (blockBytes list k))
 
-  pub sized-all : (h : Head) (size : ℕ) → size ≡ 13 + length (concatTo (blockBytes list) (gridOf h)) → size ≡ length (logOf h list)
+  pub sized-all : (h : Head) (size : ℕ) → size ≡ 13 + length (concatTo (blockBytes list) (headBlocks h)) → size ≡ length (logOf h list)
   unfolding headBytes endBytes
   sized-all h size e =
-      let blocks = concatTo (blockBytes list) (gridOf h) in
-      omega (arith, ap length (log-parts h), length-append (headBytes h) (blocks ++ endBytes (gridOf h)), length-append blocks (endBytes (gridOf h)))
+      let blocks = concatTo (blockBytes list) (headBlocks h) in
+      omega (arith, ap length (log-parts h), length-append (headBytes h) (blocks ++ endBytes (headBlocks h)), length-append blocks (endBytes (headBlocks h)))
 
 -- a log put from the start of a buffer that it fits
 pub log-put : {log before after : List ℕ} {next size : ℕ} → Put before 0 log after next → size ≡ length log → size ≤ length before
-    → asWriting (record { refusal = 0; place = 0; length = next }) after ≡ asWriting (record { refusal = 0; place = 0; length = size }) (log ++ drop size before)
+    → writeResult (record { refusal = 0; place = 0; length = next }) after ≡ writeResult (record { refusal = 0; place = 0; length = size }) (log ++ drop size before)
 log-put {log} {before} p e fits =
     let o = put-over p in
     rw (o .0, o .1, e, over-fits log before (omega arith))

@@ -15,19 +15,19 @@ use lib.Dec.{leb, leb→le}
 use lib.IntN.{ℤ}
 use lib.ListN.{length}
 use Rattle.frame.specs.Grid.{blocks-few}
-use Rattle.refusals.specs.Refusals.{first-zero, unless-zero}
-use Rattle.heads.specs.declared.Head.{Head}
-use Rattle.heads.specs.Heads.{sizesIn, headRefusal, gridOf, headed}
+use Rattle.refusals.specs.Refusals.{first-refusal-zero, unless-zero}
+use Rattle.log_head.specs.declared.Head.{Head}
+use Rattle.log_head.specs.Heads.{sizesIn, headRefusal, headBlocks, headed}
 use Rattle.log_writing.specs.Writing.{listRefusal, listedOk, firstWrong}
-use Rattle.log_writing.specs.Parts.{Listed, Passed}
+use Rattle.log_writing.specs.Parts.{Writable, Passed}
 
 -- ---- 1 3 4 5 10
 
-pub listed : (h : Head) (list : ℕ) → listRefusal h list ≡ 0 → Listed h list
+pub listed : (h : Head) (list : ℕ) → listRefusal h list ≡ 0 → Writable h list
 unfolding listRefusal
 listed h list e =
-    let a = first-zero (headRefusal h) _ e in
-    let b = unless-zero (leb (3 * gridOf h) list) 9 0 (a .1) in
+    let a = first-refusal-zero (headRefusal h) _ e in
+    let b = unless-zero (leb (3 * headBlocks h) list) 9 0 (a .1) in
     record { fine = a .0; few = blocks-few (sizesIn h) (headed h (a .0) .fitting); room = leb→le _ _ (b .0) }
 
 -- ---- the first block that 16 turns away
@@ -64,8 +64,8 @@ module _ (ok : ℕ → Bool) where
       go later false e b = absurd (omega arith)
 
 -- none is turned away: all pass
-pub passed : (h : Head) (list : List ℤ) → Listed h (length list) → gridOf h ≤ firstWrong (listedOk h list) 0 (gridOf h) → Passed h list
-passed h list l n = record { listed = l; each = λ k i. before-wrong (listedOk h list) (gridOf h) 0 k (omega arith) (omega arith) }
+pub passed : (h : Head) (list : List ℤ) → Writable h (length list) → headBlocks h ≤ firstWrong (listedOk h list) 0 (headBlocks h) → Passed h list
+passed h list l n = record { listed = l; each = λ k i. before-wrong (listedOk h list) (headBlocks h) 0 k (omega arith) (omega arith) }
 
 -- ---- a number of the list
 

@@ -1,4 +1,4 @@
-// Writing a log of document 01: head numbers and a list of three numbers a block, as bytes in a lent buffer.
+// WriteResult a log of document 01: head numbers and a list of three numbers a block, as bytes in a lent buffer.
 
 ghost use mathlib.Core.Path.{_≡_};
 ghost use Prim.Native.Nat.{_+_, _*_, _≤_, _<_};
@@ -6,11 +6,11 @@ ghost use lib.ListN.{length};
 ghost use Rattle.base.specs.Lists.{concatTo};
 ghost use Rattle.put.specs.Put.{Put};
 ghost use Rattle.log.specs.Numbers.{bytes2};
-ghost use Rattle.heads.specs.Heads.{headRefusal, gridOf, isStill, Entry};
+ghost use Rattle.log_head.specs.Heads.{headRefusal, headBlocks, isStill, Entry};
 ghost use Rattle.log.specs.Logs.{valueOf, logOf};
-ghost use Rattle.log_writing.specs.Writing.{listRefusal, listedOk, firstWrong, asWriting, refusedWrite, wroteListed, wrote};
-ghost use Rattle.log_writing.specs.Parts.{headBytes, numbersBytes, endBytes, blockBytes, Listed, Passed};
-use heads::Head;
+ghost use Rattle.log_writing.specs.Writing.{listRefusal, listedOk, firstWrong, writeResult, refusedWrite, writeListed, writeLog};
+ghost use Rattle.log_writing.specs.Parts.{headBytes, numbersBytes, endBytes, blockBytes, Writable, Passed};
+use log_head::Head;
 
 // What writing answers: the log's length, or a refusal with its place.
 #[repr(C)]
@@ -20,7 +20,7 @@ pub struct Written {
     pub length: usize,
 }
 
-fn refused(refusal: u32, place: usize) -> Written
+fn refused_write(refusal: u32, place: usize) -> Written
     ensures { λ r. ⌜ r ≡ refusedWrite refusal place ⌝ }
 {
     Written {
@@ -34,11 +34,11 @@ fn refused(refusal: u32, place: usize) -> Written
 fn list_refusal(head: Head, list: usize) -> u32
     ensures { λ r. ⌜ r ≡ listRefusal head list ⌝ }
 {
-    let refusal = heads::head_refusal(head);
+    let refusal = log_head::head_refusal(head);
     if refusal != 0 {
         return refusal;
     }
-    if list < 3 * heads::grid(head) {
+    if list < 3 * log_head::head_blocks(head) {
         return 10;
     }
     0
@@ -54,10 +54,10 @@ fn value(list: &[i32], k: usize, i: usize) -> i32
 
 // 16 lets block k pass.
 fn listed_ok(head: Head, list: &[i32], k: usize) -> bool
-    requires { ⌜ Listed head (length (now list)) × (k < gridOf head) ⌝ }
+    requires { ⌜ Writable head (length (now list)) × (k < headBlocks head) ⌝ }
     ensures { λ r. ⌜ r ≡ listedOk head (now (list .entry)) k ⌝ }
 {
-    heads::entry_ok(
+    log_head::entry_ok(
         head,
         k,
         value(list, k, 0),
@@ -68,10 +68,10 @@ fn listed_ok(head: Head, list: &[i32], k: usize) -> bool
 
 // The first block that 16 turns away, or the number of blocks.
 fn first_wrong(head: Head, list: &[i32]) -> usize
-    requires { ⌜ Listed head (length (now list)) ⌝ }
-    ensures { λ r. ⌜ r ≡ firstWrong (listedOk head (now (list .entry))) 0 (gridOf head) ⌝ }
+    requires { ⌜ Writable head (length (now list)) ⌝ }
+    ensures { λ r. ⌜ r ≡ firstWrong (listedOk head (now (list .entry))) 0 (headBlocks head) ⌝ }
 {
-    let n = heads::grid(head);
+    let n = log_head::head_blocks(head);
     let mut k: usize = 0;
     while k < n {
         if !listed_ok(head, list, k) {
@@ -87,7 +87,7 @@ fn still_at(list: &[i32], k: usize) -> bool
     requires { ⌜ (3 * k + 3 ≤ length (now list)) × (k < 1048576) ⌝ }
     ensures { λ r. ⌜ r ≡ isStill (valueOf (now (list .entry)) k 0) (valueOf (now (list .entry)) k 1) (valueOf (now (list .entry)) k 2) ⌝ }
 {
-    heads::is_still(value(list, k, 0), value(list, k, 1), value(list, k, 2))
+    log_head::is_still(value(list, k, 0), value(list, k, 1), value(list, k, 2))
 }
 
 // How many bytes block k takes.
@@ -106,10 +106,10 @@ const AROUND: usize = log::HEAD_SIZE + log::END_SIZE;
 
 // How many bytes the log takes.
 fn log_size(head: Head, list: &[i32]) -> usize
-    requires { ⌜ Listed head (length (now list)) ⌝ }
+    requires { ⌜ Writable head (length (now list)) ⌝ }
     ensures { λ r. ⌜ r ≡ length (logOf head (now (list .entry))) ⌝ }
 {
-    let n = heads::grid(head);
+    let n = log_head::head_blocks(head);
     let mut size = AROUND;
     let mut k: usize = 0;
     while k < n {
@@ -173,9 +173,9 @@ fn put_block(out: &mut [u8], at: usize, list: &[i32], k: usize) -> usize
 // All blocks.
 fn put_blocks(out: &mut [u8], at: usize, head: Head, list: &[i32]) -> usize
     requires { ⌜ (at ≤ 8) × Passed head (now list) ⌝ }
-    ensures { λ r. ⌜ Put (now (out .entry)) at (concatTo (blockBytes (now (list .entry))) (gridOf head)) (now (out .exit)) r × (r ≤ 10000000) ⌝ }
+    ensures { λ r. ⌜ Put (now (out .entry)) at (concatTo (blockBytes (now (list .entry))) (headBlocks head)) (now (out .exit)) r × (r ≤ 10000000) ⌝ }
 {
-    let n = heads::grid(head);
+    let n = log_head::head_blocks(head);
     let mut next = at;
     let mut k: usize = 0;
     while k < n {
@@ -202,20 +202,20 @@ fn put_log(out: &mut [u8], head: Head, list: &[i32]) -> usize
 {
     let blocks = put_head(out, head);
     let end = put_blocks(out, blocks, head, list);
-    put_end(out, end, heads::grid(head))
+    put_end(out, end, log_head::head_blocks(head))
 }
 
-// Writing once 1 3 4 5 10 are passed.
+// WriteResult once 1 3 4 5 10 are passed.
 fn write_listed(head: Head, list: &[i32], buffer: &mut [u8]) -> Written
-    requires { ⌜ Listed head (length (now list)) ⌝ }
-    ensures { λ r. ⌜ asWriting r (now (buffer .exit)) ≡ wroteListed head (now (list .entry)) (now (buffer .entry)) ⌝ }
+    requires { ⌜ Writable head (length (now list)) ⌝ }
+    ensures { λ r. ⌜ writeResult r (now (buffer .exit)) ≡ writeListed head (now (list .entry)) (now (buffer .entry)) ⌝ }
 {
     let wrong = first_wrong(head, list);
-    if wrong < heads::grid(head) {
-        return refused(16, wrong);
+    if wrong < log_head::head_blocks(head) {
+        return refused_write(16, wrong);
     }
     if buffer.len() < log_size(head, list) {
-        return refused(19, 0);
+        return refused_write(19, 0);
     }
     Written {
         refusal: 0,
@@ -226,11 +226,11 @@ fn write_listed(head: Head, list: &[i32], buffer: &mut [u8]) -> Written
 
 // Writes the log of these head numbers and this list over the front of the buffer.
 pub fn write_log(head: Head, list: &[i32], buffer: &mut [u8]) -> Written
-    ensures { λ r. ⌜ asWriting r (now (buffer .exit)) ≡ wrote head (now (list .entry)) (now (buffer .entry)) ⌝ }
+    ensures { λ r. ⌜ writeResult r (now (buffer .exit)) ≡ writeLog head (now (list .entry)) (now (buffer .entry)) ⌝ }
 {
     let refusal = list_refusal(head, list.len());
     if refusal != 0 {
-        return refused(refusal, 0);
+        return refused_write(refusal, 0);
     }
     write_listed(head, list, buffer)
 }

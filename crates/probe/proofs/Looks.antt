@@ -20,79 +20,79 @@ use Rattle.order.specs.Vectors.{vec, Within, same?}
 use Rattle.frame.specs.Pictures.{Pair}
 use Rattle.frame.specs.Candidates.{inWindow, candidate, candidate-older}
 use Rattle.distortion.specs.Blocks.{absolute, blockAt, newerBlock, distortionBy}
-use Rattle.search.specs.declared.Spot.{Spot}
-use Rattle.search.specs.declared.Weighed.the-variants.{Cost, Nothing}
-use Rattle.search.specs.Weighing.{Target, target, weighed, weighed-none, weighed-some, still-cost}
-use Rattle.probe.specs.declared.Held.{Held}
-use Rattle.probe.specs.Probe.{plus, Seen, seen, counted, looked, probe, start, around, times, widened, isIn, fresh}
+use Rattle.search.specs.declared.SearchBlock.{SearchBlock}
+use Rattle.search.specs.declared.MeasuredCandidate.the-variants.{Distortion, NotCandidate}
+use Rattle.search.specs.Target.{Target, target, measureCandidate, measure-candidate-none, measure-candidate-some, still-cost}
+use Rattle.probe.specs.declared.BestSoFar.{BestSoFar}
+use Rattle.probe.specs.Probe.{plus, Seen, seen, countPoint, probePoint, probe, atOrigin, around, times, widened, isIn, fresh}
 use Rattle.base.specs.Lists.{Each, more}
-use Rattle.probe.specs.Held.{point, seenOf, offset, pairs, Pattern, lookedNew, Ongoing, Holds}
+use Rattle.probe.specs.BestSoFar.{point, seenOf, offset, pairs, Pattern, probeNew, Ongoing, Holds}
 use Rattle.probe.proofs.Probe.{eqb-same, all?, all-within}
 
-pub holds-by : {r : Held} {s t : Seen} {m n : ℕ} → Holds r s m → s ≡ t → m ≤ n → Holds r t n
+pub holds-by : {r : BestSoFar} {s t : Seen} {m n : ℕ} → Holds r s m → s ≡ t → m ≤ n → Holds r t n
 holds-by h e l = record { is = h .is ∙ e; down = h .down; across = h .across; few = let f = h .few in omega arith }
 
 -- what is held may stay as it is
-pub holds-same : {older newer : List ℕ} {b : Spot} {s : Held} {n : ℕ} {q : Seen} → Ongoing older newer b s n → seenOf s ≡ q → Holds s q (s .count + 1)
+pub holds-same : {older newer : List ℕ} {b : SearchBlock} {s : BestSoFar} {n : ℕ} {q : Seen} → Ongoing older newer b s n → seenOf s ≡ q → Holds s q (s .count + 1)
 holds-same o e = record { is = e; down = o .down; across = o .across; few = omega arith }
 
 -- ---- (0,0): the older block stands where the newer one stands
 
-pub start-is : (p : Pair) (w y x d : ℕ) → d ≡ distortionBy absolute (p .sizes .n) (newerBlock p y x) (blockAt (p .older) (p .sizes .width) y x)
-    → seen (point 16 16) d 1 ≡ start (target p w y x)
-unfolding start unbias
-start-is p w y x d e = rw (still-cost p y x, e)
+pub at-origin-is : (p : Pair) (w y x d : ℕ) → d ≡ distortionBy absolute (p .sizes .n) (newerBlock p y x) (blockAt (p .older) (p .sizes .width) y x)
+    → seen (point 16 16) d 1 ≡ atOrigin (target p w y x)
+unfolding atOrigin unbias
+at-origin-is p w y x d e = rw (still-cost p y x, e)
 
--- ---- one point is looked at
+-- ---- one point is probePoint at
 
 module _ (t : Target) (s : Seen) (v : Vector) where
-  looked-over : t .candidate v ≡ false → s ≡ looked t s v
-  unfolding looked
-  looked-over e = rw e
+  probe-point-over : t .candidate v ≡ false → s ≡ probePoint t s v
+  unfolding probePoint
+  probe-point-over e = rw e
 
-  pub looked-none : weighed t v ≡ Nothing → s ≡ looked t s v
-  looked-none e = looked-over (weighed-none t v e)
+  pub probe-point-none : measureCandidate t v ≡ NotCandidate → s ≡ probePoint t s v
+  probe-point-none e = probe-point-over (measure-candidate-none t v e)
 
-  pub looked-less : (d : ℕ) → weighed t v ≡ Cost d → d < s .least → seen v d (s .count + 1) ≡ looked t s v
-  unfolding looked counted
-  looked-less d e h = let m = weighed-some t v d e in rw (m .0, ← (m .1), lt-ltb d (s .least) h)
+  pub probe-point-less : (d : ℕ) → measureCandidate t v ≡ Distortion d → d < s .least → seen v d (s .count + 1) ≡ probePoint t s v
+  unfolding probePoint countPoint
+  probe-point-less d e h = let m = measure-candidate-some t v d e in rw (m .0, ← (m .1), lt-ltb d (s .least) h)
 
-  pub looked-more : (d : ℕ) → weighed t v ≡ Cost d → s .least ≤ d → seen (s .best) (s .least) (s .count + 1) ≡ looked t s v
-  unfolding looked counted
-  looked-more d e h = let m = weighed-some t v d e in rw (m .0, ← (m .1), le-ltb d (s .least) h)
+  pub probe-point-more : (d : ℕ) → measureCandidate t v ≡ Distortion d → s .least ≤ d → seen (s .best) (s .least) (s .count + 1) ≡ probePoint t s v
+  unfolding probePoint countPoint
+  probe-point-more d e h = let m = measure-candidate-some t v d e in rw (m .0, ← (m .1), le-ltb d (s .least) h)
 
   -- ---- unless it is among those before
 
   module _ (before : List Vector) where
-    pub new-in : isIn v before ≡ true → s ≡ lookedNew t before s v
-    unfolding lookedNew
+    pub new-in : isIn v before ≡ true → s ≡ probeNew t before s v
+    unfolding probeNew
     new-in e = rw e
 
-    pub new-out : isIn v before ≡ false → looked t s v ≡ lookedNew t before s v
-    unfolding lookedNew
+    pub new-out : isIn v before ≡ false → probePoint t s v ≡ probeNew t before s v
+    unfolding probeNew
     new-out e = rw e
 
     -- where looking changes nothing, it does not matter
-    new-same : s ≡ looked t s v → s ≡ lookedNew t before s v
-    unfolding lookedNew
+    new-same : s ≡ probePoint t s v → s ≡ probeNew t before s v
+    unfolding probeNew
     new-same e = go (isIn v before)
       where
-        go : (c : Bool) → s ≡ cond c s (looked t s v)
+        go : (c : Bool) → s ≡ cond c s (probePoint t s v)
         go true = refl
         go false = e
 
-    probe-new : (vs : List Vector) → probe t s (fresh before (v ∷ vs)) ≡ probe t (lookedNew t before s v) (fresh before vs)
-    unfolding lookedNew fresh probe
+    probe-new : (vs : List Vector) → probe t s (fresh before (v ∷ vs)) ≡ probe t (probeNew t before s v) (fresh before vs)
+    unfolding probeNew fresh probe
     probe-new vs = go (isIn v before)
       where
-        go : (c : Bool) → probe t s (cond c (fresh before vs) (v ∷ fresh before vs)) ≡ probe t (cond c s (looked t s v)) (fresh before vs)
+        go : (c : Bool) → probe t s (cond c (fresh before vs) (v ∷ fresh before vs)) ≡ probe t (cond c s (probePoint t s v)) (fresh before vs)
         go true = refl
         go false = refl
 
 -- outside window 16 there is no candidate of a window up to 16
 module _ (p : Pair) (w y x : ℕ) (l : w ≤ 16) (before : List Vector) (s : Seen) (v : Vector) where
-  far : (Within 16 v → ⊥) → s ≡ lookedNew (target p w y x) before s v
-  far n = new-same (target p w y x) s v before (looked-over (target p w y x) s v (go (candidate (p .sizes) w y x v) refl))
+  far : (Within 16 v → ⊥) → s ≡ probeNew (target p w y x) before s v
+  far n = new-same (target p w y x) s v before (probe-point-over (target p w y x) s v (go (candidate (p .sizes) w y x v) refl))
     where
       go : (c : Bool) → candidate (p .sizes) w y x v ≡ c → c ≡ false
       go true e =
@@ -100,10 +100,10 @@ module _ (p : Pair) (w y x : ℕ) (l : w ≤ 16) (before : List Vector) (s : See
           absurd (n (record { down = omega arith; across = omega arith }))
       go false e = refl
 
-  pub far-down : 16 < natAbs (v .dy) → s ≡ lookedNew (target p w y x) before s v
+  pub far-down : 16 < natAbs (v .dy) → s ≡ probeNew (target p w y x) before s v
   far-down h = far (λ k. omega arith)
 
-  pub far-across : 16 < natAbs (v .dx) → s ≡ lookedNew (target p w y x) before s v
+  pub far-across : 16 < natAbs (v .dx) → s ≡ probeNew (target p w y x) before s v
   far-across h = far (λ k. omega arith)
 
 -- ---- a part moved by an offset
@@ -201,26 +201,26 @@ each-head P v vs (more h e) = h
 each-tail : (P : Vector → Type 0) (v : Vector) (vs : List Vector) → Each P (v ∷ vs) → Each P vs
 each-tail P v vs (more h e) = e
 
-pub record Going (t : Target) (before : List Vector) (cy cx p : ℕ) (offsets : List (List ℤ)) (first best : Held) (i : ℕ) : Type 0 where
+pub record Going (t : Target) (before : List Vector) (cy cx p : ℕ) (offsets : List (List ℤ)) (at-origin best : BestSoFar) (i : ℕ) : Type 0 where
   pub passed : i ≤ length offsets
   pub near : Each (Within 2) (pairs (drop i offsets))
   pub left : probe t (seenOf best) (fresh before (around (point cy cx) (widened p (pairs (drop i offsets)))))
-      ≡ probe t (seenOf first) (fresh before (around (point cy cx) (widened p (pairs offsets))))
+      ≡ probe t (seenOf at-origin) (fresh before (around (point cy cx) (widened p (pairs offsets))))
   pub down : best .y ≤ 32
   pub across : best .x ≤ 32
-  pub few : best .count ≤ first .count + i
+  pub few : best .count ≤ at-origin .count + i
 
-module _ (t : Target) (before : List Vector) (cy cx p : ℕ) (offsets : List (List ℤ)) (first : Held) where
-  pub going-none : Each (Within 2) (pairs offsets) → first .y ≤ 32 → first .x ≤ 32 → Going t before cy cx p offsets first first 0
+module _ (t : Target) (before : List Vector) (cy cx p : ℕ) (offsets : List (List ℤ)) (at-origin : BestSoFar) where
+  pub going-none : Each (Within 2) (pairs offsets) → at-origin .y ≤ 32 → at-origin .x ≤ 32 → Going t before cy cx p offsets at-origin at-origin 0
   going-none e h k = record { passed = omega arith; near = e; left = refl; down = h; across = k; few = omega arith }
 
-  module _ (best : Held) (i : ℕ) (g : Going t before cy cx p offsets first best i) where
+  module _ (best : BestSoFar) (i : ℕ) (g : Going t before cy cx p offsets at-origin best i) where
     pub going-near : i < length offsets → Within 2 (offset (getD offsets i []))
     going-near h = each-head (Within 2) _ _ (rw (pairs-more offsets i h) at (g .near))
 
-    pub going-more : (r : Held) → i < length offsets
-        → Holds r (lookedNew t before (seenOf best) (plus (point cy cx) (vec (times p (offset (getD offsets i []) .dy)) (times p (offset (getD offsets i []) .dx))))) (best .count + 1)
-        → Going t before cy cx p offsets first r (i + 1)
+    pub going-more : (r : BestSoFar) → i < length offsets
+        → Holds r (probeNew t before (seenOf best) (plus (point cy cx) (vec (times p (offset (getD offsets i []) .dy)) (times p (offset (getD offsets i []) .dx))))) (best .count + 1)
+        → Going t before cy cx p offsets at-origin r (i + 1)
     unfolding around widened
     going-more r h k =
         record {
@@ -232,6 +232,6 @@ module _ (t : Target) (before : List Vector) (cy cx p : ℕ) (offsets : List (Li
           few = let f = g .few in let q = k .few in omega arith;
         }
 
-    pub going-done : length offsets ≤ i → seenOf best ≡ probe t (seenOf first) (fresh before (around (point cy cx) (widened p (pairs offsets))))
+    pub going-done : length offsets ≤ i → seenOf best ≡ probe t (seenOf at-origin) (fresh before (around (point cy cx) (widened p (pairs offsets))))
     unfolding probe around widened fresh
     going-done h = rw (pairs-done offsets i h) at (g .left)

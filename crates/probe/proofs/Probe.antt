@@ -15,43 +15,43 @@ use Rattle.order.specs.Vectors.{vec, Within, same?}
 use Rattle.frame.specs.Pictures.{Pair}
 use Rattle.frame.specs.Candidates.{inWindow, candidate-yes, candidate-wider}
 use Rattle.distortion.specs.Blocks.{distortion}
-use Rattle.search.specs.Weighing.{Target, target}
+use Rattle.search.specs.Target.{Target, target}
 use Rattle.search.specs.Exhaustive.{Best}
-use Rattle.probe.specs.Probe.{origin, plus, Seen, seen, counted, looked, probe, start, around, isIn, fresh, Honest, Alike}
+use Rattle.probe.specs.Probe.{origin, plus, Seen, seen, countPoint, probePoint, probe, atOrigin, around, isIn, fresh, OwnDistortion, Alike}
 use Rattle.base.specs.Lists.{Each, none, more}
 
 -- ---- the best is a candidate with its own distortion
 
-looked-honest : (t : Target) (s : Seen) (v : Vector) → Honest t s → Honest t (looked t s v)
-unfolding looked counted
-looked-honest t s v h = go (t .candidate v) refl (ltb (t .cost v) (s .least))
+probe-point-own-distortion : (t : Target) (s : Seen) (v : Vector) → OwnDistortion t s → OwnDistortion t (probePoint t s v)
+unfolding probePoint countPoint
+probe-point-own-distortion t s v h = go (t .candidate v) refl (ltb (t .cost v) (s .least))
   where
     go : (c : Bool) → t .candidate v ≡ c → (l : Bool)
-        → Honest t (cond c (cond l (seen v (t .cost v) (s .count + 1)) (seen (s .best) (s .least) (s .count + 1))) s)
+        → OwnDistortion t (cond c (cond l (seen v (t .cost v) (s .count + 1)) (seen (s .best) (s .least) (s .count + 1))) s)
     go true e true = record { chosen = subst T (sym e) tt; reported = refl }
     go true e false = record { chosen = h .chosen; reported = h .reported }
     go false e l = h
 
-pub probe-honest : (t : Target) (s : Seen) (vs : List Vector) → Honest t s → Honest t (probe t s vs)
+pub probe-own-distortion : (t : Target) (s : Seen) (vs : List Vector) → OwnDistortion t s → OwnDistortion t (probe t s vs)
 unfolding probe
-probe-honest t s [] h = h
-probe-honest t s (v ∷ vs) h = probe-honest t (looked t s v) vs (looked-honest t s v h)
+probe-own-distortion t s [] h = h
+probe-own-distortion t s (v ∷ vs) h = probe-own-distortion t (probePoint t s v) vs (probe-point-own-distortion t s v h)
 
-pub start-honest : (t : Target) → T (t .candidate origin) → Honest t (start t)
-unfolding start
-start-honest t c = record { chosen = c; reported = refl }
+pub at-origin-own-distortion : (t : Target) → T (t .candidate origin) → OwnDistortion t (atOrigin t)
+unfolding atOrigin
+at-origin-own-distortion t c = record { chosen = c; reported = refl }
 
 -- no honest search reports less than the exhaustive best of the same block, in a window that is no smaller
-pub never-lower : (p : Pair) (u w y x : ℕ) (v : Vector) (s : Seen) → u ≤ w → Best p w y x v → Honest (target p u y x) s → distortion p y x v ≤ s .least
+pub never-lower : (p : Pair) (u w y x : ℕ) (v : Vector) (s : Seen) → u ≤ w → Best p w y x v → OwnDistortion (target p u y x) s → distortion p y x v ≤ s .least
 never-lower p u w y x v s l b h =
     rw (h .reported)
     (b .least (s .best) (candidate-yes (p .sizes) w y x (s .best) (candidate-wider (p .sizes) u y x (s .best) w l (h .chosen))))
 
 -- ---- no more is measured than there are points, and all where all are candidates
 
-looked-count : (t : Target) (s : Seen) (v : Vector) → looked t s v .count ≤ s .count + 1
-unfolding looked counted
-looked-count t s v = go (t .candidate v) (ltb (t .cost v) (s .least))
+probe-point-count : (t : Target) (s : Seen) (v : Vector) → probePoint t s v .count ≤ s .count + 1
+unfolding probePoint countPoint
+probe-point-count t s v = go (t .candidate v) (ltb (t .cost v) (s .least))
   where
     go : (c l : Bool)
         → cond c (cond l (seen v (t .cost v) (s .count + 1)) (seen (s .best) (s .least) (s .count + 1))) s .count ≤ s .count + 1
@@ -62,11 +62,11 @@ looked-count t s v = go (t .candidate v) (ltb (t .cost v) (s .least))
 pub probe-count : (t : Target) (s : Seen) (vs : List Vector) → probe t s vs .count ≤ s .count + length vs
 unfolding probe
 probe-count t s [] = omega arith
-probe-count t s (v ∷ vs) = omega (arith, probe-count t (looked t s v) vs, looked-count t s v)
+probe-count t s (v ∷ vs) = omega (arith, probe-count t (probePoint t s v) vs, probe-point-count t s v)
 
-looked-all : (t : Target) (s : Seen) (v : Vector) → T (t .candidate v) → looked t s v .count ≡ s .count + 1
-unfolding looked counted
-looked-all t s v = go (t .candidate v) (ltb (t .cost v) (s .least))
+probe-point-all : (t : Target) (s : Seen) (v : Vector) → T (t .candidate v) → probePoint t s v .count ≡ s .count + 1
+unfolding probePoint countPoint
+probe-point-all t s v = go (t .candidate v) (ltb (t .cost v) (s .least))
   where
     go : (c l : Bool) → T c
         → cond c (cond l (seen v (t .cost v) (s .count + 1)) (seen (s .best) (s .least) (s .count + 1))) s .count ≡ s .count + 1
@@ -77,13 +77,13 @@ looked-all t s v = go (t .candidate v) (ltb (t .cost v) (s .least))
 pub probe-all : (t : Target) (s : Seen) (vs : List Vector) → Each (λ v. T (t .candidate v)) vs → probe t s vs .count ≡ s .count + length vs
 unfolding probe
 probe-all t s [] none = omega arith
-probe-all t s (v ∷ vs) (more h e) = omega (arith, probe-all t (looked t s v) vs e, looked-all t s v h)
+probe-all t s (v ∷ vs) (more h e) = omega (arith, probe-all t (probePoint t s v) vs e, probe-point-all t s v h)
 
 -- ---- what holds of the best before and of each point holds of the best after
 
-looked-best : (P : Vector → Type 0) (t : Target) (s : Seen) (v : Vector) → P (s .best) → P v → P (looked t s v .best)
-unfolding looked counted
-looked-best P t s v p q = go (t .candidate v) (ltb (t .cost v) (s .least))
+probe-point-best : (P : Vector → Type 0) (t : Target) (s : Seen) (v : Vector) → P (s .best) → P v → P (probePoint t s v .best)
+unfolding probePoint countPoint
+probe-point-best P t s v p q = go (t .candidate v) (ltb (t .cost v) (s .least))
   where
     go : (c l : Bool) → P (cond c (cond l (seen v (t .cost v) (s .count + 1)) (seen (s .best) (s .least) (s .count + 1))) s .best)
     go true true = q
@@ -93,7 +93,7 @@ looked-best P t s v p q = go (t .candidate v) (ltb (t .cost v) (s .least))
 pub probe-best : (P : Vector → Type 0) (t : Target) (s : Seen) (vs : List Vector) → P (s .best) → Each P vs → P (probe t s vs .best)
 unfolding probe
 probe-best P t s [] p none = p
-probe-best P t s (v ∷ vs) p (more q e) = probe-best P t (looked t s v) vs (looked-best P t s v p q) e
+probe-best P t s (v ∷ vs) p (more q e) = probe-best P t (probePoint t s v) vs (probe-point-best P t s v p q) e
 
 -- ---- of each of a list
 
@@ -181,7 +181,7 @@ around-plus c o (v ∷ vs) = ap₂ _∷_ (plus-assoc c o v) (around-plus c o vs)
 pub plus-origin : (c : Vector) → plus c origin ≡ c
 plus-origin c = ap₂ vec (+ℤ-idr (c .dy)) (+ℤ-idr (c .dx))
 
--- ---- windows: what lies outside is not looked at
+-- ---- windows: what lies outside is not probePoint at
 
 pub within-more : {m n : ℕ} {v : Vector} → m ≤ n → Within m v → Within n v
 within-more l h = record { down = omega arith; across = omega arith }
@@ -194,19 +194,19 @@ around-within r p c os h =
     each-around (Within (r + p)) (Within p) c os
     (λ o k. record { down = omega (arith, added (c .dy) (o .dy)); across = omega (arith, added (c .dx) (o .dx)) })
 
-looked-alike : (n : ℕ) (t u : Target) (s : Seen) (v : Vector) → Alike n t u → Within n v → looked t s v ≡ looked u s v
-unfolding looked
-looked-alike n t u s v a h = rw (a .candidate v h, a .cost v h)
+probe-point-alike : (n : ℕ) (t u : Target) (s : Seen) (v : Vector) → Alike n t u → Within n v → probePoint t s v ≡ probePoint u s v
+unfolding probePoint
+probe-point-alike n t u s v a h = rw (a .candidate v h, a .cost v h)
 
 pub probe-alike : (n : ℕ) (t u : Target) (s : Seen) (vs : List Vector) → Alike n t u → Each (Within n) vs → probe t s vs ≡ probe u s vs
 unfolding probe
 probe-alike n t u s [] a none = refl
-probe-alike n t u s (v ∷ vs) a (more h e) = rw (looked-alike n t u s v a h) (probe-alike n t u (looked u s v) vs a e)
+probe-alike n t u s (v ∷ vs) a (more h e) = rw (probe-point-alike n t u s v a h) (probe-alike n t u (probePoint u s v) vs a e)
 
-pub start-within : (t : Target) → Within 0 (start t .best)
-unfolding start
-start-within t = record { down = omega arith; across = omega arith }
+pub at-origin-within : (t : Target) → Within 0 (atOrigin t .best)
+unfolding atOrigin
+at-origin-within t = record { down = omega arith; across = omega arith }
 
-pub start-alike : (n : ℕ) (t u : Target) → Alike n t u → start t ≡ start u
-unfolding start
-start-alike n t u a = rw (a .cost origin (record { down = omega arith; across = omega arith }))
+pub at-origin-alike : (n : ℕ) (t u : Target) → Alike n t u → atOrigin t ≡ atOrigin u
+unfolding atOrigin
+at-origin-alike n t u a = rw (a .cost origin (record { down = omega arith; across = omega arith }))

@@ -1,11 +1,11 @@
--- 01, "The four searches": how searches 3 and 4 look at points. "In 3 and 4 a point that is no candidate is neither measured nor counted.
--- A point met again in a later step is measured and counted again; the centre is not." "Only a strictly smaller distortion replaces."
+-- 01, "The four searches": how searches 3 and 4 look at points. "In 3 and 4 a point that is no candidate is neither measured nor countPoint.
+-- A point met again in a later step is measured and countPoint again; the centre is not." "Only a strictly smaller distortion replaces."
 --   origin, plus   (0,0), and the sum of two vectors
 --   Seen     the best vector by now, its distortion, the number measured
---   looked   one point is looked at, and counted where it is a candidate; probe: points, in order; start: (0,0) alone
+--   probePoint   one point is probePoint at, and countPoint where it is a candidate; probe: points, in order; atOrigin: (0,0) alone
 --   around   a pattern's points from a centre: its offsets, each added to the centre; widened: the offsets times a step size p
 --   fresh    the points that are not among those of a list: isIn
---   Honest   the best is a candidate, and the distortion is its own
+--   OwnDistortion   the best is a candidate, and the distortion is its own
 --   Alike    two targets that a search cannot tell apart which looks at no point outside window n
 use Prim.Native.Nat.{ℕ, suc, _+_, _*_}
 use mathlib.Core.Path.{_≡_}
@@ -15,7 +15,7 @@ use lib.Dec.{T, ltb}
 use lib.IntN.{ℤ, pos, negsuc, negℤ, _+ℤ_}
 use Rattle.order.specs.declared.Vector.{Vector}
 use Rattle.order.specs.Vectors.{vec, Within, same?}
-use Rattle.search.specs.Weighing.{Target}
+use Rattle.search.specs.Target.{Target}
 
 abbrev pub origin : Vector
 origin = vec (pos 0) (pos 0)
@@ -31,21 +31,21 @@ pub record Seen : Type 0 where
 abbrev pub seen : Vector → ℕ → ℕ → Seen
 seen v d n = record { best = v; least = d; count = n }
 
--- v is measured as d, and counted: only strictly smaller replaces
-unfoldable pub counted : Seen → Vector → ℕ → Seen
-counted s v d = cond (ltb d (s .least)) (seen v d (s .count + 1)) (seen (s .best) (s .least) (s .count + 1))
+-- v is measured as d, and countPoint: only strictly smaller replaces
+unfoldable pub countPoint : Seen → Vector → ℕ → Seen
+countPoint s v d = cond (ltb d (s .least)) (seen v d (s .count + 1)) (seen (s .best) (s .least) (s .count + 1))
 
--- a point that is no candidate is neither measured nor counted
-unfoldable pub looked : Target → Seen → Vector → Seen
-looked t s v = cond (t .candidate v) (counted s v (t .cost v)) s
+-- a point that is no candidate is neither measured nor countPoint
+unfoldable pub probePoint : Target → Seen → Vector → Seen
+probePoint t s v = cond (t .candidate v) (countPoint s v (t .cost v)) s
 
 unfoldable pub probe : Target → Seen → List Vector → Seen
 probe t s [] = s
-probe t s (v ∷ vs) = probe t (looked t s v) vs
+probe t s (v ∷ vs) = probe t (probePoint t s v) vs
 
 -- (0,0) always is a candidate, and is measured before anything else
-unfoldable pub start : Target → Seen
-start t = seen origin (t .cost origin) 1
+unfoldable pub atOrigin : Target → Seen
+atOrigin t = seen origin (t .cost origin) 1
 
 unfoldable pub around : Vector → List Vector → List Vector
 around c [] = []
@@ -68,7 +68,7 @@ fresh before [] = []
 fresh before (v ∷ vs) = cond (isIn v before) (fresh before vs) (v ∷ fresh before vs)
 
 -- what every search owes
-pub record Honest (t : Target) (s : Seen) : Type 0 where
+pub record OwnDistortion (t : Target) (s : Seen) : Type 0 where
   pub chosen : T (t .candidate (s .best))
   pub reported : s .least ≡ t .cost (s .best)
 

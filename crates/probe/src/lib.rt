@@ -7,16 +7,16 @@ ghost use lib.ListN.{length};
 ghost use Rattle.signed.specs.Int.{eqZ};
 ghost use Rattle.signed.specs.Values.{unbias};
 ghost use Rattle.order.specs.Vectors.{vec, same?};
-ghost use Rattle.search.specs.Weighing.{Ready, targetOf};
-ghost use Rattle.probe.specs.Probe.{plus, looked, probe, start, around, times, widened, isIn, fresh};
-ghost use Rattle.probe.specs.Held.{point, seenOf, pairs, lookedNew, Pattern, Ongoing, Holds, foundOf};
-use search::Found;
-use search::Spot;
-use search::Weighed;
+ghost use Rattle.search.specs.Target.{Ready, targetOf};
+ghost use Rattle.probe.specs.Probe.{plus, probePoint, probe, atOrigin, around, times, widened, isIn, fresh};
+ghost use Rattle.probe.specs.BestSoFar.{point, seenOf, pairs, probeNew, Pattern, Ongoing, Holds, resultOf};
+use search::MeasuredCandidate;
+use search::SearchBlock;
+use search::SearchResult;
 use signed::Shifted;
 
 // The best vector seen by now, its parts kept as dy + 16 and dx + 16, with its distortion and the number measured.
-pub struct Held {
+pub struct BestSoFar {
     pub y: usize,
     pub x: usize,
     pub least: u32,
@@ -24,13 +24,13 @@ pub struct Held {
 }
 
 // (0,0), measured.
-pub fn first(older: &[u8], newer: &[u8], b: Spot) -> Held
+pub fn at_origin(older: &[u8], newer: &[u8], b: SearchBlock) -> BestSoFar
     requires { ⌜ Ready (now older) (now newer) b ⌝ }
-    ensures { λ r. ⌜ Holds r (start (targetOf (now (older .entry)) (now (newer .entry)) b)) 1 ⌝ }
+    ensures { λ r. ⌜ Holds r (atOrigin (targetOf (now (older .entry)) (now (newer .entry)) b)) 1 ⌝ }
 {
     let y = b.y;
     let x = b.x;
-    Held {
+    BestSoFar {
         y: 16,
         x: 16,
         least: distortion::block_distortion(older, newer, b.sizes, y, x, y, x),
@@ -38,25 +38,32 @@ pub fn first(older: &[u8], newer: &[u8], b: Spot) -> Held
     }
 }
 
-// The point (y, x) is looked at: where it is a candidate it is measured, and only strictly smaller replaces.
-fn look(older: &[u8], newer: &[u8], b: Spot, s: Held, y: usize, x: usize) -> Held
+// The point (y, x) is probePoint at: where it is a candidate it is measured, and only strictly smaller replaces.
+fn probe_point(
+    older: &[u8],
+    newer: &[u8],
+    b: SearchBlock,
+    s: BestSoFar,
+    y: usize,
+    x: usize,
+) -> BestSoFar
     requires { ⌜ Ongoing (now older) (now newer) b s 1 × (y ≤ 32) × (x ≤ 32) ⌝ }
-    ensures { λ r. ⌜ Holds r (looked (targetOf (now (older .entry)) (now (newer .entry)) b) (seenOf s) (point y x)) (s .count + 1) ⌝ }
+    ensures { λ r. ⌜ Holds r (probePoint (targetOf (now (older .entry)) (now (newer .entry)) b) (seenOf s) (point y x)) (s .count + 1) ⌝ }
 {
     let dy = signed::unbiased(y);
     let dx = signed::unbiased(x);
-    let Weighed::Cost(d) = search::weigh(older, newer, b, dy, dx) else {
+    let MeasuredCandidate::Distortion(d) = search::measure_candidate(older, newer, b, dy, dx) else {
         return s;
     };
     if d < s.least {
-        return Held {
+        return BestSoFar {
             y,
             x,
             least: d,
             count: s.count + 1,
         };
     }
-    Held {
+    BestSoFar {
         y: s.y,
         x: s.x,
         least: s.least,
@@ -101,12 +108,12 @@ pub fn is_in(y: usize, x: usize, cy: usize, cx: usize, offsets: &[[i32; 2]]) -> 
     false
 }
 
-// The point (dy, dx) from the centre (cy, cx) is looked at, where it was not in the pattern `before` around (oy, ox).
-fn look_new(
+// The point (dy, dx) from the centre (cy, cx) is probePoint at, where it was not in the pattern `before` around (oy, ox).
+fn probe_new(
     older: &[u8],
     newer: &[u8],
-    b: Spot,
-    s: Held,
+    b: SearchBlock,
+    s: BestSoFar,
     cy: usize,
     cx: usize,
     dy: i32,
@@ -114,9 +121,9 @@ fn look_new(
     oy: usize,
     ox: usize,
     before: &[[i32; 2]],
-) -> Held
+) -> BestSoFar
     requires { ⌜ Ongoing (now older) (now newer) b s 1 × (cy ≤ 32) × (cx ≤ 32) × (oy ≤ 32) × (ox ≤ 32) × (length (now before) ≤ 9) ⌝ }
-    ensures { λ r. ⌜ Holds r (lookedNew (targetOf (now (older .entry)) (now (newer .entry)) b) (around (point oy ox) (pairs (now (before .entry)))) (seenOf s) (plus (point cy cx) (vec dy dx))) (s .count + 1) ⌝ }
+    ensures { λ r. ⌜ Holds r (probeNew (targetOf (now (older .entry)) (now (newer .entry)) b) (around (point oy ox) (pairs (now (before .entry)))) (seenOf s) (plus (point cy cx) (vec dy dx))) (s .count + 1) ⌝ }
 {
     let Shifted::At(y) = signed::shift(cy, dy, 32) else {
         return s;
@@ -127,7 +134,7 @@ fn look_new(
     if is_in(y, x, oy, ox, before) {
         return s;
     }
-    look(older, newer, b, s, y, x)
+    probe_point(older, newer, b, s, y, x)
 }
 
 // p times an offset.
@@ -146,14 +153,14 @@ fn scaled(p: u32, d: i32) -> i32
 pub fn pattern_new(
     older: &[u8],
     newer: &[u8],
-    b: Spot,
-    s: Held,
+    b: SearchBlock,
+    s: BestSoFar,
     offsets: &[[i32; 2]],
     p: u32,
     oy: usize,
     ox: usize,
     before: &[[i32; 2]],
-) -> Held
+) -> BestSoFar
     requires { ⌜ Ongoing (now older) (now newer) b s 9 × Pattern (now offsets) × (p ≤ 8) × (oy ≤ 32) × (ox ≤ 32) × (length (now before) ≤ 9) ⌝ }
     ensures { λ r. ⌜ Holds r (probe (targetOf (now (older .entry)) (now (newer .entry)) b) (seenOf s) (fresh (around (point oy ox) (pairs (now (before .entry)))) (around (point (s .y) (s .x)) (widened p (pairs (now (offsets .entry))))))) (s .count + 9) ⌝ }
 {
@@ -164,14 +171,21 @@ pub fn pattern_new(
     while i < offsets.len() {
         let dy = scaled(p, offsets[i][0]);
         let dx = scaled(p, offsets[i][1]);
-        best = look_new(older, newer, b, best, cy, cx, dy, dx, oy, ox, before);
+        best = probe_new(older, newer, b, best, cy, cx, dy, dx, oy, ox, before);
         i += 1;
     }
     best
 }
 
 // A pattern's points around the best by now, at step size p, in the table's order: none was in a pattern before.
-pub fn pattern(older: &[u8], newer: &[u8], b: Spot, s: Held, offsets: &[[i32; 2]], p: u32) -> Held
+pub fn pattern(
+    older: &[u8],
+    newer: &[u8],
+    b: SearchBlock,
+    s: BestSoFar,
+    offsets: &[[i32; 2]],
+    p: u32,
+) -> BestSoFar
     requires { ⌜ Ongoing (now older) (now newer) b s 9 × Pattern (now offsets) × (p ≤ 8) ⌝ }
     ensures { λ r. ⌜ Holds r (probe (targetOf (now (older .entry)) (now (newer .entry)) b) (seenOf s) (around (point (s .y) (s .x)) (widened p (pairs (now (offsets .entry)))))) (s .count + 9) ⌝ }
 {
@@ -179,11 +193,11 @@ pub fn pattern(older: &[u8], newer: &[u8], b: Spot, s: Held, offsets: &[[i32; 2]
 }
 
 // The answer: the parts without their 16.
-pub fn answered(s: Held) -> Found
+pub fn result_of(s: BestSoFar) -> SearchResult
     requires { ⌜ (s .y ≤ 32) × (s .x ≤ 32) ⌝ }
-    ensures { λ r. ⌜ r ≡ foundOf (seenOf s) ⌝ }
+    ensures { λ r. ⌜ r ≡ resultOf (seenOf s) ⌝ }
 {
-    Found {
+    SearchResult {
         refusal: 0,
         dy: signed::unbiased(s.y),
         dx: signed::unbiased(s.x),

@@ -14,27 +14,27 @@ use Rattle.order.specs.Vectors.{Within}
 use Rattle.frame.specs.Pictures.{Pair, Fitting}
 use Rattle.frame.specs.Grid.{blocks, blockRow, blockColumn, block-down, block-across}
 use Rattle.frame.specs.Candidates.{candidate, candidate-yes}
-use Rattle.refusals.specs.Refusals.{listed, windowOk, thresholdOk}
+use Rattle.refusals.specs.Refusals.{blockSizeOk, windowOk, thresholdOk}
 use Rattle.distortion.specs.Blocks.{distortion}
-use Rattle.search.specs.declared.Found.{Found}
-use Rattle.search.specs.Found.{vectorIn, probes}
+use Rattle.search.specs.declared.SearchResult.{SearchResult}
+use Rattle.search.specs.SearchResult.{vectorIn, probes}
 use Rattle.search.specs.Exhaustive.{Best, best}
 use Rattle.search.proofs.Exhaustive.{best-is}
 use Rattle.probe.proofs.Probe.{within-more}
-use Rattle.pruned.specs.Answer.{prunedFound}
-use Rattle.pruned.proofs.Blocks.{listed-power}
+use Rattle.pruned.specs.Answer.{prunedSearch}
+use Rattle.pruned.proofs.Blocks.{block-size-power}
 use Rattle.pruned.proofs.Laws.{pruned-distortion, pruned-adds, pruned-is-best}
 use Rattle.block.specs.Block.{search-fine, block-accepted, searched-pruned}
-use Rattle.field.specs.Field.{asked, entries, blockOf, vectorOf, droppedOver, countOver}
+use Rattle.field.specs.Field.{requestOf, entries, searchAt, vectorOf, droppedOver, countOver}
 use Rattle.field.proofs.Places.{entry-at}
 use Rattle.reading.specs.Reading.{majority}
 use Rattle.reading.proofs.Majority.{majority-ext}
-use Rattle.promise.specs.Demand.{bestOf, bestEntries, EachBlock, EachPlace, EachGridPlace, overGrid, reported, number, isDropped, isMeasured, single}
+use Rattle.promise.specs.Demand.{bestOf, bestEntries, EachBlock, EachPlace, EachGridPlace, overGrid, reported, howMany, isDropped, isMeasured, blockOn}
 use Rattle.promise.proofs.Chains.{requestChain, Fine, fine-paired, request-any}
-use Rattle.promise.proofs.Counting.{dropped-number, measured-number, dropped-worse}
+use Rattle.promise.proofs.Counting.{dropped-many, measured-many, dropped-worse}
 
 -- the distortion listed for block k
-pub entries-third : (found : ℕ → Found) (n k : ℕ) (rest : List ℤ) → k < n → reported (entries found n ++ rest) k ≡ pos (found k .distortion)
+pub entries-third : (found : ℕ → SearchResult) (n k : ℕ) (rest : List ℤ) → k < n → reported (entries found n ++ rest) k ≡ pos (found k .distortion)
 entries-third found n k rest h = entry-at found n rest k 2 h (omega arith)
 
 pub at-most : {a b : ℕ} → a ≤ b → pos a ≤ℤ pos b
@@ -53,7 +53,7 @@ module _ (p : Pair) (w : ℕ) (f : Fine p w) where
   fits : Fitting (p .sizes)
   fits = fine-paired p f .fitting
 
-  allowed : T (listed (p .sizes .n))
+  allowed : T (blockSizeOk (p .sizes .n))
   allowed = fine-paired p f .allowed
 
   pub each-place : EachPlace p (λ y x. Best p w y x (best p w y x))
@@ -66,36 +66,36 @@ module _ (p : Pair) (w : ℕ) (f : Fine p w) where
 
   -- search 2 at a place
   module _ (y x : ℕ) (hy : y + p .sizes .n ≤ p .sizes .height) (hx : x + p .sizes .n ≤ p .sizes .width) where
-    found-best : vectorIn (prunedFound p w y x) ≡ best p w y x
-    found-best = pruned-is-best p w y x (listed-power (p .sizes .n) allowed) (f .small) hy hx
+    found-best : vectorIn (prunedSearch p w y x) ≡ best p w y x
+    found-best = pruned-is-best p w y x (block-size-power (p .sizes .n) allowed) (f .small) hy hx
 
-    found-distortion : prunedFound p w y x .distortion ≡ distortion p y x (best p w y x)
+    found-distortion : prunedSearch p w y x .distortion ≡ distortion p y x (best p w y x)
     found-distortion = pruned-distortion p w y x ∙ ap (distortion p y x) found-best
 
     request-two : requestChain p 2 w 0 ≡ 0
     unfolding windowOk thresholdOk
     request-two = request-any p 2 w 0 (f .pair) tt (le→leb w 16 (f .small)) tt
 
-    single-is : single p 2 w 0 y x ≡ prunedFound p w y x
+    single-is : blockOn p 2 w 0 y x ≡ prunedSearch p w y x
     single-is =
-        block-accepted (p .older) (p .newer) (asked (p .sizes) 2 w 0) y x (search-fine _ _ (asked (p .sizes) 2 w 0) y x request-two hy hx)
-        ∙ searched-pruned p (asked (p .sizes) 2 w 0) y x refl
+        block-accepted (p .older) (p .newer) (requestOf (p .sizes) 2 w 0) y x (search-fine _ _ (requestOf (p .sizes) 2 w 0) y x request-two hy hx)
+        ∙ searched-pruned p (requestOf (p .sizes) 2 w 0) y x refl
 
-    unrefused : prunedFound p w y x .refusal ≡ 0
-    unfolding prunedFound
+    unrefused : prunedSearch p w y x .refusal ≡ 0
+    unfolding prunedSearch
     unrefused = refl
 
-    pub block-result : let r = single p 2 w 0 y x in
+    pub block-result : let r = blockOn p 2 w 0 y x in
         (r .refusal ≡ 0) × (vectorIn r ≡ best p w y x) × (r .distortion ≡ distortion p y x (best p w y x))
-        × (r .dropped ≡ number (isDropped p w y x)) × (probes r ≡ number (isMeasured p w y x))
-        × (r .dropped + probes r ≡ number (candidate (p .sizes) w y x))
+        × (r .dropped ≡ howMany (isDropped p w y x)) × (probes r ≡ howMany (isMeasured p w y x))
+        × (r .dropped + probes r ≡ howMany (candidate (p .sizes) w y x))
     block-result =
         rw single-is (
           unrefused,
           found-best,
           found-distortion,
-          dropped-number p w y x allowed (f .small) hy hx,
-          measured-number p w y x allowed (f .small) hy hx,
+          dropped-many p w y x allowed (f .small) hy hx,
+          measured-many p w y x allowed (f .small) hy hx,
           pruned-adds p w y x allowed,
         )
 
@@ -107,12 +107,12 @@ module _ (p : Pair) (w : ℕ) (f : Fine p w) where
     abbrev x : ℕ
     x = blockColumn (p .sizes) k
 
-    abbrev found : Found
-    found = blockOf p (asked (p .sizes) 2 w t) k
+    abbrev found : SearchResult
+    found = searchAt p (requestOf (p .sizes) 2 w t) k
 
-    found-is : found ≡ prunedFound p w y x
-    unfolding blockOf
-    found-is = searched-pruned p (asked (p .sizes) 2 w t) y x refl
+    found-is : found ≡ prunedSearch p w y x
+    unfolding searchAt
+    found-is = searched-pruned p (requestOf (p .sizes) 2 w t) y x refl
 
     hy : y + p .sizes .n ≤ p .sizes .height
     hy = block-down (p .sizes) fits k h
@@ -124,16 +124,16 @@ module _ (p : Pair) (w : ℕ) (f : Fine p w) where
     grid-best = ap vectorIn found-is ∙ found-best y x hy hx
 
     pub grid-distortion : found .distortion ≡ distortion p y x (bestOf p w k)
-    grid-distortion = ap (λ (r : Found). r .distortion) found-is ∙ found-distortion y x hy hx
+    grid-distortion = ap (λ (r : SearchResult). r .distortion) found-is ∙ found-distortion y x hy hx
 
-    grid-dropped : found .dropped ≡ number (isDropped p w y x)
-    grid-dropped = ap (λ (r : Found). r .dropped) found-is ∙ dropped-number p w y x allowed (f .small) hy hx
+    grid-dropped : found .dropped ≡ howMany (isDropped p w y x)
+    grid-dropped = ap (λ (r : SearchResult). r .dropped) found-is ∙ dropped-many p w y x allowed (f .small) hy hx
 
-    grid-measured : probes found ≡ number (isMeasured p w y x)
-    grid-measured = ap probes found-is ∙ measured-number p w y x allowed (f .small) hy hx
+    grid-measured : probes found ≡ howMany (isMeasured p w y x)
+    grid-measured = ap probes found-is ∙ measured-many p w y x allowed (f .small) hy hx
 
-    grid-adds : found .dropped + probes found ≡ number (candidate (p .sizes) w y x)
-    grid-adds = ap (λ (r : Found). r .dropped + probes r) found-is ∙ pruned-adds p w y x allowed
+    grid-adds : found .dropped + probes found ≡ howMany (candidate (p .sizes) w y x)
+    grid-adds = ap (λ (r : SearchResult). r .dropped + probes r) found-is ∙ pruned-adds p w y x allowed
 
     pub grid-no-less : (v : Vector) → T (candidate (p .sizes) w y x v) → found .distortion ≤ distortion p y x v
     grid-no-less v c = rw grid-distortion (each-place y x hy hx .least v (candidate-yes (p .sizes) w y x v c))
@@ -143,10 +143,10 @@ module _ (p : Pair) (w : ℕ) (f : Fine p w) where
 
   -- search 2 over the grid
   module _ (t : ℕ) where
-    abbrev founds : ℕ → Found
-    founds = blockOf p (asked (p .sizes) 2 w t)
+    abbrev founds : ℕ → SearchResult
+    founds = searchAt p (requestOf (p .sizes) 2 w t)
 
-    pub reading-best : majority (vectorOf p (asked (p .sizes) 2 w t)) (blocks (p .sizes)) ≡ majority (bestOf p w) (blocks (p .sizes))
+    pub reading-best : majority (vectorOf p (requestOf (p .sizes) 2 w t)) (blocks (p .sizes)) ≡ majority (bestOf p w) (blocks (p .sizes))
     reading-best = majority-ext _ _ (blocks (p .sizes)) (λ k h. grid-best t k h)
 
     abbrev triple : Vector → ℕ → List ℤ
@@ -156,11 +156,11 @@ module _ (p : Pair) (w : ℕ) (f : Fine p w) where
     unfolding entries bestEntries
     entries-best = concatTo-ext _ _ (blocks (p .sizes)) (λ k h. ap₂ triple (grid-best t k h) (grid-distortion t k h))
 
-    pub sum-dropped : droppedOver founds (blocks (p .sizes)) ≡ overGrid p (λ y x. number (isDropped p w y x))
+    pub sum-dropped : droppedOver founds (blocks (p .sizes)) ≡ overGrid p (λ y x. howMany (isDropped p w y x))
     sum-dropped = sumTo-ext _ _ (blocks (p .sizes)) (λ k h. grid-dropped t k h)
 
-    pub sum-measured : countOver founds (blocks (p .sizes)) 4 ≡ overGrid p (λ y x. number (isMeasured p w y x))
+    pub sum-measured : countOver founds (blocks (p .sizes)) 4 ≡ overGrid p (λ y x. howMany (isMeasured p w y x))
     sum-measured = sumTo-ext _ _ (blocks (p .sizes)) (λ k h. grid-measured t k h)
 
-    pub sum-both : droppedOver founds (blocks (p .sizes)) + countOver founds (blocks (p .sizes)) 4 ≡ overGrid p (λ y x. number (candidate (p .sizes) w y x))
+    pub sum-both : droppedOver founds (blocks (p .sizes)) + countOver founds (blocks (p .sizes)) 4 ≡ overGrid p (λ y x. howMany (candidate (p .sizes) w y x))
     sum-both = sym (sumTo-add _ _ (blocks (p .sizes))) ∙ sumTo-ext _ _ (blocks (p .sizes)) (λ k h. grid-adds t k h)

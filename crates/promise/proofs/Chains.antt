@@ -10,24 +10,24 @@ use lib.IntN.{ℤ}
 use lib.ListN.{length}
 use Rattle.base.specs.Tests.{T-true}
 use Rattle.frame.specs.Pictures.{Pair}
-use Rattle.refusals.specs.Refusals.{unless, first, first-zero, searchOk, windowOk, thresholdOk, pairRefusal, requestRefusal, Paired, paired, window-small}
+use Rattle.refusals.specs.Refusals.{unless, firstRefusal, first-refusal-zero, searchOk, windowOk, thresholdOk, pairRefusal, requestRefusal, Paired, paired, window-small}
 use Rattle.refusals.specs.Refusals as refusals
-use Rattle.field.specs.Field.{asked, listSize, fieldRefusal}
+use Rattle.field.specs.Field.{requestOf, listSize, fieldRefusal}
 
 -- ---- the refusals of a step that come before the field is filled, and the one after
 
 abbrev chain : ℕ → Bool → Bool → ℕ → ℕ
-chain f a b z = first f (unless a 31 (unless b 32 z))
+chain f a b z = firstRefusal f (unless a 31 (unless b 32 z))
 
 pub chain-late : (f : ℕ) (a b : Bool) (z : ℕ) → chain f a b 0 ≡ 0 → chain f a b z ≡ z
-unfolding first
+unfolding firstRefusal
 chain-late zero true true z e = refl
 chain-late zero true false z e = absurd (omega arith)
 chain-late zero false b z e = absurd (omega arith)
 chain-late (suc f) a b z e = absurd (omega arith)
 
 pub chain-early : (f : ℕ) (a b : Bool) (z : ℕ) → (chain f a b 0 ≡ 0 → ⊥) → chain f a b z ≡ chain f a b 0
-unfolding first
+unfolding firstRefusal
 chain-early zero true true z n = absurd (n refl)
 chain-early zero true false z n = refl
 chain-early zero false b z n = refl
@@ -38,10 +38,10 @@ module _ (p : Pair) where
   pairChain = pairRefusal (length (p .older)) (length (p .newer)) (p .sizes)
 
   abbrev pub requestChain : (s w t : ℕ) → ℕ
-  requestChain s w t = requestRefusal (length (p .older)) (length (p .newer)) (asked (p .sizes) s w t)
+  requestChain s w t = requestRefusal (length (p .older)) (length (p .newer)) (requestOf (p .sizes) s w t)
 
   abbrev pub fieldChain : (s w t list table : ℕ) → ℕ
-  fieldChain s w t list table = fieldRefusal (length (p .older)) (length (p .newer)) (asked (p .sizes) s w t) list table
+  fieldChain s w t list table = fieldRefusal (length (p .older)) (length (p .newer)) (requestOf (p .sizes) s w t) list table
 
   -- what an accepted step's pair and window have
   pub record Fine (w : ℕ) : Type 0 where
@@ -55,22 +55,22 @@ module _ (p : Pair) where
   unfolding requestRefusal
   request-fine s w t e =
       record {
-        pair = first-zero pairChain _ e .0;
-        small = window-small s w (refusals.asked (length (p .older)) (length (p .newer)) (asked (p .sizes) s w t) e .window);
+        pair = first-refusal-zero pairChain _ e .0;
+        small = window-small s w (refusals.requested (length (p .older)) (length (p .newer)) (requestOf (p .sizes) s w t) e .window);
       }
 
   pub field-request : (s w t list table : ℕ) → fieldChain s w t list table ≡ 0 → requestChain s w t ≡ 0
   unfolding fieldRefusal
-  field-request s w t list table e = first-zero (requestChain s w t) _ e .0
+  field-request s w t list table e = first-refusal-zero (requestChain s w t) _ e .0
 
   -- the same pair, for any search with a window and a threshold that it takes
   pub request-any : (s w t : ℕ) → pairChain ≡ 0 → T (searchOk s) → T (windowOk s w) → T (thresholdOk s t) → requestChain s w t ≡ 0
-  unfolding requestRefusal first
+  unfolding requestRefusal firstRefusal
   request-any s w t e r o h =
       rw (e, T-true (searchOk s) r, T-true (windowOk s w) o, T-true (thresholdOk s t) h)
 
   -- searches 3 and 4 use no table
   pub field-any : (s w t : ℕ) (list : List ℤ) (table : List ℕ) → requestChain s w t ≡ 0 → eqb s 2 ≡ false → listSize (p .sizes) ≤ length list
       → fieldChain s w t (length list) (length table) ≡ 0
-  unfolding fieldRefusal first
+  unfolding fieldRefusal firstRefusal
   field-any s w t list table e n h = rw (e, n, le-leb (listSize (p .sizes)) (length list) h)

@@ -11,10 +11,10 @@ use lib.ListN.{length, length-append}
 use borrow.Author.Tests.{eq-eqb, ne-eqb}
 use Rattle.order.specs.declared.Vector.{Vector}
 use Rattle.frame.specs.Pictures.{Pair}
-use Rattle.refusals.specs.Refusals.{first-zero}
+use Rattle.refusals.specs.Refusals.{first-refusal-zero}
 use Rattle.track.specs.declared.Track.{Track}
-use Rattle.track.specs.Track.{newTrack, homedAt, inRange}
-use Rattle.promise.specs.Demand.{Call, travel, refusalOf, accept, reckon, reckoned, accepted, Standing, standingOn, sumDown, sumAcross, trackAt, NoHoming}
+use Rattle.track.specs.Track.{trackNew, homedAt, inRange}
+use Rattle.promise.specs.Demand.{Call, travel, refusalOf, accept, reckon, reckoned, acceptedCalls, Standing, standingOn, sumDown, sumAcross, trackAt, NoHoming}
 use Rattle.promise.specs.Demand.Call.{home, step}
 use Rattle.promise.specs.Demand.Standing.{nowhere, from}
 
@@ -46,7 +46,7 @@ home-place y x = rw (+ℤ-idr y, +ℤ-idr x)
 never : (t : Track) (p : Pair) (w threshold : ℕ) (list : List ℤ) (table : List ℕ) → t .homed ≡ false → refusalOf t (step p w threshold list table) ≡ 0 → ⊥
 unfolding refusalOf
 never t p w threshold list table h e =
-    let g = first-zero _ _ e .1 in
+    let g = first-refusal-zero _ _ e .1 in
     omega (arith, rw h at g)
 
 refused-stays : (t : Track) (c : Call) → (refusalOf t c ≡ 0 → ⊥) → reckon t c ≡ t
@@ -57,34 +57,34 @@ accepted-goes : (t : Track) (c : Call) → refusalOf t c ≡ 0 → reckon t c �
 unfolding reckon
 accepted-goes t c e = rw (eq-eqb (refusalOf t c) 0 e)
 
-accepted-skip : (t : Track) (c : Call) (cs : List Call) → (refusalOf t c ≡ 0 → ⊥) → accepted t (c ∷ cs) ≡ accepted t cs
-unfolding accepted
+accepted-skip : (t : Track) (c : Call) (cs : List Call) → (refusalOf t c ≡ 0 → ⊥) → acceptedCalls t (c ∷ cs) ≡ acceptedCalls t cs
+unfolding acceptedCalls
 accepted-skip t c cs n = rw (ne-eqb (refusalOf t c) 0 n, refused-stays t c n)
 
-accepted-take : (t : Track) (c : Call) (cs : List Call) → refusalOf t c ≡ 0 → accepted t (c ∷ cs) ≡ c ∷ accepted (accept t c) cs
-unfolding accepted
+accepted-take : (t : Track) (c : Call) (cs : List Call) → refusalOf t c ≡ 0 → acceptedCalls t (c ∷ cs) ≡ c ∷ acceptedCalls (accept t c) cs
+unfolding acceptedCalls
 accepted-take t c cs e = rw (eq-eqb (refusalOf t c) 0 e, accepted-goes t c e)
 
 -- where a standing is, and where the calls leave it
 abbrev Ends : Standing → List Call → Type 0
-Ends s cs = reckoned (trackAt s) cs ≡ trackAt (standingOn s (accepted (trackAt s) cs))
+Ends s cs = reckoned (trackAt s) cs ≡ trackAt (standingOn s (acceptedCalls (trackAt s) cs))
 
 -- one accepted call
 takes : (s : Standing) (c : Call) (cs : List Call) → ((s : Standing) → Ends s cs) → refusalOf (trackAt s) c ≡ 0
-    → reckoned (accept (trackAt s) c) cs ≡ trackAt (standingOn s (c ∷ accepted (accept (trackAt s) c) cs))
+    → reckoned (accept (trackAt s) c) cs ≡ trackAt (standingOn s (c ∷ acceptedCalls (accept (trackAt s) c) cs))
 unfolding accept standingOn trackAt
 takes s (home y x) cs ih e = rw (home-place y x) (ih (from y x []))
-takes nowhere (step p w threshold list table) cs ih e = absurd (never newTrack p w threshold list table refl e)
+takes nowhere (step p w threshold list table) cs ih e = absurd (never trackNew p w threshold list table refl e)
 takes (from y x vs) (step p w threshold list table) cs ih e = rw (travel-more y x vs (travel p w)) (ih (from y x (vs ++ (travel p w ∷ []))))
 
 turn : (s : Standing) (c : Call) (cs : List Call) → ((s : Standing) → Ends s cs) → Dec (refusalOf (trackAt s) c ≡ 0)
-    → reckoned (reckon (trackAt s) c) cs ≡ trackAt (standingOn s (accepted (trackAt s) (c ∷ cs)))
+    → reckoned (reckon (trackAt s) c) cs ≡ trackAt (standingOn s (acceptedCalls (trackAt s) (c ∷ cs)))
 turn s c cs ih (no n) = rw (refused-stays (trackAt s) c n, accepted-skip (trackAt s) c cs n) (ih s)
 turn s c cs ih (yes e) = rw (accepted-goes (trackAt s) c e, accepted-take (trackAt s) c cs e) (takes s c cs ih e)
 
 -- from a standing s: the track is that of the standing after the accepted calls
 pub closed : (cs : List Call) (s : Standing) → Ends s cs
-unfolding reckoned accepted standingOn
+unfolding reckoned acceptedCalls standingOn
 closed [] s = refl
 closed (c ∷ cs) s = turn s c cs (closed cs) (ℕ-discrete (refusalOf (trackAt s) c) 0)
 
@@ -122,13 +122,13 @@ home-takes t y x a b = rw (a, b)
 -- In the customer's words: after the last accepted homing at (y0, x0) with accepted travels t1 .. tn since, the track is homed, at
 -- (y0 + the sum of dy, x0 + the sum of dx), with steps n.
 pub reckoned-since : (t : Track) (before after : List Call) (y0 x0 : ℤ) → inRange y0 ≡ true → inRange x0 ≡ true
-    → NoHoming (accepted (homedAt y0 x0) after)
-    → let ts = travelsOf (accepted (homedAt y0 x0) after) in
+    → NoHoming (acceptedCalls (homedAt y0 x0) after)
+    → let ts = travelsOf (acceptedCalls (homedAt y0 x0) after) in
     reckoned t (before ++ (home y0 x0 ∷ after)) ≡ record { homed = true; y = y0 +ℤ sumDown ts; x = x0 +ℤ sumAcross ts; steps = length ts }
 unfolding reckoned trackAt
 reckoned-since t before after y0 x0 a b h =
     reckoned-append t before (home y0 x0 ∷ after)
     ∙ ap (λ (u : Track). reckoned u after) (home-takes (reckoned t before) y0 x0 a b ∙ home-place y0 x0)
     ∙ closed after (from y0 x0 [])
-    ∙ ap (λ (u : Track). trackAt (standingOn (from y0 x0 []) (accepted u after))) (sym (home-place y0 x0))
-    ∙ ap trackAt (piles (accepted (homedAt y0 x0) after) y0 x0 [] h)
+    ∙ ap (λ (u : Track). trackAt (standingOn (from y0 x0 []) (acceptedCalls u after))) (sym (home-place y0 x0))
+    ∙ ap trackAt (piles (acceptedCalls (homedAt y0 x0) after) y0 x0 [] h)

@@ -19,16 +19,16 @@ use Rattle.order.specs.Preference.{preferred}
 use Rattle.order.proofs.Order.{once}
 use Rattle.frame.specs.Pictures.{Pair}
 use Rattle.frame.specs.Candidates.{candidate}
-use Rattle.refusals.specs.Refusals.{listed}
+use Rattle.refusals.specs.Refusals.{blockSizeOk}
 use Rattle.distortion.specs.Blocks.{distortion}
-use Rattle.search.specs.Found.{probes}
+use Rattle.search.specs.SearchResult.{probes}
 use Rattle.probe.specs.Probe.{isIn}
-use Rattle.pruning.specs.Sift.{total}
-use Rattle.pruning.proofs.Parts.{total-append}
-use Rattle.pruned.specs.Answer.{pruning, prunedFound}
-use Rattle.pruned.proofs.Blocks.{listed-power}
+use Rattle.pruned_rule.specs.Sift.{total}
+use Rattle.pruned_rule.proofs.Parts.{total-append}
+use Rattle.pruned.specs.Answer.{pruning, prunedSearch}
+use Rattle.pruned.proofs.Blocks.{block-size-power}
 use Rattle.pruned.proofs.Laws.{pruned-counted, pruned-probes, pruned-holds, pruned-drops}
-use Rattle.promise.specs.Demand.{number, vectorsAt, isDropped, isMeasured}
+use Rattle.promise.specs.Demand.{howMany, vectorsAt, isDropped, isMeasured}
 
 -- ---- vectors, and the vectors at places of the table
 
@@ -70,8 +70,8 @@ both-one true b = refl
 both-one false b = refl
 
 -- a count over those picked
-total-number : (q b : ℕ → Bool) (n : ℕ) → total (λ k. one (b k)) (pick q n) ≡ length (pick (λ k. q k && b k) n)
-total-number q b n =
+total-many : (q b : ℕ → Bool) (n : ℕ) → total (λ k. one (b k)) (pick q n) ≡ length (pick (λ k. q k && b k) n)
+total-many q b n =
     total-pick (λ k. one (b k)) q n ∙ sumTo-ext _ _ n (λ k h. both-one (q k) (b k)) ∙ sym (pick-length (λ k. q k && b k) n)
 
 total-all : (b : ℕ → Bool) (ks : List ℕ) → ((k : ℕ) → k ∈ ks → b k ≡ true) → total (λ k. one (b k)) ks ≡ length ks
@@ -86,7 +86,7 @@ total-no b (k ∷ ks) h = ap₂ _+_ (ap one (h k (List·Memᴰ·head refl))) (to
 
 -- ---- a block that stands wholly inside
 
-module _ (p : Pair) (w y x : ℕ) (allowed : T (listed (p .sizes .n))) (small : w ≤ 16)
+module _ (p : Pair) (w y x : ℕ) (allowed : T (blockSizeOk (p .sizes .n))) (small : w ≤ 16)
     (down : y + p .sizes .n ≤ p .sizes .height) (across : x + p .sizes .n ≤ p .sizes .width)
   where
     abbrev passes : ℕ → Bool
@@ -105,17 +105,17 @@ module _ (p : Pair) (w y x : ℕ) (allowed : T (listed (p .sizes .n))) (small : 
         go : (b : Bool) → isGone k ≡ b → b ≡ false
         go false e = refl
         go true e =
-            let h = pruned-holds p w y x (listed-power (p .sizes .n) allowed) small down across in
+            let h = pruned-holds p w y x (block-size-power (p .sizes .n) allowed) small down across in
             let r = in-mem (preferred k) gone (true-T (isGone k) e) in
             let same-place : r .0 ≡ k = once (r .0) k (picked passes 1089 (h .dropped-from (r .1)) .0) (picked passes 1089 (h .left-from m) .0) (r .2) in
             absurd (h .apart m (subst (λ (j : ℕ). j ∈ gone) same-place (r .1)))
 
     counted : (b : ℕ → Bool) → total (λ k. one (b k)) (pruning p w y x .left) + total (λ k. one (b k)) gone ≡ length (pick (λ k. passes k && b k) 1089)
-    counted b = pruned-counted p w y x .parts (λ k. one (b k)) ∙ total-number passes b 1089
+    counted b = pruned-counted p w y x .parts (λ k. one (b k)) ∙ total-many passes b 1089
 
-    pub dropped-number : prunedFound p w y x .dropped ≡ number (isDropped p w y x)
-    unfolding prunedFound
-    dropped-number =
+    pub dropped-many : prunedSearch p w y x .dropped ≡ howMany (isDropped p w y x)
+    unfolding prunedSearch
+    dropped-many =
         omega (
           arith,
           counted isGone,
@@ -123,8 +123,8 @@ module _ (p : Pair) (w y x : ℕ) (allowed : T (listed (p .sizes .n))) (small : 
           total-all isGone gone (λ k m. mem-in gone m),
         )
 
-    pub measured-number : probes (prunedFound p w y x) ≡ number (isMeasured p w y x)
-    measured-number =
+    pub measured-many : probes (prunedSearch p w y x) ≡ howMany (isMeasured p w y x)
+    measured-many =
         omega (
           arith,
           pruned-probes p w y x allowed,
@@ -134,7 +134,7 @@ module _ (p : Pair) (w y x : ℕ) (allowed : T (listed (p .sizes .n))) (small : 
         )
 
     -- every dropped one has strictly more
-    pub dropped-worse : (v : Vector) → T (isDropped p w y x v) → prunedFound p w y x .distortion < distortion p y x v
+    pub dropped-worse : (v : Vector) → T (isDropped p w y x v) → prunedSearch p w y x .distortion < distortion p y x v
     dropped-worse v t =
         let r = in-mem v gone (and-right (candidate (p .sizes) w y x v) (isIn v (vectorsAt gone)) t) in
-        subst (λ (u : Vector). prunedFound p w y x .distortion < distortion p y x u) (r .2) (pruned-drops p w y x (listed-power (p .sizes .n) allowed) small down across (r .1))
+        subst (λ (u : Vector). prunedSearch p w y x .distortion < distortion p y x u) (r .2) (pruned-drops p w y x (block-size-power (p .sizes .n) allowed) small down across (r .1))

@@ -15,14 +15,14 @@ use Rattle.signed.specs.Values.{movedBy}
 use Rattle.order.specs.declared.Vector.{Vector}
 use Rattle.frame.specs.Pictures.{Pair}
 use Rattle.frame.specs.Grid.{blocks}
-use Rattle.refusals.specs.Refusals.{unless, first-zero}
+use Rattle.refusals.specs.Refusals.{unless, first-refusal-zero}
 use Rattle.reading.specs.Reading.{majority}
 use Rattle.field.specs.declared.FieldAnswer.{FieldAnswer}
-use Rattle.field.specs.Field.{asked, fieldAnswer, Fielded, filledList, field-accepted}
+use Rattle.field.specs.Field.{requestOf, fieldAnswer, FieldResult, filledList, field-accepted}
 use Rattle.track.specs.declared.Track.{Track}
 use Rattle.track.specs.declared.Homed.{Homed}
-use Rattle.track.specs.Track.{inRange, homedAt, homed, stepRefusal, arrived, arrivedAt, Stepping, asStepping, landed, stepped, step-refused, step-landed}
-use Rattle.promise.specs.Demand.{Call, bestOf, travel, refusalOf, accept, reckon, Result, trackIn, refusalIn, call, AtStep, grid}
+use Rattle.track.specs.Track.{inRange, homedAt, trackHome, stepRefusal, arrived, arrivedAt, StepResult, stepResult, landed, trackStep, step-refused, step-landed}
+use Rattle.promise.specs.Demand.{Call, bestOf, travel, refusalOf, accept, reckon, Result, trackIn, refusalIn, call, AtStep, fieldOn}
 use Rattle.promise.specs.Demand.Call.{home, step}
 use Rattle.promise.specs.Demand.Result.{stepping}
 use Rattle.promise.proofs.Chains.{chain-late, chain-early, fieldChain, Fine, request-fine, field-request}
@@ -40,26 +40,26 @@ home-either t new true = (refl, refl)
 home-either t new false = (refl, refl)
 
 home-agrees : (t : Track) (y x : ℤ) → Agrees t (home y x) (call t (home y x))
-unfolding call homed refusalOf reckon accept
+unfolding call trackHome refusalOf reckon accept
 home-agrees t y x = let h = home-either t (homedAt y x) (inRange y && inRange x) in record { refusal = h .0; track = h .1 }
 
 -- ---- the new place of a step
 
-record Landing (t : Track) (f : Fielded) (s : Stepping) (new : Track) (late : ℕ) : Type 0 where
+record Landing (t : Track) (f : FieldResult) (s : StepResult) (new : Track) (late : ℕ) : Type 0 where
   refusal : f .answer .refusal ≡ 0 → s .stepped .answer .refusal ≡ late
   track : s .stepped .track ≡ cond (eqb late 0) new t
   list : s .list ≡ f .list
   whole : late ≡ 0 → s .stepped .answer ≡ f .answer
 
-landing-at : (t : Track) (f : Fielded) (y x : ℤ) (a b : Bool)
-    → Landing t f (asStepping (arrivedAt t (f .answer) (cond a (To y) Out) (cond b (To x) Out)) (f .list) (f .table))
+landing-at : (t : Track) (f : FieldResult) (y x : ℤ) (a b : Bool)
+    → Landing t f (stepResult (arrivedAt t (f .answer) (cond a (To y) Out) (cond b (To x) Out)) (f .list) (f .table))
     (record { homed = true; y = y; x = x; steps = t .steps + 1 }) (unless (a && b) 33 0)
 landing-at t f y x true true = record { refusal = λ e. e; track = refl; list = refl; whole = λ e. refl }
 landing-at t f y x true false = record { refusal = λ e. refl; track = refl; list = refl; whole = λ e. absurd (omega arith) }
 landing-at t f y x false true = record { refusal = λ e. refl; track = refl; list = refl; whole = λ e. absurd (omega arith) }
 landing-at t f y x false false = record { refusal = λ e. refl; track = refl; list = refl; whole = λ e. absurd (omega arith) }
 
-landing : (t : Track) (f : Fielded) (y x : ℤ) → t .y +ℤ negℤ (f .answer .dy) ≡ y → t .x +ℤ negℤ (f .answer .dx) ≡ x
+landing : (t : Track) (f : FieldResult) (y x : ℤ) → t .y +ℤ negℤ (f .answer .dy) ≡ y → t .x +ℤ negℤ (f .answer .dx) ≡ x
     → Landing t f (landed t f) (record { homed = true; y = y; x = x; steps = t .steps + 1 }) (unless (inRange y && inRange x) 33 0)
 unfolding arrived movedBy
 landing t f y x ey ex = rw (ey, ex) (landing-at t f y x (inRange y) (inRange x))
@@ -70,15 +70,15 @@ module _ (t : Track) (p : Pair) (w threshold : ℕ) (list : List ℤ) (table : L
   abbrev this : Call
   this = step p w threshold list table
 
-  abbrev field : Fielded
-  field = grid p 2 w threshold list table
+  abbrev field : FieldResult
+  field = fieldOn p 2 w threshold list table
 
-  abbrev answers : Stepping
-  answers = stepped t (p .older) (p .newer) (asked (p .sizes) 2 w threshold) list table
+  abbrev answers : StepResult
+  answers = trackStep t (p .older) (p .newer) (requestOf (p .sizes) 2 w threshold) list table
 
   -- the refusals before the field is filled, and the one after
   abbrev early : ℕ
-  early = stepRefusal t (length (p .older)) (length (p .newer)) (asked (p .sizes) 2 w threshold) (length list) (length table)
+  early = stepRefusal t (length (p .older)) (length (p .newer)) (requestOf (p .sizes) 2 w threshold) (length list) (length table)
 
   abbrev late : ℕ
   late = unless (inRange (t .y +ℤ travel p w .dy) && inRange (t .x +ℤ travel p w .dx)) 33 0
@@ -96,18 +96,18 @@ module _ (t : Track) (p : Pair) (w threshold : ℕ) (list : List ℤ) (table : L
 
   early-field : early ≡ 0 → fieldEarly ≡ 0
   unfolding stepRefusal
-  early-field e = first-zero fieldEarly _ e .0
+  early-field e = first-refusal-zero fieldEarly _ e .0
 
   -- what an accepted field answers
   module _ (e : fieldEarly ≡ 0) where
     pub field-fine : Fine p w
     field-fine = request-fine p 2 w threshold (field-request p 2 w threshold (length list) (length table) e)
 
-    pub answer-is : field .answer ≡ fieldAnswer p (asked (p .sizes) 2 w threshold)
-    answer-is = ap (λ (f : Fielded). f .answer) (field-accepted (p .older) (p .newer) (asked (p .sizes) 2 w threshold) list table e)
+    pub answer-is : field .answer ≡ fieldAnswer p (requestOf (p .sizes) 2 w threshold)
+    answer-is = ap (λ (f : FieldResult). f .answer) (field-accepted (p .older) (p .newer) (requestOf (p .sizes) 2 w threshold) list table e)
 
-    pub list-is : field .list ≡ filledList p (asked (p .sizes) 2 w threshold) list
-    list-is = ap (λ (f : Fielded). f .list) (field-accepted (p .older) (p .newer) (asked (p .sizes) 2 w threshold) list table e)
+    pub list-is : field .list ≡ filledList p (requestOf (p .sizes) 2 w threshold) list
+    list-is = ap (λ (f : FieldResult). f .list) (field-accepted (p .older) (p .newer) (requestOf (p .sizes) 2 w threshold) list table e)
 
     unrefused : field .answer .refusal ≡ 0
     unfolding fieldAnswer
@@ -134,14 +134,14 @@ module _ (t : Track) (p : Pair) (w threshold : ℕ) (list : List ℤ) (table : L
       go : Dec (early ≡ 0) → Agrees t this (stepping answers)
       go (yes e) =
           let l = lands (early-field e) in
-          rw (step-landed t (p .older) (p .newer) (asked (p .sizes) 2 w threshold) list table e)
+          rw (step-landed t (p .older) (p .newer) (requestOf (p .sizes) 2 w threshold) list table e)
           (record { refusal = l .refusal (unrefused (early-field e)) ∙ sym (refusal-late e); track = rw (refusal-late e) (l .track) })
       go (no n) =
-          rw (step-refused t (p .older) (p .newer) (asked (p .sizes) 2 w threshold) list table n)
+          rw (step-refused t (p .older) (p .newer) (requestOf (p .sizes) 2 w threshold) list table n)
           (record { refusal = sym (refusal-early n); track = rw (refusal-early n, ne-eqb early 0 n) refl })
 
   -- an accepted step answers with all that its field answers
-  pub record Taken (s : Stepping) : Type 0 where
+  pub record Taken (s : StepResult) : Type 0 where
     pub fine : fieldEarly ≡ 0
     pub list-same : s .list ≡ field .list
     pub answer-same : s .stepped .answer ≡ field .answer
@@ -152,7 +152,7 @@ module _ (t : Track) (p : Pair) (w threshold : ℕ) (list : List ℤ) (table : L
       go : Dec (early ≡ 0) → Taken answers
       go (yes e) =
           let l = lands (early-field e) in
-          rw (step-landed t (p .older) (p .newer) (asked (p .sizes) 2 w threshold) list table e)
+          rw (step-landed t (p .older) (p .newer) (requestOf (p .sizes) 2 w threshold) list table e)
           (record { fine = early-field e; list-same = l .list; answer-same = l .whole (sym (refusal-late e) ∙ a) })
       go (no n) = absurd (n (sym (refusal-early n) ∙ a))
 
@@ -161,10 +161,10 @@ agrees t (home y x) = home-agrees t y x
 agrees t (step p w threshold list table) = step-agrees t p w threshold list table
 
 -- a fact about every accepted step, from one about what such a step answers
-pub at-step : (Q : Pair → ℕ → List ℤ → Stepping → Type 0)
-    → ((t : Track) (p : Pair) (w threshold : ℕ) (list : List ℤ) (table : List ℕ) (s : Stepping) → Taken t p w threshold list table s → Q p w list s)
+pub at-step : (Q : Pair → ℕ → List ℤ → StepResult → Type 0)
+    → ((t : Track) (p : Pair) (w threshold : ℕ) (list : List ℤ) (table : List ℕ) (s : StepResult) → Taken t p w threshold list table s → Q p w list s)
     → (t : Track) (c : Call) → AtStep Q t c (call t c)
 unfolding call
 at-step Q h t (home y x) = tt
 at-step Q h t (step p w threshold list table) =
-    λ e. h t p w threshold list table (stepped t (p .older) (p .newer) (asked (p .sizes) 2 w threshold) list table) (step-taken t p w threshold list table e)
+    λ e. h t p w threshold list table (trackStep t (p .older) (p .newer) (requestOf (p .sizes) 2 w threshold) list table) (step-taken t p w threshold list table e)

@@ -13,96 +13,96 @@ use Rattle.frame.specs.Grid.{blocks, blockRow, blockColumn, block-down, block-a
 use Rattle.refusals.specs.Cross.{crossWindow, log2}
 use Rattle.refusals.specs.Refusals.{windowOk, thresholdOk}
 use Rattle.refusals.specs.Refusals as refusals
-use Rattle.search.specs.declared.Found.{Found}
+use Rattle.search.specs.declared.SearchResult.{SearchResult}
 use Rattle.search.specs.Exhaustive.{best}
-use Rattle.search.specs.Weighing.{target}
-use Rattle.probe.specs.Held.{foundOf}
+use Rattle.search.specs.Target.{target}
+use Rattle.probe.specs.BestSoFar.{resultOf}
 use Rattle.four_step.proofs.FourStep.{four-step-never-lower, four-step-count}
 use Rattle.cross.proofs.Cross.{cross-never-lower, cross-count}
-use Rattle.block.specs.Block.{searched, searchable, search-fine, block-unrefused, block-accepted, searched-four-step, searched-cross}
-use Rattle.field.specs.Field.{asked, listSize, blockOf, fieldAnswer, Fielded, field-accepted, field-unrefused}
-use Rattle.promise.specs.Demand.{EachPlace, single, grid, NotLower, FieldNotLower, Runs}
+use Rattle.block.specs.Block.{searchBy, searchable, search-fine, block-unrefused, block-accepted, searched-four-step, searched-cross}
+use Rattle.field.specs.Field.{requestOf, listSize, searchAt, fieldAnswer, FieldResult, field-accepted, field-unrefused}
+use Rattle.promise.specs.Demand.{EachPlace, blockOn, fieldOn, NotLower, FieldNotLower, Runs}
 use Rattle.promise.proofs.Chains.{requestChain, fieldChain, Fine, request-any, field-request, field-any}
 use Rattle.promise.proofs.Blocks.{Lists, each-place, entries-third, at-most}
 
 module _ (p : Pair) (w : ℕ) (f : Fine p w) where
   -- ---- they run
 
-  runs : (s u t : ℕ) → requestChain p s u t ≡ 0 → eqb s 2 ≡ false → ((y x : ℕ) → searched p (asked (p .sizes) s u t) y x .refusal ≡ 0) → Runs p s u t
+  runs : (s u t : ℕ) → requestChain p s u t ≡ 0 → eqb s 2 ≡ false → ((y x : ℕ) → searchBy p (requestOf (p .sizes) s u t) y x .refusal ≡ 0) → Runs p s u t
   unfolding fieldAnswer
   runs s u t e n zero = (
-    λ y x hy hx. rw (block-accepted (p .older) (p .newer) (asked (p .sizes) s u t) y x (search-fine _ _ (asked (p .sizes) s u t) y x e hy hx)) (zero y x),
+    λ y x hy hx. rw (block-accepted (p .older) (p .newer) (requestOf (p .sizes) s u t) y x (search-fine _ _ (requestOf (p .sizes) s u t) y x e hy hx)) (zero y x),
     λ list table h.
-        ap (λ (r : Fielded). r .answer .refusal) (field-accepted (p .older) (p .newer) (asked (p .sizes) s u t) list table (field-any p s u t list table e n h)),
+        ap (λ (r : FieldResult). r .answer .refusal) (field-accepted (p .older) (p .newer) (requestOf (p .sizes) s u t) list table (field-any p s u t list table e n h)),
   )
 
   pub four-step-runs : Runs p 3 7 0
-  unfolding windowOk thresholdOk foundOf
+  unfolding windowOk thresholdOk resultOf
   four-step-runs =
       runs 3 7 0 (request-any p 3 7 0 (f .pair) tt tt tt) refl
-      (λ y x. ap (λ (r : Found). r .refusal) (searched-four-step p (asked (p .sizes) 3 7 0) y x refl))
+      (λ y x. ap (λ (r : SearchResult). r .refusal) (searched-four-step p (requestOf (p .sizes) 3 7 0) y x refl))
 
   pub cross-runs : (u t : ℕ) → T (crossWindow u) → t ≤ largestDistortion → Runs p 4 u t
-  unfolding windowOk thresholdOk foundOf
+  unfolding windowOk thresholdOk resultOf
   cross-runs u t c h =
       runs 4 u t (request-any p 4 u t (f .pair) tt c (le→leb t largestDistortion h)) refl
-      (λ y x. ap (λ (r : Found). r .refusal) (searched-cross p (asked (p .sizes) 4 u t) y x refl))
+      (λ y x. ap (λ (r : SearchResult). r .refusal) (searched-cross p (requestOf (p .sizes) 4 u t) y x refl))
 
   -- ---- they are held against the exhaustive best: once for both, from what a search owes at a place
 
-  module _ (s u t most : ℕ) (owes : T (windowOk s u) → EachPlace p (λ y x. NotLower p w y x (searched p (asked (p .sizes) s u t) y x) most)) where
-    block-held : (y x : ℕ) → single p s u t y x .refusal ≡ 0 → NotLower p w y x (single p s u t y x) most
+  module _ (s u t most : ℕ) (owes : T (windowOk s u) → EachPlace p (λ y x. NotLower p w y x (searchBy p (requestOf (p .sizes) s u t) y x) most)) where
+    block-held : (y x : ℕ) → blockOn p s u t y x .refusal ≡ 0 → NotLower p w y x (blockOn p s u t y x) most
     block-held y x e =
-        let c = block-unrefused (p .older) (p .newer) (asked (p .sizes) s u t) y x e in
-        let q = searchable (length (p .older)) (length (p .newer)) (asked (p .sizes) s u t) y x c in
-        rw (block-accepted (p .older) (p .newer) (asked (p .sizes) s u t) y x c)
-        (owes (q .asked .window) y x (q .placed .down) (q .placed .across))
+        let c = block-unrefused (p .older) (p .newer) (requestOf (p .sizes) s u t) y x e in
+        let q = searchable (length (p .older)) (length (p .newer)) (requestOf (p .sizes) s u t) y x c in
+        rw (block-accepted (p .older) (p .newer) (requestOf (p .sizes) s u t) y x c)
+        (owes (q .requested .window) y x (q .placed .down) (q .placed .across))
 
-    module _ (list : List ℤ) (table : List ℕ) (e : grid p s u t list table .answer .refusal ≡ 0) where
-      accepted : fieldChain p s u t (length list) (length table) ≡ 0
-      accepted = field-unrefused (p .older) (p .newer) (asked (p .sizes) s u t) list table e
+    module _ (list : List ℤ) (table : List ℕ) (e : fieldOn p s u t list table .answer .refusal ≡ 0) where
+      acceptedCalls : fieldChain p s u t (length list) (length table) ≡ 0
+      acceptedCalls = field-unrefused (p .older) (p .newer) (requestOf (p .sizes) s u t) list table e
 
-      owed : (k : ℕ) → k < blocks (p .sizes) → NotLower p w (blockRow (p .sizes) k) (blockColumn (p .sizes) k) (blockOf p (asked (p .sizes) s u t) k) most
-      unfolding blockOf
+      owed : (k : ℕ) → k < blocks (p .sizes) → NotLower p w (blockRow (p .sizes) k) (blockColumn (p .sizes) k) (searchAt p (requestOf (p .sizes) s u t) k) most
+      unfolding searchAt
       owed k h =
-          let q = refusals.asked (length (p .older)) (length (p .newer)) (asked (p .sizes) s u t) (field-request p s u t (length list) (length table) accepted) in
+          let q = refusals.requested (length (p .older)) (length (p .newer)) (requestOf (p .sizes) s u t) (field-request p s u t (length list) (length table) acceptedCalls) in
           let fits = q .paired .fitting in
           owes (q .window) (blockRow (p .sizes) k) (blockColumn (p .sizes) k) (block-down (p .sizes) fits k h) (block-across (p .sizes) fits k h)
 
       -- mine is the list of an accepted step by search 2
-      field-held : (mine : List ℤ) → Lists p w mine → FieldNotLower p mine (grid p s u t list table) most
+      field-held : (mine : List ℤ) → Lists p w mine → FieldNotLower p mine (fieldOn p s u t list table) most
       unfolding fieldAnswer
       field-held mine r =
-          rw (field-accepted (p .older) (p .newer) (asked (p .sizes) s u t) list table accepted) (
-            λ k h. rw (r k h, entries-third (blockOf p (asked (p .sizes) s u t)) (blocks (p .sizes)) k (drop (listSize (p .sizes)) list) h) (at-most (owed k h .0)),
+          rw (field-accepted (p .older) (p .newer) (requestOf (p .sizes) s u t) list table acceptedCalls) (
+            λ k h. rw (r k h, entries-third (searchAt p (requestOf (p .sizes) s u t)) (blocks (p .sizes)) k (drop (listSize (p .sizes)) list) h) (at-most (owed k h .0)),
             sumTo-bound most _ (blocks (p .sizes)) (λ k h. owed k h .1),
           )
 
-  four-step-owes : 7 ≤ w → (t : ℕ) → EachPlace p (λ y x. NotLower p w y x (searched p (asked (p .sizes) 3 7 t) y x) 27)
-  unfolding foundOf
+  four-step-owes : 7 ≤ w → (t : ℕ) → EachPlace p (λ y x. NotLower p w y x (searchBy p (requestOf (p .sizes) 3 7 t) y x) 27)
+  unfolding resultOf
   four-step-owes l t y x hy hx =
-      rw (searched-four-step p (asked (p .sizes) 3 7 t) y x refl)
+      rw (searched-four-step p (requestOf (p .sizes) 3 7 t) y x refl)
       (four-step-never-lower p y x hy hx w (best p w y x) l (each-place p w f y x hy hx), four-step-count (target p 7 y x))
 
-  cross-owes : (u : ℕ) → u ≤ w → T (crossWindow u) → (t : ℕ) → EachPlace p (λ y x. NotLower p w y x (searched p (asked (p .sizes) 4 u t) y x) (5 + 4 * log2 u))
-  unfolding foundOf
+  cross-owes : (u : ℕ) → u ≤ w → T (crossWindow u) → (t : ℕ) → EachPlace p (λ y x. NotLower p w y x (searchBy p (requestOf (p .sizes) 4 u t) y x) (5 + 4 * log2 u))
+  unfolding resultOf
   cross-owes u l c t y x hy hx =
-      rw (searched-cross p (asked (p .sizes) 4 u t) y x refl)
+      rw (searched-cross p (requestOf (p .sizes) 4 u t) y x refl)
       (cross-never-lower p t u y x hy hx w (best p w y x) l (each-place p w f y x hy hx), cross-count (target p u y x) t u (T-true (crossWindow u) c))
 
-  pub four-step-block : 7 ≤ w → (t y x : ℕ) → single p 3 7 t y x .refusal ≡ 0 → NotLower p w y x (single p 3 7 t y x) 27
+  pub four-step-block : 7 ≤ w → (t y x : ℕ) → blockOn p 3 7 t y x .refusal ≡ 0 → NotLower p w y x (blockOn p 3 7 t y x) 27
   four-step-block l t = block-held 3 7 t 27 (λ o. four-step-owes l t)
 
-  pub cross-block : (u t y x : ℕ) → u ≤ w → single p 4 u t y x .refusal ≡ 0 → NotLower p w y x (single p 4 u t y x) (5 + 4 * log2 u)
+  pub cross-block : (u t y x : ℕ) → u ≤ w → blockOn p 4 u t y x .refusal ≡ 0 → NotLower p w y x (blockOn p 4 u t y x) (5 + 4 * log2 u)
   unfolding windowOk
   cross-block u t y x l = block-held 4 u t (5 + 4 * log2 u) (λ o. cross-owes u l o t) y x
 
   module _ (mine : List ℤ) (r : Lists p w mine) where
-    pub four-step-over : 7 ≤ w → (t : ℕ) (list : List ℤ) (table : List ℕ) → grid p 3 7 t list table .answer .refusal ≡ 0
-        → FieldNotLower p mine (grid p 3 7 t list table) 27
+    pub four-step-over : 7 ≤ w → (t : ℕ) (list : List ℤ) (table : List ℕ) → fieldOn p 3 7 t list table .answer .refusal ≡ 0
+        → FieldNotLower p mine (fieldOn p 3 7 t list table) 27
     four-step-over l t list table e = field-held 3 7 t 27 (λ o. four-step-owes l t) list table e mine r
 
-    pub cross-over : (u t : ℕ) (list : List ℤ) (table : List ℕ) → u ≤ w → grid p 4 u t list table .answer .refusal ≡ 0
-        → FieldNotLower p mine (grid p 4 u t list table) (5 + 4 * log2 u)
+    pub cross-over : (u t : ℕ) (list : List ℤ) (table : List ℕ) → u ≤ w → fieldOn p 4 u t list table .answer .refusal ≡ 0
+        → FieldNotLower p mine (fieldOn p 4 u t list table) (5 + 4 * log2 u)
     unfolding windowOk
     cross-over u t list table l e = field-held 4 u t (5 + 4 * log2 u) (λ o. cross-owes u l o t) list table e mine r

@@ -15,10 +15,10 @@ use Rattle.frame.specs.Candidates.{candidate}
 use Rattle.distortion.specs.Blocks.{distortion}
 use Rattle.reading.specs.Reading.{majority, Most}
 use Rattle.field.specs.declared.FieldAnswer.{FieldAnswer}
-use Rattle.field.specs.Field.{asked, listSize, blockOf, fieldAnswer}
+use Rattle.field.specs.Field.{requestOf, listSize, searchAt, fieldAnswer}
 use Rattle.track.specs.declared.Track.{Track}
-use Rattle.track.specs.Track.{newTrack, inRange, homedAt, Stepping}
-use Rattle.promise.specs.Demand.{Call, bestOf, turned, travel, reckon, reckoned, accepted, standingOn, sumDown, sumAcross, trackAt, NoHoming, Result, trackIn, call, runFrom, run, last, Each, AtStep, EachStep, EachBlock, EachGridPlace, bestEntries, reported, number, isDropped, isMeasured, overGrid, Promise}
+use Rattle.track.specs.Track.{trackNew, inRange, homedAt, StepResult}
+use Rattle.promise.specs.Demand.{Call, bestOf, turned, travel, reckon, reckoned, acceptedCalls, standingOn, sumDown, sumAcross, trackAt, NoHoming, Result, trackIn, call, runFrom, run, last, Each, AtStep, EachStep, EachBlock, EachGridPlace, bestEntries, reported, howMany, isDropped, isMeasured, overGrid, Promise}
 use Rattle.promise.specs.Demand.Call.{home}
 use Rattle.promise.specs.Demand.Standing.{nowhere}
 use Rattle.promise.specs.Demand.Each.{none, next}
@@ -31,14 +31,14 @@ use Rattle.promise.proofs.Closed.{closed, stays-nowhere, travelsOf, rec
 
 -- ---- an accepted step
 
-module _ (t : Track) (p : Pair) (w threshold : ℕ) (list : List ℤ) (table : List ℕ) (s : Stepping) (k : Taken t p w threshold list table s) where
+module _ (t : Track) (p : Pair) (w threshold : ℕ) (list : List ℤ) (table : List ℕ) (s : StepResult) (k : Taken t p w threshold list table s) where
   fine : Fine p w
   fine = field-fine t p w threshold list table (k .fine)
 
   abbrev answer : FieldAnswer
   answer = s .stepped .answer
 
-  answered : answer ≡ fieldAnswer p (asked (p .sizes) 2 w threshold)
+  answered : answer ≡ fieldAnswer p (requestOf (p .sizes) 2 w threshold)
   answered = k .answer-same ∙ answer-is t p w threshold list table (k .fine)
 
   travels : (v : Vector) × Most (bestOf p w) (blocks (p .sizes)) v × (travel p w ≡ turned v) × (answer .dy ≡ v .dy) × (answer .dx ≡ v .dx)
@@ -56,10 +56,10 @@ module _ (t : Track) (p : Pair) (w threshold : ℕ) (list : List ℤ) (table : L
       k .list-same ∙ list-is t p w threshold list table (k .fine)
       ∙ ap (λ (l : List ℤ). l ++ drop (listSize (p .sizes)) list) (entries-best p w fine threshold)
 
-  reported-found : EachBlock p (λ j. reported (s .list) j ≡ pos (blockOf p (asked (p .sizes) 2 w threshold) j .distortion))
+  reported-found : EachBlock p (λ j. reported (s .list) j ≡ pos (searchAt p (requestOf (p .sizes) 2 w threshold) j .distortion))
   reported-found j h =
       ap (λ (l : List ℤ). reported l j) (k .list-same ∙ list-is t p w threshold list table (k .fine))
-      ∙ entries-third (blockOf p (asked (p .sizes) 2 w threshold)) (blocks (p .sizes)) j (drop (listSize (p .sizes)) list) h
+      ∙ entries-third (searchAt p (requestOf (p .sizes) 2 w threshold)) (blocks (p .sizes)) j (drop (listSize (p .sizes)) list) h
 
   reported-best : Lists p w (s .list)
   reported-best j h = reported-found j h ∙ ap pos (grid-distortion p w fine threshold j h)
@@ -70,9 +70,9 @@ module _ (t : Track) (p : Pair) (w threshold : ℕ) (list : List ℤ) (table : L
   dropped-more : EachGridPlace p (λ j y x. (v : Vector) → T (isDropped p w y x v) → reported (s .list) j <ℤ pos (distortion p y x v))
   dropped-more j h v d = rw (reported-found j h) (below (grid-worse p w fine threshold j h v d))
 
-  sums : (answer .dropped ≡ overGrid p (λ y x. number (isDropped p w y x)))
-      × (getD (answer .counts) 4 0 ≡ overGrid p (λ y x. number (isMeasured p w y x)))
-      × (answer .dropped + getD (answer .counts) 4 0 ≡ overGrid p (λ y x. number (candidate (p .sizes) w y x)))
+  sums : (answer .dropped ≡ overGrid p (λ y x. howMany (isDropped p w y x)))
+      × (getD (answer .counts) 4 0 ≡ overGrid p (λ y x. howMany (isMeasured p w y x)))
+      × (answer .dropped + getD (answer .counts) 4 0 ≡ overGrid p (λ y x. howMany (candidate (p .sizes) w y x)))
   unfolding fieldAnswer
   sums = rw answered (sum-dropped p w fine threshold, sum-measured p w fine threshold, sum-both p w fine threshold)
 
@@ -85,10 +85,10 @@ each P h [] t = none
 each P h (c ∷ cs) t =
     next (h t c) (subst (λ (u : Track). Each P (reckon t c) cs (runFrom u cs)) (sym (agrees t c .track)) (each P h cs (reckon t c)))
 
-steps : (calls : List Call) (Q : Pair → ℕ → List ℤ → Stepping → Type 0)
-    → ((t : Track) (p : Pair) (w threshold : ℕ) (list : List ℤ) (table : List ℕ) (s : Stepping) → Taken t p w threshold list table s → Q p w list s)
+steps : (calls : List Call) (Q : Pair → ℕ → List ℤ → StepResult → Type 0)
+    → ((t : Track) (p : Pair) (w threshold : ℕ) (list : List ℤ) (table : List ℕ) (s : StepResult) → Taken t p w threshold list table s → Q p w list s)
     → EachStep calls Q
-steps calls Q h = each (AtStep Q) (at-step Q h) calls newTrack
+steps calls Q h = each (AtStep Q) (at-step Q h) calls trackNew
 
 -- the track in the end is the reckoning's
 ends : (cs : List Call) (t : Track) → last t (runFrom t cs) ≡ reckoned t cs
@@ -96,21 +96,21 @@ unfolding runFrom last reckoned
 ends [] t = refl
 ends (c ∷ cs) t = ends cs (trackIn (call t c)) ∙ ap (λ (u : Track). reckoned u cs) (agrees t c .track)
 
-stands : (calls : List Call) → last newTrack (run calls) ≡ trackAt (standingOn nowhere (accepted newTrack calls))
+stands : (calls : List Call) → last trackNew (run calls) ≡ trackAt (standingOn nowhere (acceptedCalls trackNew calls))
 unfolding trackAt
-stands calls = ends calls newTrack ∙ closed calls nowhere
+stands calls = ends calls trackNew ∙ closed calls nowhere
 
-unhomed : (calls : List Call) → NoHoming (accepted newTrack calls) → last newTrack (run calls) ≡ newTrack
+unhomed : (calls : List Call) → NoHoming (acceptedCalls trackNew calls) → last trackNew (run calls) ≡ trackNew
 unfolding trackAt
-unhomed calls h = stands calls ∙ ap trackAt (stays-nowhere (accepted newTrack calls) h)
+unhomed calls h = stands calls ∙ ap trackAt (stays-nowhere (acceptedCalls trackNew calls) h)
 
 pub promise : (calls : List Call) → Promise calls
 promise calls = record {
   stands = stands calls;
   unhomed = unhomed calls;
-  reckoning = ends calls newTrack;
-  refusals = each _ (λ t c. agrees t c .refusal) calls newTrack;
-  tracks = each _ (λ t c. agrees t c .track) calls newTrack;
+  reckoning = ends calls trackNew;
+  refusals = each _ (λ t c. agrees t c .refusal) calls trackNew;
+  tracks = each _ (λ t c. agrees t c .track) calls trackNew;
   travels = steps calls _ travels;
   bests = steps calls _ (λ t p w threshold list table s k. each-place p w (fine t p w threshold list table s k));
   listed = steps calls _ listed;
@@ -130,7 +130,7 @@ promise calls = record {
 
 -- In the customer's words: after the last accepted homing, at (y0, x0), the track stands at that place plus the travels of all pairs accepted since, with their
 -- number as its steps
-pub since : (before after : List Call) (y0 x0 : ℤ) → inRange y0 ≡ true → inRange x0 ≡ true → NoHoming (accepted (homedAt y0 x0) after)
-    → let ts = travelsOf (accepted (homedAt y0 x0) after) in
-    last newTrack (run (before ++ (home y0 x0 ∷ after))) ≡ record { homed = true; y = y0 +ℤ sumDown ts; x = x0 +ℤ sumAcross ts; steps = length ts }
-since before after y0 x0 a b h = ends (before ++ (home y0 x0 ∷ after)) newTrack ∙ reckoned-since newTrack before after y0 x0 a b h
+pub since : (before after : List Call) (y0 x0 : ℤ) → inRange y0 ≡ true → inRange x0 ≡ true → NoHoming (acceptedCalls (homedAt y0 x0) after)
+    → let ts = travelsOf (acceptedCalls (homedAt y0 x0) after) in
+    last trackNew (run (before ++ (home y0 x0 ∷ after))) ≡ record { homed = true; y = y0 +ℤ sumDown ts; x = x0 +ℤ sumAcross ts; steps = length ts }
+since before after y0 x0 a b h = ends (before ++ (home y0 x0 ∷ after)) trackNew ∙ reckoned-since trackNew before after y0 x0 a b h

@@ -9,7 +9,7 @@
 --   Each, EachStep           of each call, of each accepted step
 --   Promise                  what is promised
 -- From below come: candidate and distortion (frame, distortion), Best and best (search), votes, majority and Most (reading), the steps of search 2 (pruned),
--- and what the contracts of the code cite: blockFound (block), fielded (field), newTrack, homed and stepped (track).
+-- and what the contracts of the code cite: searchBlock (block), field (field), trackNew, homed and trackStep (track).
 use Prim.Native.Nat.{ℕ, _+_, _*_, _≤_, _<_}
 use mathlib.Core.Path.{_≡_}
 use mathlib.Core.Bool.{Bool, true, cond, not, _&&_}
@@ -27,19 +27,19 @@ use Rattle.frame.specs.Pictures.{Pair, largestDistortion}
 use Rattle.frame.specs.Grid.{blocks, blockRow, blockColumn}
 use Rattle.frame.specs.Candidates.{candidate}
 use Rattle.refusals.specs.Cross.{crossWindow, log2}
-use Rattle.refusals.specs.Refusals.{unless, first}
+use Rattle.refusals.specs.Refusals.{unless, firstRefusal}
 use Rattle.distortion.specs.Blocks.{distortion}
-use Rattle.search.specs.declared.Found.{Found}
-use Rattle.search.specs.Found.{vectorIn, probes}
+use Rattle.search.specs.declared.SearchResult.{SearchResult}
+use Rattle.search.specs.SearchResult.{vectorIn, probes}
 use Rattle.search.specs.Exhaustive.{Best, passing, best}
 use Rattle.probe.specs.Probe.{isIn}
 use Rattle.pruned.specs.Answer.{pruning}
-use Rattle.block.specs.Block.{blockFound}
+use Rattle.block.specs.Block.{searchBlock}
 use Rattle.reading.specs.Reading.{majority, Most}
-use Rattle.field.specs.Field.{asked, listSize, fieldRefusal, Fielded, fielded}
+use Rattle.field.specs.Field.{requestOf, listSize, fieldRefusal, FieldResult, field}
 use Rattle.track.specs.declared.Track.{Track}
 use Rattle.track.specs.declared.Homed.{Homed}
-use Rattle.track.specs.Track.{newTrack, inRange, homedAt, homed, Stepping, stepped}
+use Rattle.track.specs.Track.{trackNew, inRange, homedAt, trackHome, StepResult, trackStep}
 
 -- ---- 1. The calls
 
@@ -67,7 +67,7 @@ travel p w = turned (majority (bestOf p w) (blocks (p .sizes)))
 unfoldable pub refusalOf : Track → Call → ℕ
 refusalOf t (home y x) = unless (inRange y && inRange x) 11 0
 refusalOf t (step p w threshold list table) =
-    first (fieldRefusal (length (p .older)) (length (p .newer)) (asked (p .sizes) 2 w threshold) (length list) (length table))
+    firstRefusal (fieldRefusal (length (p .older)) (length (p .newer)) (requestOf (p .sizes) 2 w threshold) (length list) (length table))
     (unless (t .homed) 31
     (unless (not (leb 1000000 (t .steps))) 32
     (unless (inRange (t .y +ℤ travel p w .dy) && inRange (t .x +ℤ travel p w .dx)) 33 0)))
@@ -89,9 +89,9 @@ reckoned t (c ∷ cs) = reckoned (reckon t c) cs
 -- ---- 3. The same in one line: the last accepted homing place plus the travels of all pairs accepted since, their number as steps
 
 -- the accepted calls, in order
-unfoldable pub accepted : Track → List Call → List Call
-accepted t [] = []
-accepted t (c ∷ cs) = cond (eqb (refusalOf t c) 0) (c ∷ accepted (reckon t c) cs) (accepted (reckon t c) cs)
+unfoldable pub acceptedCalls : Track → List Call → List Call
+acceptedCalls t [] = []
+acceptedCalls t (c ∷ cs) = cond (eqb (refusalOf t c) 0) (c ∷ acceptedCalls (reckon t c) cs) (acceptedCalls (reckon t c) cs)
 
 -- nowhere before the first homing; then the last homing's place, and the travels since, in order
 pub data Standing : Type 0 where
@@ -113,7 +113,7 @@ sumAcross [] = pos 0
 sumAcross (v ∷ vs) = v .dx +ℤ sumAcross vs
 
 unfoldable pub trackAt : Standing → Track
-trackAt nowhere = newTrack
+trackAt nowhere = trackNew
 trackAt (from y x vs) = record { homed = true; y = y +ℤ sumDown vs; x = x +ℤ sumAcross vs; steps = length vs }
 
 -- no homing among the calls
@@ -127,7 +127,7 @@ NoHoming (step p w threshold list table ∷ cs) = NoHoming cs
 -- what the contracts of Track::home and Track::step say that a call answers; a step's with what list and table then hold
 pub data Result : Type 0 where
   homing : Homed → Result
-  stepping : Stepping → Result
+  stepping : StepResult → Result
 
 abbrev pub trackIn : Result → Track
 trackIn (homing h) = h .track
@@ -138,15 +138,15 @@ refusalIn (homing h) = h .refusal
 refusalIn (stepping s) = s .stepped .answer .refusal
 
 unfoldable pub call : Track → Call → Result
-call t (home y x) = homing (homed t y x)
-call t (step p w threshold list table) = stepping (stepped t (p .older) (p .newer) (asked (p .sizes) 2 w threshold) list table)
+call t (home y x) = homing (trackHome t y x)
+call t (step p w threshold list table) = stepping (trackStep t (p .older) (p .newer) (requestOf (p .sizes) 2 w threshold) list table)
 
 unfoldable pub runFrom : Track → List Call → List Result
 runFrom t [] = []
 runFrom t (c ∷ cs) = call t c ∷ runFrom (trackIn (call t c)) cs
 
 abbrev pub run : List Call → List Result
-run calls = runFrom newTrack calls
+run calls = runFrom trackNew calls
 
 -- the track handed back last
 unfoldable pub last : Track → List Result → Track
@@ -160,14 +160,14 @@ pub data Each (P : Track → Call → Result → Type 0) : Track → List Call �
   none : {t : Track} → Each P t [] []
   next : {t : Track} {c : Call} {r : Result} {cs : List Call} {rs : List Result} → P t c r → Each P (reckon t c) cs rs → Each P t (c ∷ cs) (r ∷ rs)
 
-abbrev pub AtStep : (Pair → ℕ → List ℤ → Stepping → Type 0) → Track → Call → Result → Type 0
+abbrev pub AtStep : (Pair → ℕ → List ℤ → StepResult → Type 0) → Track → Call → Result → Type 0
 AtStep Q t (home y x) r = Unit {0}
 AtStep Q t (step p w threshold list table) (homing h) = ⊥
 AtStep Q t (step p w threshold list table) (stepping s) = refusalOf t (step p w threshold list table) ≡ 0 → Q p w list s
 
 -- Q holds of each accepted step: of its pair and w, what its list held, and all that it answered
-abbrev pub EachStep : List Call → (Pair → ℕ → List ℤ → Stepping → Type 0) → Type 0
-EachStep calls Q = Each (AtStep Q) newTrack calls (run calls)
+abbrev pub EachStep : List Call → (Pair → ℕ → List ℤ → StepResult → Type 0) → Type 0
+EachStep calls Q = Each (AtStep Q) trackNew calls (run calls)
 
 -- each grid block
 abbrev pub EachBlock : Pair → (ℕ → Type 0) → Type 0
@@ -197,8 +197,8 @@ abbrev pub reported : List ℤ → ℕ → ℤ
 reported list k = getD list (3 * k + 2) (pos 0)
 
 -- how many vectors of window 16 pass a test
-abbrev pub number : (Vector → Bool) → ℕ
-number test = length (passing test)
+abbrev pub howMany : (Vector → Bool) → ℕ
+howMany test = length (passing test)
 
 unfoldable pub vectorsAt : List ℕ → List Vector
 vectorsAt [] = []
@@ -213,37 +213,37 @@ module _ (p : Pair) (w y x : ℕ) where
   isMeasured v = candidate (p .sizes) w y x v && not (isIn v (vectorsAt (pruning p w y x .dropped)))
 
 -- the single-block call and the field call on a pair
-abbrev pub single : Pair → (search w t : ℕ) → (y x : ℕ) → Found
-single p search w t y x = blockFound (p .older) (p .newer) (asked (p .sizes) search w t) y x
+abbrev pub blockOn : Pair → (search w t : ℕ) → (y x : ℕ) → SearchResult
+blockOn p search w t y x = searchBlock (p .older) (p .newer) (requestOf (p .sizes) search w t) y x
 
-abbrev pub grid : Pair → (search w t : ℕ) → List ℤ → List ℕ → Fielded
-grid p search w t list table = fielded (p .older) (p .newer) (asked (p .sizes) search w t) list table
+abbrev pub fieldOn : Pair → (search w t : ℕ) → List ℤ → List ℕ → FieldResult
+fieldOn p search w t list table = field (p .older) (p .newer) (requestOf (p .sizes) search w t) list table
 
 -- a block's result is not lower than the exhaustive best, after at most so many probes
-abbrev pub NotLower : Pair → ℕ → (y x : ℕ) → Found → ℕ → Type 0
+abbrev pub NotLower : Pair → ℕ → (y x : ℕ) → SearchResult → ℕ → Type 0
 NotLower p w y x f most = (distortion p y x (best p w y x) ≤ f .distortion) × (probes f ≤ most)
 
 -- no block of a field is lower than an accepted step's list has it, after at most so many probes a block
-abbrev pub FieldNotLower : Pair → List ℤ → Fielded → ℕ → Type 0
+abbrev pub FieldNotLower : Pair → List ℤ → FieldResult → ℕ → Type 0
 FieldNotLower p list f most =
     EachBlock p (λ k. reported list k ≤ℤ reported (f .list) k) × (getD (f .answer .counts) 4 0 ≤ blocks (p .sizes) * most)
 
--- every place a block may stand at, and every field whose list has room, is searched unrefused
+-- every place a block may stand at, and every field whose list has room, is searchBy unrefused
 abbrev pub Runs : Pair → (search w t : ℕ) → Type 0
 Runs p search w t =
-    EachPlace p (λ y x. single p search w t y x .refusal ≡ 0)
-    × ((list : List ℤ) (table : List ℕ) → listSize (p .sizes) ≤ length list → grid p search w t list table .answer .refusal ≡ 0)
+    EachPlace p (λ y x. blockOn p search w t y x .refusal ≡ 0)
+    × ((list : List ℤ) (table : List ℕ) → listSize (p .sizes) ≤ length list → fieldOn p search w t list table .answer .refusal ≡ 0)
 
 pub record Promise (calls : List Call) : Type 0 where
   -- the track stands at the last accepted homing place plus the travels of all pairs accepted since, with their number as its steps
-  pub stands : last newTrack (run calls) ≡ trackAt (standingOn nowhere (accepted newTrack calls))
+  pub stands : last trackNew (run calls) ≡ trackAt (standingOn nowhere (acceptedCalls trackNew calls))
   -- all zeros and unhomed where no homing was accepted
-  pub unhomed : NoHoming (accepted newTrack calls) → last newTrack (run calls) ≡ newTrack
+  pub unhomed : NoHoming (acceptedCalls trackNew calls) → last trackNew (run calls) ≡ trackNew
   -- "In the end track and reckoning are equal,
-  pub reckoning : last newTrack (run calls) ≡ reckoned newTrack calls
+  pub reckoning : last trackNew (run calls) ≡ reckoned trackNew calls
   -- and each call was refused exactly when the reckoning refuses it": by the same number, and with the reckoning's track handed back
-  pub refusals : Each (λ t c r. refusalIn r ≡ refusalOf t c) newTrack calls (run calls)
-  pub tracks : Each (λ t c r. trackIn r ≡ reckon t c) newTrack calls (run calls)
+  pub refusals : Each (λ t c r. refusalIn r ≡ refusalOf t c) trackNew calls (run calls)
+  pub tracks : Each (λ t c r. trackIn r ≡ reckon t c) trackNew calls (run calls)
   -- the travel is the reverse of the vector that most grid blocks have as exhaustive best, and that vector is the reading
   pub travels : EachStep calls (λ p w list s. (v : Vector) × Most (bestOf p w) (blocks (p .sizes)) v × (travel p w ≡ turned v)
       × (s .stepped .answer .dy ≡ v .dy) × (s .stepped .answer .dx ≡ v .dx))
@@ -258,25 +258,25 @@ pub record Promise (calls : List Call) : Type 0 where
   pub dropped-more : EachStep calls (λ p w list s. EachGridPlace p (λ k y x. (v : Vector) → T (isDropped p w y x v)
       → reported (s .list) k <ℤ pos (distortion p y x v)))
   -- "A block's result counts them as dropped and at m = 1": by search 2, on the grid or off it, with the exhaustive best and its distortion
-  pub block-results : EachStep calls (λ p w list s. EachPlace p (λ y x. let f = single p 2 w 0 y x in
+  pub block-results : EachStep calls (λ p w list s. EachPlace p (λ y x. let f = blockOn p 2 w 0 y x in
       (f .refusal ≡ 0) × (vectorIn f ≡ best p w y x) × (f .distortion ≡ distortion p y x (best p w y x))
-      × (f .dropped ≡ number (isDropped p w y x)) × (probes f ≡ number (isMeasured p w y x))
-      × (f .dropped + probes f ≡ number (candidate (p .sizes) w y x))))
+      × (f .dropped ≡ howMany (isDropped p w y x)) × (probes f ≡ howMany (isMeasured p w y x))
+      × (f .dropped + probes f ≡ howMany (candidate (p .sizes) w y x))))
   -- "an accepted step answers with the sums over blocks": dropped, finally measured, and both together all candidates
   pub sums : EachStep calls (λ p w list s. let a = s .stepped .answer in
-      (a .dropped ≡ overGrid p (λ y x. number (isDropped p w y x)))
-      × (getD (a .counts) 4 0 ≡ overGrid p (λ y x. number (isMeasured p w y x)))
-      × (a .dropped + getD (a .counts) 4 0 ≡ overGrid p (λ y x. number (candidate (p .sizes) w y x))))
+      (a .dropped ≡ overGrid p (λ y x. howMany (isDropped p w y x)))
+      × (getD (a .counts) 4 0 ≡ overGrid p (λ y x. howMany (isMeasured p w y x)))
+      × (a .dropped + getD (a .counts) 4 0 ≡ overGrid p (λ y x. howMany (candidate (p .sizes) w y x))))
   -- "Four-step and cross .. run, unrefused, by field or single block, on an accepted step's frames and N, cross with any T it takes."
   pub four-step-runs : EachStep calls (λ p w list s. Runs p 3 7 0)
   pub cross-runs : EachStep calls (λ p w list s. (u t : ℕ) → T (crossWindow u) → t ≤ largestDistortion → Runs p 4 u t)
   -- "Each is held against the exhaustive best, for that step's w, of the block at the same place": four-step, where w is 7 or more, never ends lower, within
   -- 27 probes a block
-  pub four-step : EachStep calls (λ p w list s. 7 ≤ w → (t y x : ℕ) → single p 3 7 t y x .refusal ≡ 0 → NotLower p w y x (single p 3 7 t y x) 27)
-  pub four-step-field : EachStep calls (λ p w list s. 7 ≤ w → (t : ℕ) (l : List ℤ) (table : List ℕ) → grid p 3 7 t l table .answer .refusal ≡ 0
-      → FieldNotLower p (s .list) (grid p 3 7 t l table) 27)
+  pub four-step : EachStep calls (λ p w list s. 7 ≤ w → (t y x : ℕ) → blockOn p 3 7 t y x .refusal ≡ 0 → NotLower p w y x (blockOn p 3 7 t y x) 27)
+  pub four-step-field : EachStep calls (λ p w list s. 7 ≤ w → (t : ℕ) (l : List ℤ) (table : List ℕ) → fieldOn p 3 7 t l table .answer .refusal ≡ 0
+      → FieldNotLower p (s .list) (fieldOn p 3 7 t l table) 27)
   -- cross with a window u of at most w, whatever its T, never ends lower, within 5 + 4 log2 u probes a block
-  pub cross : EachStep calls (λ p w list s. (u t y x : ℕ) → u ≤ w → single p 4 u t y x .refusal ≡ 0
-      → NotLower p w y x (single p 4 u t y x) (5 + 4 * log2 u))
-  pub cross-field : EachStep calls (λ p w list s. (u t : ℕ) (l : List ℤ) (table : List ℕ) → u ≤ w → grid p 4 u t l table .answer .refusal ≡ 0
-      → FieldNotLower p (s .list) (grid p 4 u t l table) (5 + 4 * log2 u))
+  pub cross : EachStep calls (λ p w list s. (u t y x : ℕ) → u ≤ w → blockOn p 4 u t y x .refusal ≡ 0
+      → NotLower p w y x (blockOn p 4 u t y x) (5 + 4 * log2 u))
+  pub cross-field : EachStep calls (λ p w list s. (u t : ℕ) (l : List ℤ) (table : List ℕ) → u ≤ w → fieldOn p 4 u t l table .answer .refusal ≡ 0
+      → FieldNotLower p (s .list) (fieldOn p 4 u t l table) (5 + 4 * log2 u))

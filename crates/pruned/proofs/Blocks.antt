@@ -1,4 +1,4 @@
--- A block that is ready to be searched: it has a table of its own, N is a power of two, and at a resolution that divides N no test drops the winner.
+-- A block that is ready to be searchBy: it has a table of its own, N is a power of two, and at a resolution that divides N no test drops the winner.
 use Prim.Native.Nat.{ℕ, _+_, _≤_, _∣_}
 use mathlib.Core.Path.{refl}
 use mathlib.Core.List.{List}
@@ -8,21 +8,21 @@ use lib.Dec.{T}
 use lib.ListN.{length}
 use Rattle.order.specs.Preference.{preferred}
 use Rattle.frame.specs.Pictures.{Pair, largestN}
-use Rattle.refusals.specs.Refusals.{listed, listed-elim}
+use Rattle.refusals.specs.Refusals.{blockSizeOk, block-size-elim}
 use Rattle.distortion.specs.Blocks.{absolute, distortion, newerBlock, olderBlock}
-use Rattle.search.specs.declared.Spot.{Spot}
-use Rattle.search.specs.Weighing.{Ready}
-use Rattle.sums.specs.Filling.{ownTable, Fillable}
-use Rattle.reach.proofs.Windows.{ready-standing, ready-size}
-use Rattle.squares.specs.Squares.{ownWindow}
-use Rattle.pruning.specs.Prune.{resolutions}
-use Rattle.pruning.proofs.Blocks.{absolute-lawful}
-use Rattle.pruning.proofs.Pruned.{Safe}
-use Rattle.pruning.proofs.Search.{PowerOfTwo, resolutions-many, safe}
+use Rattle.search.specs.declared.SearchBlock.{SearchBlock}
+use Rattle.search.specs.Target.{Ready}
+use Rattle.pruned_sums.specs.Filling.{blockTable, Fillable}
+use Rattle.pruned_region.proofs.Windows.{ready-standing, ready-size}
+use Rattle.pruned_subblocks.specs.Squares.{blockRegion}
+use Rattle.pruned_rule.specs.Prune.{resolutions}
+use Rattle.pruned_rule.proofs.Blocks.{absolute-lawful}
+use Rattle.pruned_rule.proofs.Pruned.{Safe}
+use Rattle.pruned_rule.proofs.Search.{PowerOfTwo, resolutions-many, safe}
 use Rattle.pruned.specs.Answer.{distortionAt, distanceAt}
 
-pub own-fillable : (older newer : List ℕ) (b : Spot) → Ready older newer b → Fillable newer (b .sizes .width) (ownWindow b) ownTable
-own-fillable older newer b r =
+pub block-fillable : (older newer : List ℕ) (b : SearchBlock) → Ready older newer b → Fillable newer (b .sizes .width) (blockRegion b) blockTable
+block-fillable older newer b r =
     let s = ready-standing older newer b r in
     let n = ready-size older newer b r in
     record {
@@ -34,15 +34,15 @@ own-fillable older newer b r =
     }
 
 -- 01's N are powers of two
-pub listed-power : (n : ℕ) → T (listed n) → PowerOfTwo n
-listed-power = listed-elim PowerOfTwo (1, refl) (2, refl) (3, refl)
+pub block-size-power : (n : ℕ) → T (blockSizeOk n) → PowerOfTwo n
+block-size-power = block-size-elim PowerOfTwo (1, refl) (2, refl) (3, refl)
 
 -- with at most three resolutions after N
-pub few-rounds : (n : ℕ) → T (listed n) → length (resolutions n) ≤ 3
-few-rounds = listed-elim (λ n. length (resolutions n) ≤ 3) (rw (resolutions-many 1) (omega arith)) (rw (resolutions-many 2) (omega arith)) (rw (resolutions-many 3) (omega arith))
+pub few-rounds : (n : ℕ) → T (blockSizeOk n) → length (resolutions n) ≤ 3
+few-rounds = block-size-elim (λ n. length (resolutions n) ≤ 3) (rw (resolutions-many 1) (omega arith)) (rw (resolutions-many 2) (omega arith)) (rw (resolutions-many 3) (omega arith))
 
-pub two-least : (n : ℕ) → T (listed n) → 2 ≤ n
-two-least = listed-elim (λ n. 2 ≤ n) (omega arith) (omega arith) (omega arith)
+pub two-least : (n : ℕ) → T (blockSizeOk n) → 2 ≤ n
+two-least = block-size-elim (λ n. 2 ≤ n) (omega arith) (omega arith) (omega arith)
 
 pub safe-at : (p : Pair) (y x m : ℕ) → m ∣ p .sizes .n → Safe (distortionAt p y x) (distanceAt p y x) (absolute .limit) m
 unfolding distortion

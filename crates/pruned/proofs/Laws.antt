@@ -8,23 +8,23 @@ use Rattle.base.specs.Least.{_∈_}
 use Rattle.order.specs.Preference.{preferred}
 use Rattle.order.proofs.Order.{first-still}
 use Rattle.frame.specs.Pictures.{Pair}
-use Rattle.refusals.specs.Refusals.{listed}
+use Rattle.refusals.specs.Refusals.{blockSizeOk}
 use Rattle.distortion.specs.Blocks.{absolute, distortion, newerBlock, olderBlock}
-use Rattle.search.specs.Found.{vectorIn, probes}
+use Rattle.search.specs.SearchResult.{vectorIn, probes}
 use Rattle.search.specs.Exhaustive.{Best, places, best}
 use Rattle.search.proofs.Exhaustive.{best-below, best-is, best-unique, still-passes}
-use Rattle.pruning.specs.Prune.{resolutions}
-use Rattle.pruning.proofs.Blocks.{absolute-lawful}
-use Rattle.pruning.proofs.Counts.{Counted, prune-counted, search-counts, counts-few, dropped-few, last-count}
-use Rattle.pruning.proofs.Pruned.{Attained, still-attained, Holds, prune-holds}
-use Rattle.pruning.proofs.Search.{PowerOfTwo, resolutions-divide, search-best, search-drops}
-use Rattle.pruned.specs.Answer.{distortionAt, stillDistortion, pruning, chosen, prunedFound}
+use Rattle.pruned_rule.specs.Prune.{resolutions}
+use Rattle.pruned_rule.proofs.Blocks.{absolute-lawful}
+use Rattle.pruned_rule.proofs.Counts.{Counted, prune-counted, search-counts, counts-few, dropped-few, last-count}
+use Rattle.pruned_rule.proofs.Pruned.{Attained, still-attained, Holds, prune-holds}
+use Rattle.pruned_rule.proofs.Search.{PowerOfTwo, resolutions-divide, search-best, search-drops}
+use Rattle.pruned.specs.Answer.{distortionAt, stillDistortion, pruning, chosen, prunedSearch}
 use Rattle.pruned.proofs.Blocks.{few-rounds, safe-at}
 
 -- whatever the block is
 module _ (p : Pair) (w y x : ℕ) where
-  pub pruned-distortion : prunedFound p w y x .distortion ≡ distortion p y x (vectorIn (prunedFound p w y x))
-  unfolding prunedFound
+  pub pruned-distortion : prunedSearch p w y x .distortion ≡ distortion p y x (vectorIn (prunedSearch p w y x))
+  unfolding prunedSearch
   pruned-distortion = refl
 
   pub pruned-counted : Counted (places (p .sizes) w y x) (pruning p w y x)
@@ -32,22 +32,22 @@ module _ (p : Pair) (w y x : ℕ) where
   pruned-counted = prune-counted _ _ _ _ _ _ _
 
   -- no count exceeds the number of candidates
-  pub counts-at-most : (j : ℕ) → getD (prunedFound p w y x .counts) j 0 ≤ length (places (p .sizes) w y x)
-  unfolding prunedFound pruning
+  pub counts-at-most : (j : ℕ) → getD (prunedSearch p w y x .counts) j 0 ≤ length (places (p .sizes) w y x)
+  unfolding prunedSearch pruning
   counts-at-most = counts-few _ _ _ _ _ _ _
 
-  pub dropped-at-most : prunedFound p w y x .dropped ≤ length (places (p .sizes) w y x)
-  unfolding prunedFound pruning
+  pub dropped-at-most : prunedSearch p w y x .dropped ≤ length (places (p .sizes) w y x)
+  unfolding prunedSearch pruning
   dropped-at-most = dropped-few _ _ _ _ _ _ _
 
   -- dropped and finally measured are all candidates
-  pub all-counted : prunedFound p w y x .dropped + length (pruning p w y x .left) ≡ length (places (p .sizes) w y x)
-  unfolding prunedFound pruning
+  pub all-counted : prunedSearch p w y x .dropped + length (pruning p w y x .left) ≡ length (places (p .sizes) w y x)
+  unfolding prunedSearch pruning
   all-counted = search-counts _ _ _ _ _ _ _
 
   -- where N leaves at most three resolutions, five counts are enough: the last, at m = 1, is how many are finally measured
-  pub measured : length (resolutions (p .sizes .n)) ≤ 3 → probes (prunedFound p w y x) ≡ length (pruning p w y x .left)
-  unfolding prunedFound pruning
+  pub measured : length (resolutions (p .sizes .n)) ≤ 3 → probes (prunedSearch p w y x) ≡ length (pruning p w y x .left)
+  unfolding prunedSearch pruning
   measured few = last-count _ _ _ _ _ _ _ few
 
 -- N a power of two, and the block wholly inside
@@ -65,28 +65,28 @@ module _ (p : Pair) (w y x : ℕ) (power : PowerOfTwo (p .sizes .n)) (small : w 
   pruned-holds = prune-holds _ _ _ _ _ _ _ given (λ m i. safe-at p y x m (resolutions-divide (p .sizes .n) power m i))
 
   -- the answer is the exhaustive best
-  pub pruned-best : Best p w y x (vectorIn (prunedFound p w y x))
-  unfolding prunedFound chosen distortion
+  pub pruned-best : Best p w y x (vectorIn (prunedSearch p w y x))
+  unfolding prunedSearch chosen distortion
   pruned-best =
       best-below p w y x small (chosen p w y x)
       (search-best absolute absolute-lawful (p .sizes .n) (newerBlock p y x) (λ k. olderBlock p y x (preferred k)) (resolutions (p .sizes .n)) (stillDistortion p y x)
       (resolutions-divide (p .sizes .n) power) _ 1088 (still-passes p w y x small down across) still-is)
 
   -- which is one vector: what the full search answers with
-  pub pruned-is-best : vectorIn (prunedFound p w y x) ≡ best p w y x
+  pub pruned-is-best : vectorIn (prunedSearch p w y x) ≡ best p w y x
   pruned-is-best = best-unique p w y x small _ _ pruned-best (best-is p w y x small down across)
 
   -- every candidate dropped has strictly more
-  pub pruned-drops : {k : ℕ} → k ∈ pruning p w y x .dropped → prunedFound p w y x .distortion < distortion p y x (preferred k)
-  unfolding prunedFound chosen pruning distortion
+  pub pruned-drops : {k : ℕ} → k ∈ pruning p w y x .dropped → prunedSearch p w y x .distortion < distortion p y x (preferred k)
+  unfolding prunedSearch chosen pruning distortion
   pruned-drops i =
       search-drops absolute absolute-lawful (p .sizes .n) (newerBlock p y x) (λ k. olderBlock p y x (preferred k)) (resolutions (p .sizes .n))
       (places (p .sizes) w y x) (stillDistortion p y x) given (resolutions-divide (p .sizes .n) power) i
 
 -- 01's N
-module _ (p : Pair) (w y x : ℕ) (allowed : T (listed (p .sizes .n))) where
-  pub pruned-probes : probes (prunedFound p w y x) ≡ length (pruning p w y x .left)
+module _ (p : Pair) (w y x : ℕ) (allowed : T (blockSizeOk (p .sizes .n))) where
+  pub pruned-probes : probes (prunedSearch p w y x) ≡ length (pruning p w y x .left)
   pruned-probes = measured p w y x (few-rounds (p .sizes .n) allowed)
 
-  pub pruned-adds : prunedFound p w y x .dropped + probes (prunedFound p w y x) ≡ length (places (p .sizes) w y x)
+  pub pruned-adds : prunedSearch p w y x .dropped + probes (prunedSearch p w y x) ≡ length (places (p .sizes) w y x)
   pruned-adds = ap (_+_ _) pruned-probes ∙ all-counted p w y x

@@ -11,16 +11,16 @@ use Rattle.base.specs.Least.{_∈_, leastOf}
 use Rattle.base.specs.Picks.{pick, pick-few}
 use Rattle.order.specs.Preference.{preferred}
 use Rattle.distortion.specs.Blocks.{absolute}
-use Rattle.search.specs.declared.Spot.{Spot}
-use Rattle.search.specs.declared.Found.{Found}
-use Rattle.search.specs.Found.{foundAs}
-use Rattle.pruning.specs.Prune.{Pruning, start, lower, sift, rounds, prune, prunedBest, counts, halvings, resolutions}
-use Rattle.pruning.proofs.Counts.{Counted, counted-length, start-counted, lower-counted, sift-counted}
-use Rattle.pruning.proofs.Pruned.{Attained, Safe, Holds, holds-some, start-holds, lower-holds, sift-holds}
-use Rattle.pruning.proofs.Search.{halvings-more, halvings-none, rounds-more, rounds-none}
-use Rattle.pruned.specs.declared.Rest.{Rest}
-use Rattle.remaining.specs.Gathered.{passes, Front, Listed}
-use Rattle.remaining.proofs.Listing.{front-take, gathered-long, listed-front}
+use Rattle.search.specs.declared.SearchBlock.{SearchBlock}
+use Rattle.search.specs.declared.SearchResult.{SearchResult}
+use Rattle.search.specs.SearchResult.{searchResult}
+use Rattle.pruned_rule.specs.Prune.{Pruning, allRemaining, lower, sift, rounds, prune, prunedBest, counts, halvings, resolutions}
+use Rattle.pruned_rule.proofs.Counts.{Counted, counted-length, all-remaining-counted, lower-counted, sift-counted}
+use Rattle.pruned_rule.proofs.Pruned.{Attained, Safe, Holds, holds-some, all-remaining-holds, lower-holds, sift-holds}
+use Rattle.pruned_rule.proofs.Search.{halvings-more, halvings-none, rounds-more, rounds-none}
+use Rattle.pruned.specs.declared.PruneState.{PruneState}
+use Rattle.pruned_remaining.specs.Gathered.{candidateAt, Front, ListedCandidates}
+use Rattle.pruned_remaining.proofs.Listing.{front-take, gathered-long, listed-front}
 use Rattle.pruned.specs.Memory.{Begun, finished}
 use Rattle.pruned.proofs.State.{InMemory}
 
@@ -36,12 +36,12 @@ filled-up z cs t slot x e f g h =
     ∙ ap (λ (k : ℕ). replicate k 0 ++ (t ++ (x ∷ []))) n
 
 -- for the distortion e of (0,0), the distortions D, the distances d and the block size N: the rounds from m on lead from the state in memory to the end
-pub record Going (e : ℕ) (D : ℕ → ℕ) (d : ℕ → ℕ → ℕ) (N : ℕ) (p : ℕ → Bool) (m : ℕ) (alive dist : List ℕ) (r : Rest) : Type 0 where
+pub record Going (e : ℕ) (D : ℕ → ℕ) (d : ℕ → ℕ → ℕ) (N : ℕ) (p : ℕ → Bool) (m : ℕ) (remaining dist : List ℕ) (r : PruneState) : Type 0 where
   pub unused : ℕ
   pub state : Pruning
-  pub held : InMemory unused state alive r
+  pub held : InMemory unused state remaining r
   pub holds : Holds D (pick p 1089) state
-  pub counted : Counted (pick p 1089) state
+  pub testsCounted : Counted (pick p 1089) state
   pub ahead : prune e D d (absolute .limit) N (resolutions N) (pick p 1089) ≡ rounds D d (absolute .limit) (halvings m) state
   pub divides : (i : ℕ) → i ∈ halvings m → i ∣ N
   pub slots : r .slot + length (halvings m) ≡ 4
@@ -54,17 +54,17 @@ module _ (e : ℕ) (D : ℕ → ℕ) (d : ℕ → ℕ → ℕ) (N : ℕ) (p : �
   abbrev best : ℕ
   best = prunedBest e D d (absolute .limit) N (resolutions N) (pick p 1089)
 
-  abbrev pub answered : Found
-  answered = foundAs (preferred best) (D best) (counts ended) (length (ended .dropped))
+  abbrev pub answered : SearchResult
+  answered = searchResult (preferred best) (D best) (counts ended) (length (ended .dropped))
 
-module _ {e : ℕ} {D : ℕ → ℕ} {d : ℕ → ℕ → ℕ} {N : ℕ} {p : ℕ → Bool} {m : ℕ} {alive dist : List ℕ} {r : Rest} (g : Going e D d N p m alive dist r) where
+module _ {e : ℕ} {D : ℕ → ℕ} {d : ℕ → ℕ → ℕ} {N : ℕ} {p : ℕ → Bool} {m : ℕ} {remaining dist : List ℕ} {r : PruneState} (g : Going e D d N p m remaining dist r) where
   -- at least one remains
   pub going-some : 0 < r .count
   going-some = rw (← g .held .many) (holds-some (g .holds))
 
   -- at most all candidates do
   pub going-few : r .count ≤ length (pick p 1089)
-  going-few = omega (arith, g .held .many, counted-length (g .counted))
+  going-few = omega (arith, g .held .many, counted-length (g .testsCounted))
 
   pub going-room : 2 ≤ m → r .slot < 4
   going-room h = omega (arith, g .slots, ap length (halvings-more m h))
@@ -73,8 +73,8 @@ module _ {e : ℕ} {D : ℕ → ℕ} {d : ℕ → ℕ → ℕ} {N : ℕ} {p : �
   going-divides h = g .divides m (rw (halvings-more m h) (List·Memᴰ·head refl))
 
   -- one turn: the next resolution is m / 2
-  pub going-more : (after dist′ : List ℕ) (q : Rest) → ((i : ℕ) → i ∣ N → Safe D d (absolute .limit) i) → 2 ≤ m
-      → ((z : ℕ) (s : Pruning) → InMemory z s alive r → 0 < length (sift d (absolute .limit) m (lower D d m s) .left)
+  pub going-more : (after dist′ : List ℕ) (q : PruneState) → ((i : ℕ) → i ∣ N → Safe D d (absolute .limit) i) → 2 ≤ m
+      → ((z : ℕ) (s : Pruning) → InMemory z s remaining r → 0 < length (sift d (absolute .limit) m (lower D d m s) .left)
       → InMemory z (sift d (absolute .limit) m (lower D d m s)) after q)
       → length dist′ ≡ 1089
       → Going e D d N p (m / 2) after dist′ q
@@ -87,7 +87,7 @@ module _ {e : ℕ} {D : ℕ → ℕ} {d : ℕ → ℕ → ℕ} {N : ℕ} {p : �
         state = sift d (absolute .limit) m (lower D d m (g .state));
         held = held;
         holds = holds;
-        counted = sift-counted D d (absolute .limit) (pick p 1089) m _ (lower-counted D d (absolute .limit) (pick p 1089) m _ (g .counted));
+        testsCounted = sift-counted D d (absolute .limit) (pick p 1089) m _ (lower-counted D d (absolute .limit) (pick p 1089) m _ (g .testsCounted));
         ahead = g .ahead ∙ rounds-more D d (absolute .limit) m (g .state) h;
         divides = λ i k. g .divides i (rw (halvings-more m h) (List·Memᴰ·tail k));
         slots = omega (arith, g .slots, g .held .slot, held .slot, length-append (g .state .tested) (length (g .state .left) ∷ []), ap length (halvings-more m h));
@@ -95,20 +95,20 @@ module _ {e : ℕ} {D : ℕ → ℕ} {d : ℕ → ℕ → ℕ} {N : ℕ} {p : �
       }
 
   -- no round is left: the answer made of memory is the search's
-  pub going-done : (all : ℕ) → m < 2 → length (pick p 1089) ≡ all → finished D alive all r ≡ answered e D d N p
+  pub going-done : (all : ℕ) → m < 2 → length (pick p 1089) ≡ all → finished D remaining all r ≡ answered e D d N p
   unfolding prunedBest counts
   going-done all h same =
       let at-end : ended e D d N p ≡ g .state = g .ahead ∙ rounds-none D d (absolute .limit) m (g .state) h in
       let last : r .slot ≡ 4 = omega (arith, g .slots, ap length (halvings-none m h)) in
       let five = filled-up (g .unused) (r .counts) (g .state .tested) (r .slot) (r .count) last (g .held .five) (g .held .slot) (g .held .tested) in
-      let gone : all - r .count ≡ length (g .state .dropped) = omega (arith, g .held .many, counted-length (g .counted)) in
+      let gone : all - r .count ≡ length (g .state .dropped) = omega (arith, g .held .many, counted-length (g .testsCounted)) in
       rw (at-end, g .held .left, gone, g .held .many)
-      (ap (λ (cs : List ℕ). foundAs (preferred (leastOf D (g .state .left))) (D (leastOf D (g .state .left))) cs (length (g .state .dropped))) five)
+      (ap (λ (cs : List ℕ). searchResult (preferred (leastOf D (g .state .left))) (D (leastOf D (g .state .left))) cs (length (g .state .dropped))) five)
 
 -- those that remain are candidates
-pub going-listed : {e : ℕ} {D : ℕ → ℕ} {d : ℕ → ℕ → ℕ} {N : ℕ} {b : Spot} {m : ℕ} {alive dist : List ℕ} {r : Rest} → Going e D d N (passes b) m alive dist r → Listed b alive (r .count)
-going-listed {b = b} {alive = alive} {r = r} g =
-    listed-front b alive (g .state .left) (r .count) (g .held .long) (g .held .many) (g .held .left) (omega (arith, going-few g, pick-few (passes b) 1089)) (λ k i. g .holds .left-from i)
+pub going-listed : {e : ℕ} {D : ℕ → ℕ} {d : ℕ → ℕ → ℕ} {N : ℕ} {b : SearchBlock} {m : ℕ} {remaining dist : List ℕ} {r : PruneState} → Going e D d N (candidateAt b) m remaining dist r → ListedCandidates b remaining (r .count)
+going-listed {b = b} {remaining = remaining} {r = r} g =
+    listed-front b remaining (g .state .left) (r .count) (g .held .long) (g .held .many) (g .held .left) (omega (arith, going-few g, pick-few (candidateAt b) 1089)) (λ k i. g .holds .left-from i)
 
 -- ---- before the loop
 
@@ -117,12 +117,12 @@ take-zeros zero n h = refl
 take-zeros (suc z) zero h = absurd (not-suc-le-zero h)
 take-zeros (suc z) (suc n) h = ap (λ (ks : List ℕ). 0 ∷ ks) (take-zeros z n (le-of-suc-le-suc h))
 
-module _ (e : ℕ) (D : ℕ → ℕ) (N : ℕ) (b : Spot) {before alive : List ℕ} {all : ℕ} {r : Rest} (long : length before ≡ 1089)
-    (a : Front (pick (passes b) 1089) before alive all) (f : Begun e N all r)
+module _ (e : ℕ) (D : ℕ → ℕ) (N : ℕ) (b : SearchBlock) {before remaining : List ℕ} {all : ℕ} {r : PruneState} (long : length before ≡ 1089)
+    (a : Front (pick (candidateAt b) 1089) before remaining all) (f : Begun e N all r)
   where
     -- all candidates are in memory, and E
-    start-held : InMemory (r .slot) (start e (pick (passes b) 1089)) alive r
-    unfolding start
+    start-held : InMemory (r .slot) (allRemaining e (pick (candidateAt b) 1089)) remaining r
+    unfolding allRemaining
     start-held = record {
       long = gathered-long b a long;
       bound = λ _. f .bound;
@@ -134,21 +134,21 @@ module _ (e : ℕ) (D : ℕ → ℕ) (N : ℕ) (b : Spot) {before alive : List �
     }
 
     -- after the test at N the rounds from N / 2 on lead to the end
-    pub going-start : (d : ℕ → ℕ → ℕ) {after dist : List ℕ} {q : Rest}
-        → (InMemory (r .slot) (start e (pick (passes b) 1089)) alive r → r .bound ≡ start e (pick (passes b) 1089) .bound
-        → InMemory (r .slot) (sift d (absolute .limit) N (start e (pick (passes b) 1089))) after q)
-        → length dist ≡ 1089 → Attained D (pick (passes b) 1089) e → Safe D d (absolute .limit) N → ((i : ℕ) → i ∈ resolutions N → i ∣ N)
+    pub going-start : (d : ℕ → ℕ → ℕ) {after dist : List ℕ} {q : PruneState}
+        → (InMemory (r .slot) (allRemaining e (pick (candidateAt b) 1089)) remaining r → r .bound ≡ allRemaining e (pick (candidateAt b) 1089) .bound
+        → InMemory (r .slot) (sift d (absolute .limit) N (allRemaining e (pick (candidateAt b) 1089))) after q)
+        → length dist ≡ 1089 → Attained D (pick (candidateAt b) 1089) e → Safe D d (absolute .limit) N → ((i : ℕ) → i ∈ resolutions N → i ∣ N)
         → length (resolutions N) ≤ 3
-        → Going e D d N (passes b) (N / 2) after dist q
-    unfolding prune sift start
+        → Going e D d N (candidateAt b) (N / 2) after dist q
+    unfolding prune sift allRemaining
     going-start d steps wide given safe divides few =
         let held = steps start-held (f .bound) in
         record {
           unused = r .slot;
-          state = sift d (absolute .limit) N (start e (pick (passes b) 1089));
+          state = sift d (absolute .limit) N (allRemaining e (pick (candidateAt b) 1089));
           held = held;
-          holds = sift-holds D d (pick (passes b) 1089) (absolute .limit) N _ safe (start-holds e D (pick (passes b) 1089) given);
-          counted = sift-counted D d (absolute .limit) (pick (passes b) 1089) N _ (start-counted e (pick (passes b) 1089));
+          holds = sift-holds D d (pick (candidateAt b) 1089) (absolute .limit) N _ safe (all-remaining-holds e D (pick (candidateAt b) 1089) given);
+          testsCounted = sift-counted D d (absolute .limit) (pick (candidateAt b) 1089) N _ (all-remaining-counted e (pick (candidateAt b) 1089));
           ahead = refl;
           divides = divides;
           slots = omega (arith, held .slot, f .slot);

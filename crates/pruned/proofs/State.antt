@@ -13,29 +13,29 @@ use lib.Seq.{take-suc-set}
 use Rattle.base.specs.Lists.{fillTo}
 use Rattle.base.specs.Least.{leastOf}
 use Rattle.distortion.specs.Blocks.{absolute}
-use Rattle.pruning.specs.Sift.{kept}
-use Rattle.pruning.specs.Prune.{Pruning, lower, sift}
-use Rattle.pruned.specs.declared.Rest.{Rest}
-use Rattle.remaining.specs.Gathered.{Front, nearestOf, within, swept}
-use Rattle.remaining.proofs.Listing.{front-take, front-long, within-few, swept-long, Filled, filled-is, nearest-filled, within-filled}
-use Rattle.pruned.specs.Memory.{counted, recounted, bounded, Leveled}
+use Rattle.pruned_rule.specs.Sift.{kept}
+use Rattle.pruned_rule.specs.Prune.{Pruning, lower, sift}
+use Rattle.pruned.specs.declared.PruneState.{PruneState}
+use Rattle.pruned_remaining.specs.Gathered.{Front, nearestOf, keptWithin, swept}
+use Rattle.pruned_remaining.proofs.Listing.{front-take, front-long, within-few, swept-long, Stored, filled-is, nearest-filled, within-filled}
+use Rattle.pruned.specs.Memory.{testsCounted, recounted, bounded, Leveled}
 
 -- the search stands at s, with z of the five counts unused; E is kept as long as more than one candidate remains
-pub record InMemory (z : ℕ) (s : Pruning) (alive : List ℕ) (r : Rest) : Type 0 where
-  pub long : length alive ≡ 1089
+pub record InMemory (z : ℕ) (s : Pruning) (remaining : List ℕ) (r : PruneState) : Type 0 where
+  pub long : length remaining ≡ 1089
   pub bound : 1 < r .count → r .bound ≡ s .bound
   pub many : length (s .left) ≡ r .count
-  pub left : take (r .count) alive ≡ s .left
+  pub left : take (r .count) remaining ≡ s .left
   pub slot : r .slot ≡ z + length (s .tested)
   pub five : length (r .counts) ≡ 5
   pub tested : take (r .slot) (r .counts) ≡ replicate z 0 ++ s .tested
 
 -- E lowered to the distortion of the nearest
-pub lower-done : (D : ℕ → ℕ) (d : ℕ → ℕ → ℕ) (m : ℕ) {z : ℕ} {s : Pruning} {alive dist : List ℕ} {r : Rest} → InMemory z s alive r → 1 < r .count
-    → r .count ≤ length alive → Filled (d m) alive (r .count) dist → InMemory z (lower D d m s) alive (bounded (D (nearestOf alive (r .count) dist)) r)
+pub lower-done : (D : ℕ → ℕ) (d : ℕ → ℕ → ℕ) (m : ℕ) {z : ℕ} {s : Pruning} {remaining dist : List ℕ} {r : PruneState} → InMemory z s remaining r → 1 < r .count
+    → r .count ≤ length remaining → Stored (d m) remaining (r .count) dist → InMemory z (lower D d m s) remaining (bounded (D (nearestOf remaining (r .count) dist)) r)
 unfolding lower
-lower-done D d m {z} {s} {alive} {dist} {r} h more few g =
-    let near = nearest-filled (d m) alive dist (r .count) g (omega arith) few ∙ ap (leastOf (d m)) (h .left) in
+lower-done D d m {z} {s} {remaining} {dist} {r} h more few g =
+    let near = nearest-filled (d m) remaining dist (r .count) g (omega arith) few ∙ ap (leastOf (d m)) (h .left) in
     record {
       long = h .long;
       bound = λ _. ap₂ min (h .bound more) (ap D near);
@@ -47,10 +47,10 @@ lower-done D d m {z} {s} {alive} {dist} {r} h more few g =
     }
 
 -- one count more stands there
-count-done : {z : ℕ} {s : Pruning} {alive : List ℕ} {r : Rest} → InMemory z s alive r → r .slot < 5 →
+count-done : {z : ℕ} {s : Pruning} {remaining : List ℕ} {r : PruneState} → InMemory z s remaining r → r .slot < 5 →
     let tested = s .tested ++ (length (s .left) ∷ []) in
-    (counted r .slot ≡ z + length tested) × (length (counted r .counts) ≡ 5) × (take (counted r .slot) (counted r .counts) ≡ replicate z 0 ++ tested)
-count-done {z} {s} {alive} {r} h l =
+    (testsCounted r .slot ≡ z + length tested) × (length (testsCounted r .counts) ≡ 5) × (take (testsCounted r .slot) (testsCounted r .counts) ≡ replicate z 0 ++ tested)
+count-done {z} {s} {remaining} {r} h l =
     let room : r .slot < length (r .counts) = omega (arith, h .five) in (
       omega (arith, h .slot, length-append (s .tested) (length (s .left) ∷ [])),
       length-set (r .counts) (r .slot) _ ∙ h .five,
@@ -58,16 +58,16 @@ count-done {z} {s} {alive} {r} h l =
     )
 
 -- those over E are gone
-pub sift-done : (d : ℕ → ℕ → ℕ) (m : ℕ) {z : ℕ} {s : Pruning} {alive dist after : List ℕ} {r : Rest} {k : ℕ} → InMemory z s alive r → r .bound ≡ s .bound
-    → r .count ≤ length alive → r .slot < 5 → Filled (d m) alive (r .count) dist → Front (within (r .bound) alive dist (r .count)) (swept (r .bound) alive dist (r .count)) after k
+pub sift-done : (d : ℕ → ℕ → ℕ) (m : ℕ) {z : ℕ} {s : Pruning} {remaining dist after : List ℕ} {r : PruneState} {k : ℕ} → InMemory z s remaining r → r .bound ≡ s .bound
+    → r .count ≤ length remaining → r .slot < 5 → Stored (d m) remaining (r .count) dist → Front (keptWithin (r .bound) remaining dist (r .count)) (swept (r .bound) remaining dist (r .count)) after k
     → InMemory z (sift d (absolute .limit) m s) after (recounted k r)
 unfolding sift
-sift-done d m {z} {s} {alive} {dist} {after} {r} {k} h e few l g f =
+sift-done d m {z} {s} {remaining} {dist} {after} {r} {k} h e few l g f =
     let c = count-done h l in
-    let w : within (r .bound) alive dist (r .count) ≡ kept (d m) (s .bound) (s .left) =
-    within-filled (d m) alive dist (r .bound) (r .count) g few ∙ ap₂ (kept (d m)) e (h .left) in
-    let same = swept-long (r .bound) alive dist (r .count) in
-    let less : k ≤ length (swept (r .bound) alive dist (r .count)) = omega (arith, f .many, within-few (r .bound) alive dist (r .count), same) in
+    let w : keptWithin (r .bound) remaining dist (r .count) ≡ kept (d m) (s .bound) (s .left) =
+    within-filled (d m) remaining dist (r .bound) (r .count) g few ∙ ap₂ (kept (d m)) e (h .left) in
+    let same = swept-long (r .bound) remaining dist (r .count) in
+    let less : k ≤ length (swept (r .bound) remaining dist (r .count)) = omega (arith, f .many, within-few (r .bound) remaining dist (r .count), same) in
     record {
       long = front-long f less ∙ same ∙ h .long;
       bound = λ _. e;
@@ -89,10 +89,10 @@ one-stays v l (k ∷ []) e h = stays (leb (v k) l) h
     stays false h = absurd (omega arith)
 one-stays v l (k ∷ j ∷ ks) e h = absurd (omega arith)
 
-sift-alone : (D : ℕ → ℕ) (d : ℕ → ℕ → ℕ) (m : ℕ) {z : ℕ} {s : Pruning} {alive : List ℕ} {r : Rest} → InMemory z s alive r → r .count ≡ 1 → r .slot < 5
-    → 0 < length (sift d (absolute .limit) m (lower D d m s) .left) → InMemory z (sift d (absolute .limit) m (lower D d m s)) alive (counted r)
+sift-alone : (D : ℕ → ℕ) (d : ℕ → ℕ → ℕ) (m : ℕ) {z : ℕ} {s : Pruning} {remaining : List ℕ} {r : PruneState} → InMemory z s remaining r → r .count ≡ 1 → r .slot < 5
+    → 0 < length (sift d (absolute .limit) m (lower D d m s) .left) → InMemory z (sift d (absolute .limit) m (lower D d m s)) remaining (testsCounted r)
 unfolding sift lower
-sift-alone D d m {z} {s} {alive} {r} h one l some =
+sift-alone D d m {z} {s} {remaining} {r} h one l some =
     let c = count-done h l in
     let stays = one-stays (d m) _ (s .left) (h .many ∙ one) some in
     record {
@@ -108,10 +108,10 @@ sift-alone D d m {z} {s} {alive} {r} h one l some =
 -- ---- a resolution later
 
 -- more than one: the distances, then E, then those that stay
-pub leveled-more : (D f : ℕ → ℕ) {alive dist after measured : List ℕ} {r low q : Rest} → (r .count ≡ 1 → ⊥) → measured ≡ fillTo dist 0 (λ i. f (getD alive i 0)) (r .count)
-    → low ≡ bounded (D (nearestOf alive (r .count) measured)) r → Front (within (low .bound) alive measured (low .count)) (swept (low .bound) alive measured (low .count)) after (q .count) → q ≡ recounted (q .count) low
-    → Leveled D f alive dist r after measured q
-leveled-more D f {alive} {dist} {after} {measured} {r} {low} {q} other g h s t =
+pub leveled-more : (D f : ℕ → ℕ) {remaining dist after measured : List ℕ} {r low q : PruneState} → (r .count ≡ 1 → ⊥) → measured ≡ fillTo dist 0 (λ i. f (getD remaining i 0)) (r .count)
+    → low ≡ bounded (D (nearestOf remaining (r .count) measured)) r → Front (keptWithin (low .bound) remaining measured (low .count)) (swept (low .bound) remaining measured (low .count)) after (q .count) → q ≡ recounted (q .count) low
+    → Leveled D f remaining dist r after measured q
+leveled-more D f {remaining} {dist} {after} {measured} {r} {low} {q} other g h s t =
     let k = rw h at (s .many) in
     record {
       alone = λ l. absurd (other l);
@@ -119,10 +119,10 @@ leveled-more D f {alive} {dist} {after} {measured} {r} {low} {q} other g h s t =
     }
 
 -- wherever the search stood, if a candidate remains
-pub level-done : (D : ℕ → ℕ) (d : ℕ → ℕ → ℕ) (m : ℕ) {alive dist after measured : List ℕ} {r q : Rest} → Leveled D (d m) alive dist r after measured q
-    → length dist ≡ 1089 → 0 < r .count → r .count ≤ 1089 → r .slot < 5 → (z : ℕ) (s : Pruning) → InMemory z s alive r
+pub level-done : (D : ℕ → ℕ) (d : ℕ → ℕ → ℕ) (m : ℕ) {remaining dist after measured : List ℕ} {r q : PruneState} → Leveled D (d m) remaining dist r after measured q
+    → length dist ≡ 1089 → 0 < r .count → r .count ≤ 1089 → r .slot < 5 → (z : ℕ) (s : Pruning) → InMemory z s remaining r
     → 0 < length (sift d (absolute .limit) m (lower D d m s) .left) → InMemory z (sift d (absolute .limit) m (lower D d m s)) after q
-level-done D d m {alive} {dist} {after} {measured} {r} {q} v wide one few room z s h some = ⊎-elim lone many (eq-or-lt-of-le one)
+level-done D d m {remaining} {dist} {after} {measured} {r} {q} v wide one few room z s h some = ⊎-elim lone many (eq-or-lt-of-le one)
   where
     lone : 1 ≡ r .count → InMemory z (sift d (absolute .limit) m (lower D d m s)) after q
     lone l =
@@ -133,12 +133,12 @@ level-done D d m {alive} {dist} {after} {measured} {r} {q} v wide one few room z
     many : 1 < r .count → InMemory z (sift d (absolute .limit) m (lower D d m s)) after q
     many l =
         let (a, b, c) = v .more l in
-        let g = filled-is (d m) alive dist measured (r .count) a wide few in
-        let short : r .count ≤ length alive = omega (arith, h .long) in
+        let g = filled-is (d m) remaining dist measured (r .count) a wide few in
+        let short : r .count ≤ length remaining = omega (arith, h .long) in
         let low = lower-done D d m h l short g in
         rw c (sift-done d m low (low .bound l) short room g (record { many = refl; list = b }))
 
-pub level-wide : (D f : ℕ → ℕ) {alive dist after measured : List ℕ} {r q : Rest} → Leveled D f alive dist r after measured q
+pub level-wide : (D f : ℕ → ℕ) {remaining dist after measured : List ℕ} {r q : PruneState} → Leveled D f remaining dist r after measured q
     → length dist ≡ 1089 → 0 < r .count → r .count ≤ 1089 → length measured ≡ 1089
-level-wide D f {alive} {dist} {after} {measured} {r} {q} v wide one few =
-    ⊎-elim (λ l. rw (v .alone (sym l) .1) wide) (λ l. filled-is f alive dist measured (r .count) (v .more l .0) wide few .long) (eq-or-lt-of-le one)
+level-wide D f {remaining} {dist} {after} {measured} {r} {q} v wide one few =
+    ⊎-elim (λ l. rw (v .alone (sym l) .1) wide) (λ l. filled-is f remaining dist measured (r .count) (v .more l .0) wide few .long) (eq-or-lt-of-le one)

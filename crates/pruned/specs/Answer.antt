@@ -1,10 +1,10 @@
--- 01, "The four searches", search 2, of the block at row y, column x of a pair, for window w: its steps (pruning/specs/Prune.antt) over the block's
+-- 01, "The four searches", search 2, of the block at row y, column x of a pair, for window w: its steps (pruned_rule/specs/Prune.antt) over the block's
 -- candidates, each known by its place in the preference table.
 --   distortionAt  the distortion of the vector at place k of the preference table; stillDistortion: that of (0,0), with which E begins
 --   distanceAt    its distance at m
 --   pruning       where search 2's steps end: what they leave, and what they drop
 --   chosen        the place of the vector that they choose
---   prunedFound   what search 2 answers
+--   prunedSearch   what search 2 answers
 use Prim.Native.Nat.{ℕ}
 use lib.ListN.{length}
 use lib.IntN.{pos}
@@ -12,11 +12,11 @@ use Rattle.order.specs.Vectors.{vec}
 use Rattle.order.specs.Preference.{preferred}
 use Rattle.frame.specs.Pictures.{Pair}
 use Rattle.distortion.specs.Blocks.{absolute, distortion, newerBlock, olderBlock}
-use Rattle.search.specs.declared.Found.{Found}
-use Rattle.search.specs.Found.{foundAs}
+use Rattle.search.specs.declared.SearchResult.{SearchResult}
+use Rattle.search.specs.SearchResult.{searchResult}
 use Rattle.search.specs.Exhaustive.{places}
-use Rattle.pruning.specs.Distance.{distances}
-use Rattle.pruning.specs.Prune.{Pruning, prune, prunedBest, counts, resolutions}
+use Rattle.pruned_rule.specs.Distance.{distances}
+use Rattle.pruned_rule.specs.Prune.{Pruning, prune, prunedBest, counts, resolutions}
 
 abbrev pub distortionAt : Pair → ℕ → ℕ → ℕ → ℕ
 distortionAt p y x k = distortion p y x (preferred k)
@@ -34,5 +34,5 @@ module _ (p : Pair) (w y x : ℕ) where
   unfoldable pub chosen : ℕ
   chosen = prunedBest (stillDistortion p y x) (distortionAt p y x) (distanceAt p y x) (absolute .limit) (p .sizes .n) (resolutions (p .sizes .n)) (places (p .sizes) w y x)
 
-  unfoldable pub prunedFound : Found
-  prunedFound = foundAs (preferred chosen) (distortion p y x (preferred chosen)) (counts pruning) (length (pruning .dropped))
+  unfoldable pub prunedSearch : SearchResult
+  prunedSearch = searchResult (preferred chosen) (distortion p y x (preferred chosen)) (counts pruning) (length (pruning .dropped))

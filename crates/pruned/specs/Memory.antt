@@ -1,5 +1,5 @@
--- 01, "The four searches", search 2: what code holds between its steps, the remaining candidates' places in front of an array `alive`, E and the counts in a
--- struct `Rest`.
+-- 01, "The four searches", search 2: what code holds between its steps, the remaining candidates' places in front of an array `remaining`, E and the counts in a
+-- struct `PruneState`.
 --   Lent          what search 2 asks: the block ready, and the summed-area table of a part of the older frame that holds all older blocks
 --   firstSlot     where the count at N stands among the five: they end with that, those at the resolutions after N and the one at m = 1
 --   Begun         before the first test: all candidates, E the distortion of (0,0), no count
@@ -16,18 +16,18 @@ use Rattle.base.specs.Lists.{fillTo}
 use Rattle.base.specs.Least.{leastOf}
 use Rattle.order.specs.Preference.{preferred}
 use Rattle.distortion.specs.Blocks.{blockAt}
-use Rattle.search.specs.declared.Spot.{Spot}
-use Rattle.search.specs.declared.Found.{Found}
-use Rattle.search.specs.Found.{foundAs}
-use Rattle.search.specs.Weighing.{Ready}
-use Rattle.sums.specs.declared.Window.{Window}
-use Rattle.sums.specs.Area.{SumsOf}
-use Rattle.pruning.specs.Prune.{resolutions}
-use Rattle.remaining.specs.Gathered.{nearestOf, within, swept}
-use Rattle.reach.specs.Reach.{Covers}
-use Rattle.pruned.specs.declared.Rest.{Rest}
+use Rattle.search.specs.declared.SearchBlock.{SearchBlock}
+use Rattle.search.specs.declared.SearchResult.{SearchResult}
+use Rattle.search.specs.SearchResult.{searchResult}
+use Rattle.search.specs.Target.{Ready}
+use Rattle.pruned_sums.specs.declared.Region.{Region}
+use Rattle.pruned_sums.specs.Area.{SumsOf}
+use Rattle.pruned_rule.specs.Prune.{resolutions}
+use Rattle.pruned_remaining.specs.Gathered.{nearestOf, keptWithin, swept}
+use Rattle.pruned_region.specs.Reach.{Covers}
+use Rattle.pruned.specs.declared.PruneState.{PruneState}
 
-pub record Lent (older newer : List ℕ) (b : Spot) (sums : List ℕ) (a : Window) : Type 0 where
+pub record Lent (older newer : List ℕ) (b : SearchBlock) (sums : List ℕ) (a : Region) : Type 0 where
   pub ready : Ready older newer b
   pub covers : Covers b a
   pub table : SumsOf (blockAt older (b .sizes .width) (a .top) (a .left)) (a .rows) (a .columns) sums
@@ -35,30 +35,30 @@ pub record Lent (older newer : List ℕ) (b : Spot) (sums : List ℕ) (a : Windo
 abbrev pub firstSlot : ℕ → ℕ
 firstSlot n = 5 - (length (resolutions n) + 2)
 
-pub record Begun (e n total : ℕ) (r : Rest) : Type 0 where
+pub record Begun (e n total : ℕ) (r : PruneState) : Type 0 where
   pub bound : r .bound ≡ e
   pub count : r .count ≡ total
   pub slot : r .slot ≡ firstSlot n
   pub counts : r .counts ≡ 0 ∷ 0 ∷ 0 ∷ 0 ∷ 0 ∷ []
 
-abbrev pub recounted : ℕ → Rest → Rest
+abbrev pub recounted : ℕ → PruneState → PruneState
 recounted k r = record { count = k; bound = r .bound; slot = r .slot + 1; counts = set (r .counts) (r .slot) (r .count) }
 
-abbrev pub counted : Rest → Rest
-counted r = recounted (r .count) r
+abbrev pub testsCounted : PruneState → PruneState
+testsCounted r = recounted (r .count) r
 
-abbrev pub bounded : ℕ → Rest → Rest
+abbrev pub bounded : ℕ → PruneState → PruneState
 bounded e r = record { count = r .count; bound = min (r .bound) e; slot = r .slot; counts = r .counts }
 
--- D k is the distortion of candidate k and f k its distance at m; the arrays alive and dist before and after
-pub record Leveled (D f : ℕ → ℕ) (alive dist : List ℕ) (r : Rest) (after measured : List ℕ) (q : Rest) : Type 0 where
-  pub alone : r .count ≡ 1 → (after ≡ alive) × (measured ≡ dist) × (q ≡ counted r)
+-- D k is the distortion of candidate k and f k its distance at m; the arrays remaining and dist before and after
+pub record Leveled (D f : ℕ → ℕ) (remaining dist : List ℕ) (r : PruneState) (after measured : List ℕ) (q : PruneState) : Type 0 where
+  pub alone : r .count ≡ 1 → (after ≡ remaining) × (measured ≡ dist) × (q ≡ testsCounted r)
   pub more : 1 < r .count →
-      let low = bounded (D (nearestOf alive (r .count) measured)) r in
-      let stay = within (low .bound) alive measured (r .count) in
-      (measured ≡ fillTo dist 0 (λ i. f (getD alive i 0)) (r .count)) × (after ≡ stay ++ drop (length stay) (swept (low .bound) alive measured (r .count))) × (q ≡ recounted (length stay) low)
+      let low = bounded (D (nearestOf remaining (r .count) measured)) r in
+      let stay = keptWithin (low .bound) remaining measured (r .count) in
+      (measured ≡ fillTo dist 0 (λ i. f (getD remaining i 0)) (r .count)) × (after ≡ stay ++ drop (length stay) (swept (low .bound) remaining measured (r .count))) × (q ≡ recounted (length stay) low)
 
-abbrev pub finished : (ℕ → ℕ) → List ℕ → ℕ → Rest → Found
-finished D alive total r =
-    let best = leastOf D (take (r .count) alive) in
-    foundAs (preferred best) (D best) (set (r .counts) (r .slot) (r .count)) (total - r .count)
+abbrev pub finished : (ℕ → ℕ) → List ℕ → ℕ → PruneState → SearchResult
+finished D remaining total r =
+    let best = leastOf D (take (r .count) remaining) in
+    searchResult (preferred best) (D best) (set (r .counts) (r .slot) (r .count)) (total - r .count)

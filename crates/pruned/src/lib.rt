@@ -1,5 +1,5 @@
 // Search 2, the pruned search, of one block: document 01's steps over the candidates' places in the preference table.
-// The remaining candidates stand in front of the array `alive`, in preference order, and their distances at m in `dist` (crates remaining and distance).
+// The remaining candidates stand in front of the array `remaining`, in preference order, and their distances at m in `dist` (crates remaining and distance).
 
 ghost use mathlib.Core.Path.{_≡_};
 ghost use Prim.Native.Nat.{_≤_, _<_};
@@ -7,21 +7,21 @@ ghost use lib.Dec.{T};
 ghost use lib.ListN.{length};
 ghost use Rattle.order.specs.Preference.{preference, flat};
 ghost use Rattle.frame.specs.Pictures.{pairOf};
-ghost use Rattle.refusals.specs.Refusals.{listed};
-ghost use Rattle.search.specs.Weighing.{Ready};
-ghost use Rattle.remaining.specs.Gathered.{Front, Listed, nearestOf, within, swept};
-ghost use Rattle.squares.specs.Squares.{OwnSums};
+ghost use Rattle.refusals.specs.Refusals.{blockSizeOk};
+ghost use Rattle.search.specs.Target.{Ready};
+ghost use Rattle.pruned_remaining.specs.Gathered.{Front, ListedCandidates, nearestOf, keptWithin, swept};
+ghost use Rattle.pruned_subblocks.specs.Squares.{BlockSums};
 ghost use Rattle.full.specs.Full.{distortionOf};
-ghost use Rattle.distance.specs.Remaining.{distanceOf, Tested};
-ghost use Rattle.pruned.specs.Answer.{stillDistortion, prunedFound};
-ghost use Rattle.pruned.specs.Memory.{Lent, firstSlot, Begun, recounted, counted, bounded, Leveled, finished};
-use search::Found;
-use search::Spot;
-use sums::Window;
+ghost use Rattle.pruned_distance.specs.Remaining.{distanceOf, Tested};
+ghost use Rattle.pruned.specs.Answer.{stillDistortion, prunedSearch};
+ghost use Rattle.pruned.specs.Memory.{Lent, firstSlot, Begun, recounted, testsCounted, bounded, Leveled, finished};
+use pruned_sums::Region;
+use search::SearchBlock;
+use search::SearchResult;
 
 // The search between two resolutions: how many candidates remain, E, and how many were tested at each resolution so far; the next
 // count stands at `slot`.
-pub struct Rest {
+pub struct PruneState {
     pub count: usize,
     pub bound: u32,
     pub slot: usize,
@@ -30,21 +30,27 @@ pub struct Rest {
 
 // Where the count of the tests at N stands among the five: log2 N places before the last, which is for m = 1.
 fn first_slot(n: usize) -> usize
-    requires { ⌜ T (listed n) ⌝ }
+    requires { ⌜ T (blockSizeOk n) ⌝ }
     ensures { λ r. ⌜ r ≡ firstSlot n ⌝ }
 {
     4 - refusals::log2_window(n) as usize
 }
 
 // All candidates, and E the distortion of (0,0).
-fn begin(older: &[u8], newer: &[u8], order: &[i32; 2178], b: Spot, total: usize) -> Rest
+fn begin(
+    older: &[u8],
+    newer: &[u8],
+    order: &[i32; 2178],
+    b: SearchBlock,
+    total: usize,
+) -> PruneState
     requires { ⌜ Ready (now older) (now newer) b × (now order ≡ flat preference) ⌝ }
     ensures { λ r. ⌜ Begun (stillDistortion (pairOf (now (older .entry)) (now (newer .entry)) (b .sizes)) (b .y) (b .x)) (b .sizes .n) total r ⌝ }
 {
     let bound = full::distortion_of(older, newer, order, b, 0, 4294967295);
     let s = b.sizes;
     let slot = first_slot(s.n);
-    Rest {
+    PruneState {
         count: total,
         bound,
         slot,
@@ -57,23 +63,23 @@ fn lowered(
     older: &[u8],
     newer: &[u8],
     order: &[i32; 2178],
-    b: Spot,
-    alive: &[u16; 1089],
+    b: SearchBlock,
+    remaining: &[u16; 1089],
     dist: &[u32; 1089],
-    r: Rest,
-) -> Rest
+    r: PruneState,
+) -> PruneState
     requires { ⌜ Ready (now older) (now newer) b × (now order ≡ flat preference) ⌝ }
-    requires { ⌜ Listed b (now alive) (r .count) × (1 < r .count) ⌝ }
-    ensures { λ q. ⌜ q ≡ bounded (distortionOf (now (older .entry)) (now (newer .entry)) b (nearestOf (now (alive .entry)) (r .count) (now (dist .entry)))) r ⌝ }
+    requires { ⌜ ListedCandidates b (now remaining) (r .count) × (1 < r .count) ⌝ }
+    ensures { λ q. ⌜ q ≡ bounded (distortionOf (now (older .entry)) (now (newer .entry)) b (nearestOf (now (remaining .entry)) (r .count) (now (dist .entry)))) r ⌝ }
 {
     let count = r.count;
-    let k = remaining::nearest(alive, count, dist);
+    let k = pruned_remaining::nearest(remaining, count, dist);
     let bound = r.bound;
     let e = full::distortion_of(older, newer, order, b, k, bound);
     let slot = r.slot;
     let counts = r.counts;
     if e < bound {
-        return Rest {
+        return PruneState {
             count,
             bound: e,
             slot,
@@ -84,16 +90,16 @@ fn lowered(
 }
 
 // Counts the tests at a resolution: one for each remaining candidate.
-fn count_tests(r: Rest) -> Rest
+fn count_tests(r: PruneState) -> PruneState
     requires { ⌜ (r .count ≤ 1089) × (r .slot < 5) ⌝ }
-    ensures { λ q. ⌜ q ≡ counted r ⌝ }
+    ensures { λ q. ⌜ q ≡ testsCounted r ⌝ }
 {
     let count = r.count;
     let bound = r.bound;
     let slot = r.slot;
     let mut counts = r.counts;
     counts[slot] = count as u32;
-    Rest {
+    PruneState {
         count,
         bound,
         slot: slot + 1,
@@ -102,14 +108,14 @@ fn count_tests(r: Rest) -> Rest
 }
 
 // Counts the tests and drops each candidate whose distance exceeds E.
-fn sifted(alive: &mut [u16; 1089], dist: &[u32; 1089], r: Rest) -> Rest
-    requires { ⌜ (length (now alive) ≡ 1089) × (r .count ≤ 1089) × (r .slot < 5) ⌝ }
-    ensures { λ q. ⌜ Front (within (r .bound) (now (alive .entry)) (now (dist .entry)) (r .count)) (swept (r .bound) (now (alive .entry)) (now (dist .entry)) (r .count)) (now (alive .exit)) (q .count) × (q ≡ recounted (q .count) r) ⌝ }
+fn sifted(remaining: &mut [u16; 1089], dist: &[u32; 1089], r: PruneState) -> PruneState
+    requires { ⌜ (length (now remaining) ≡ 1089) × (r .count ≤ 1089) × (r .slot < 5) ⌝ }
+    ensures { λ q. ⌜ Front (keptWithin (r .bound) (now (remaining .entry)) (now (dist .entry)) (r .count)) (swept (r .bound) (now (remaining .entry)) (now (dist .entry)) (r .count)) (now (remaining .exit)) (q .count) × (q ≡ recounted (q .count) r) ⌝ }
 {
-    let kept = remaining::keep_within(alive, r.count, dist, r.bound);
+    let kept = pruned_remaining::keep_within(remaining, r.count, dist, r.bound);
     let q = count_tests(r);
     let counts = q.counts;
-    Rest {
+    PruneState {
         count: kept,
         bound: q.bound,
         slot: q.slot,
@@ -122,38 +128,38 @@ fn level(
     older: &[u8],
     newer: &[u8],
     order: &[i32; 2178],
-    b: Spot,
+    b: SearchBlock,
     sums: &[u32],
-    a: Window,
-    own: &[u32],
+    a: Region,
+    blocksums: &[u32],
     m: usize,
-    alive: &mut [u16; 1089],
+    remaining: &mut [u16; 1089],
     dist: &mut [u32; 1089],
-    r: Rest,
-) -> Rest
-    requires { ⌜ (now order ≡ flat preference) × (length (now dist) ≡ 1089) × Tested (now older) (now newer) b (now sums) a m (now alive) (r .count)
-        × OwnSums (now newer) b (now own) × (0 < r .count) × (r .slot < 5) ⌝ }
-    ensures { λ q. ⌜ Leveled (distortionOf (now (older .entry)) (now (newer .entry)) b) (distanceOf (now (older .entry)) (now (newer .entry)) b m) (now (alive .entry)) (now (dist .entry)) r (now (alive .exit)) (now (dist .exit)) q ⌝ }
+    r: PruneState,
+) -> PruneState
+    requires { ⌜ (now order ≡ flat preference) × (length (now dist) ≡ 1089) × Tested (now older) (now newer) b (now sums) a m (now remaining) (r .count)
+        × BlockSums (now newer) b (now blocksums) × (0 < r .count) × (r .slot < 5) ⌝ }
+    ensures { λ q. ⌜ Leveled (distortionOf (now (older .entry)) (now (newer .entry)) b) (distanceOf (now (older .entry)) (now (newer .entry)) b m) (now (remaining .entry)) (now (dist .entry)) r (now (remaining .exit)) (now (dist .exit)) q ⌝ }
 {
     let count = r.count;
     if count == 1 {
         return count_tests(r);
     }
-    distance::fill_distances(
+    pruned_distance::fill_distances(
         older,
         newer,
         order,
         b,
         sums,
         a,
-        own,
+        blocksums,
         m,
-        &*alive,
+        &*remaining,
         count,
         dist,
     );
-    let q = lowered(older, newer, order, b, &*alive, &*dist, r);
-    sifted(alive, &*dist, q)
+    let q = lowered(older, newer, order, b, &*remaining, &*dist, r);
+    sifted(remaining, &*dist, q)
 }
 
 // Measures the rest, counts them, and answers.
@@ -161,22 +167,22 @@ fn finish(
     older: &[u8],
     newer: &[u8],
     order: &[i32; 2178],
-    b: Spot,
-    alive: &[u16; 1089],
+    b: SearchBlock,
+    remaining: &[u16; 1089],
     total: usize,
-    r: Rest,
-) -> Found
+    r: PruneState,
+) -> SearchResult
     requires { ⌜ Ready (now older) (now newer) b × (now order ≡ flat preference) ⌝ }
-    requires { ⌜ Listed b (now alive) (r .count) × (0 < r .count) × (r .slot < 5) × (r .count ≤ total) × (total ≤ 1089) ⌝ }
-    ensures { λ q. ⌜ q ≡ finished (distortionOf (now (older .entry)) (now (newer .entry)) b) (now (alive .entry)) total r ⌝ }
+    requires { ⌜ ListedCandidates b (now remaining) (r .count) × (0 < r .count) × (r .slot < 5) × (r .count ≤ total) × (total ≤ 1089) ⌝ }
+    ensures { λ q. ⌜ q ≡ finished (distortionOf (now (older .entry)) (now (newer .entry)) b) (now (remaining .entry)) total r ⌝ }
 {
     let count = r.count;
     let slot = r.slot;
     let mut counts = r.counts;
     counts[slot] = count as u32;
-    let best = full::choose(older, newer, order, b, alive, count);
+    let best = full::choose(older, newer, order, b, remaining, count);
     let v = order::vector_at(order, best.place);
-    Found {
+    SearchResult {
         refusal: 0,
         dy: v.dy,
         dx: v.dx,
@@ -191,35 +197,40 @@ pub fn search(
     older: &[u8],
     newer: &[u8],
     order: &[i32; 2178],
-    b: Spot,
+    b: SearchBlock,
     sums: &[u32],
-    a: Window,
-) -> Found
+    a: Region,
+) -> SearchResult
     requires { ⌜ Lent (now older) (now newer) b (now sums) a × (now order ≡ flat preference) ⌝ }
-    ensures { λ r. ⌜ r ≡ prunedFound (pairOf (now (older .entry)) (now (newer .entry)) (b .sizes)) (b .w) (b .y) (b .x) ⌝ }
+    ensures { λ r. ⌜ r ≡ prunedSearch (pairOf (now (older .entry)) (now (newer .entry)) (b .sizes)) (b .w) (b .y) (b .x) ⌝ }
 {
-    let mut alive = [0u16; 1089];
+    let mut remaining = [0u16; 1089];
     let mut dist = [0u32; 1089];
     let s = b.sizes;
     let n = s.n;
-    let mut own = [0u32; sums::OWN_TABLE];
-    sums::fill_sums(newer, s.width, squares::own_window(b), &mut own);
-    let total = remaining::gather(order, b, &mut alive);
+    let mut blocksums = [0u32; pruned_sums::BLOCK_TABLE];
+    pruned_sums::fill_sums(
+        newer,
+        s.width,
+        pruned_subblocks::block_region(b),
+        &mut blocksums,
+    );
+    let total = pruned_remaining::gather(order, b, &mut remaining);
     let first = begin(older, newer, order, b, total);
-    distance::fill_distances(
+    pruned_distance::fill_distances(
         older,
         newer,
         order,
         b,
         sums,
         a,
-        &own,
+        &blocksums,
         n,
-        &alive,
+        &remaining,
         total,
         &mut dist,
     );
-    let mut r = sifted(&mut alive, &dist, first);
+    let mut r = sifted(&mut remaining, &dist, first);
     let mut m = n / 2;
     while m >= 2 {
         r = level(
@@ -229,13 +240,13 @@ pub fn search(
             b,
             sums,
             a,
-            &own,
+            &blocksums,
             m,
-            &mut alive,
+            &mut remaining,
             &mut dist,
             r,
         );
         m = m / 2;
     }
-    finish(older, newer, order, b, &alive, total, r)
+    finish(older, newer, order, b, &remaining, total, r)
 }

@@ -4,7 +4,7 @@
 --   pairRefusal     1 2 3: what every call with a pair tests first
 --   placedRefusal   1 2 3 7: a pair, N and a block's place
 --   requestRefusal  1 2 3 4 5 6: a pair and a search
--- A chain is 0 where the call is accepted; `paired`, `placed` and `asked` say all that follows. The frames come in by their lengths.
+-- A chain is 0 where the call is accepted; `paired`, `placed` and `requested` say all that follows. The frames come in by their lengths.
 use Prim.Native.Nat.{ℕ, zero, suc, _+_, _*_, _≤_, _<_}
 use mathlib.Core.Path.{_≡_, refl}
 use mathlib.Core.Bool.{Bool, true, false, cond, _&&_, _||_}
@@ -23,9 +23,9 @@ unless true n rest = rest
 unless false n rest = n
 
 -- a chain, and where it is 0 the rest of the chain
-unfoldable pub first : ℕ → ℕ → ℕ
-first zero rest = rest
-first (suc n) rest = suc n
+unfoldable pub firstRefusal : ℕ → ℕ → ℕ
+firstRefusal zero rest = rest
+firstRefusal (suc n) rest = suc n
 
 -- ---- the rules
 
@@ -38,11 +38,11 @@ abbrev pub frameOk : Sizes → ℕ → Bool
 frameOk s pels = eqb pels (s .height * s .width)
 
 -- 3 N not allowed or too big: "Block size N is 4, 8 or 16, at most width and height"
-unfoldable pub listed : ℕ → Bool
-listed n = eqb n 4 || (eqb n 8 || eqb n 16)
+unfoldable pub blockSizeOk : ℕ → Bool
+blockSizeOk n = eqb n 4 || (eqb n 8 || eqb n 16)
 
 abbrev pub blockOk : Sizes → Bool
-blockOk s = listed (s .n) && (leb (s .n) (s .width) && leb (s .n) (s .height))
+blockOk s = blockSizeOk (s .n) && (leb (s .n) (s .width) && leb (s .n) (s .height))
 
 -- 4 search not 1 to 4
 abbrev pub searchOk : ℕ → Bool
@@ -69,14 +69,14 @@ pairRefusal older newer s =
     (unless (blockOk s) 3 0))
 
 unfoldable pub placedRefusal : ℕ → ℕ → Sizes → ℕ → ℕ → ℕ
-placedRefusal older newer s y x = first (pairRefusal older newer s) (unless (placeOk s y x) 7 0)
+placedRefusal older newer s y x = firstRefusal (pairRefusal older newer s) (unless (placeOk s y x) 7 0)
 
 abbrev pub sizesOf : Request → Sizes
 sizesOf q = sizes (q .width) (q .height) (q .n)
 
 unfoldable pub requestRefusal : ℕ → ℕ → Request → ℕ
 requestRefusal older newer q =
-    first (pairRefusal older newer (sizesOf q))
+    firstRefusal (pairRefusal older newer (sizesOf q))
     (unless (searchOk (q .search)) 4
     (unless (windowOk (q .search) (q .w)) 5
     (unless (thresholdOk (q .search) (q .t)) 6 0)))
@@ -87,36 +87,36 @@ pub unless-zero : (b : Bool) (k rest : ℕ) → unless b (suc k) rest ≡ 0 → 
 unless-zero true k rest e = (tt, e)
 unless-zero false k rest e = absurd (omega arith)
 
-pub first-some : (n rest : ℕ) → (n ≡ 0 → ⊥) → first n rest ≡ n
-unfolding first
-first-some zero rest h = absurd (h refl)
-first-some (suc n) rest h = refl
+pub first-refusal-some : (n rest : ℕ) → (n ≡ 0 → ⊥) → firstRefusal n rest ≡ n
+unfolding firstRefusal
+first-refusal-some zero rest h = absurd (h refl)
+first-refusal-some (suc n) rest h = refl
 
-pub first-none : (n rest : ℕ) → n ≡ 0 → first n rest ≡ rest
-unfolding first
-first-none zero rest e = refl
-first-none (suc n) rest e = absurd (omega arith)
+pub first-refusal-none : (n rest : ℕ) → n ≡ 0 → firstRefusal n rest ≡ rest
+unfolding firstRefusal
+first-refusal-none zero rest e = refl
+first-refusal-none (suc n) rest e = absurd (omega arith)
 
-pub first-zero : (n rest : ℕ) → first n rest ≡ 0 → (n ≡ 0) × (rest ≡ 0)
-unfolding first
-first-zero zero rest e = (refl, e)
-first-zero (suc n) rest e = absurd (omega arith)
+pub first-refusal-zero : (n rest : ℕ) → firstRefusal n rest ≡ 0 → (n ≡ 0) × (rest ≡ 0)
+unfolding firstRefusal
+first-refusal-zero zero rest e = (refl, e)
+first-refusal-zero (suc n) rest e = absurd (omega arith)
 
 pub side-high : (a : ℕ) → T (sideOk a) → a ≤ 1024
 side-high a t = le-both 4 a a 1024 t .1
 
 -- what holds of 4, 8 and 16 holds of each allowed N
-pub listed-elim : (P : ℕ → Type 0) → P 4 → P 8 → P 16 → (n : ℕ) → T (listed n) → P n
-unfolding listed
-listed-elim P p4 p8 p16 n t =
+pub block-size-elim : (P : ℕ → Type 0) → P 4 → P 8 → P 16 → (n : ℕ) → T (blockSizeOk n) → P n
+unfolding blockSizeOk
+block-size-elim P p4 p8 p16 n t =
     ⊎-elim (eqb-subst P n 4 p4)
     (λ u. ⊎-elim (eqb-subst P n 8 p8) (eqb-subst P n 16 p16) (or-cases (eqb n 8) (eqb n 16) u))
     (or-cases (eqb n 4) (eqb n 8 || eqb n 16) t)
 
--- 1 2 3: sizes at which a block fits, N as listed, both frames whole
+-- 1 2 3: sizes at which a block fits, N as blockSizeOk, both frames whole
 pub record Paired (older newer : ℕ) (s : Sizes) : Type 0 where
   pub fitting : Fitting s
-  pub allowed : T (listed (s .n))
+  pub allowed : T (blockSizeOk (s .n))
   pub older-whole : older ≡ s .height * s .width
   pub newer-whole : newer ≡ s .height * s .width
 
@@ -127,7 +127,7 @@ pub record Placed (older newer : ℕ) (s : Sizes) (y x : ℕ) : Type 0 where
   pub across : x + s .n ≤ s .width
 
 -- 1 2 3 4 5 6: also, a search with a window and a threshold that it takes
-pub record Asked (older newer : ℕ) (q : Request) : Type 0 where
+pub record Requested (older newer : ℕ) (q : Request) : Type 0 where
   pub paired : Paired older newer (sizesOf q)
   pub least : 1 ≤ q .search
   pub most : q .search ≤ 4
@@ -138,10 +138,10 @@ pub fitting : (s : Sizes) → T (sideOk (s .width) && sideOk (s .height)) → T 
 fitting s t u =
     let w = and-left (sideOk (s .width)) (sideOk (s .height)) t in
     let h = and-right (sideOk (s .width)) (sideOk (s .height)) t in
-    let l = and-left (listed (s .n)) (leb (s .n) (s .width) && leb (s .n) (s .height)) u in
-    let b = le-both _ _ _ _ (and-right (listed (s .n)) (leb (s .n) (s .width) && leb (s .n) (s .height)) u) in
+    let l = and-left (blockSizeOk (s .n)) (leb (s .n) (s .width) && leb (s .n) (s .height)) u in
+    let b = le-both _ _ _ _ (and-right (blockSizeOk (s .n)) (leb (s .n) (s .width) && leb (s .n) (s .height)) u) in
     record {
-      some = listed-elim (λ n. 0 < n) (omega arith) (omega arith) (omega arith) (s .n) l;
+      some = block-size-elim (λ n. 0 < n) (omega arith) (omega arith) (omega arith) (s .n) l;
       across = b .0;
       down = b .1;
       wide = side-high (s .width) w;
@@ -156,7 +156,7 @@ paired older newer s e =
     let c = unless-zero (blockOk s) 2 0 (b .1) in
     record {
       fitting = fitting s (a .0) (c .0);
-      allowed = and-left (listed (s .n)) (leb (s .n) (s .width) && leb (s .n) (s .height)) (c .0);
+      allowed = and-left (blockSizeOk (s .n)) (leb (s .n) (s .width) && leb (s .n) (s .height)) (c .0);
       older-whole = eqb→eq older (s .height * s .width) (and-left (frameOk s older) (frameOk s newer) (b .0));
       newer-whole = eqb→eq newer (s .height * s .width) (and-right (frameOk s older) (frameOk s newer) (b .0));
     }
@@ -164,14 +164,14 @@ paired older newer s e =
 pub placed : (older newer : ℕ) (s : Sizes) (y x : ℕ) → placedRefusal older newer s y x ≡ 0 → Placed older newer s y x
 unfolding placedRefusal
 placed older newer s y x e =
-    let a = first-zero (pairRefusal older newer s) _ e in
+    let a = first-refusal-zero (pairRefusal older newer s) _ e in
     let b = le-both (y + s .n) (s .height) (x + s .n) (s .width) (unless-zero (placeOk s y x) 6 0 (a .1) .0) in
     record { paired = paired older newer s (a .0); down = b .0; across = b .1 }
 
-pub asked : (older newer : ℕ) (q : Request) → requestRefusal older newer q ≡ 0 → Asked older newer q
+pub requested : (older newer : ℕ) (q : Request) → requestRefusal older newer q ≡ 0 → Requested older newer q
 unfolding requestRefusal
-asked older newer q e =
-    let a = first-zero (pairRefusal older newer (sizesOf q)) _ e in
+requested older newer q e =
+    let a = first-refusal-zero (pairRefusal older newer (sizesOf q)) _ e in
     let b = unless-zero (searchOk (q .search)) 3 _ (a .1) in
     let c = unless-zero (windowOk (q .search) (q .w)) 4 _ (b .1) in
     let d = unless-zero (thresholdOk (q .search) (q .t)) 5 0 (c .1) in

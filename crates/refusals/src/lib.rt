@@ -4,10 +4,10 @@ ghost use mathlib.Core.Path.{_≡_};
 ghost use Prim.Native.Nat.{_+_};
 ghost use lib.Dec.{leb};
 ghost use Rattle.refusals.specs.Cross.{crossWindow, log2};
-ghost use Rattle.refusals.specs.Refusals.{sideOk, listed, blockOk, searchOk, windowOk, thresholdOk, placeOk, pairRefusal, placedRefusal, requestRefusal, sizesOf};
+ghost use Rattle.refusals.specs.Refusals.{sideOk, blockSizeOk, blockOk, searchOk, windowOk, thresholdOk, placeOk, pairRefusal, placedRefusal, requestRefusal, sizesOf};
 use frame::Sizes;
 
-// What a search is asked: the sizes, the search 1 to 4, its window w, and the threshold T of search 4.
+// What a search is requested: the sizes, the search 1 to 4, its window w, and the threshold T of search 4.
 #[repr(C)]
 pub struct Request {
     pub width: usize,
@@ -42,8 +42,8 @@ pub fn side_ok(a: usize) -> bool
 }
 
 // 3: N is 4, 8 or 16.
-pub fn is_listed(n: usize) -> bool
-    ensures { λ r. ⌜ r ≡ listed n ⌝ }
+pub fn block_size_ok(n: usize) -> bool
+    ensures { λ r. ⌜ r ≡ blockSizeOk n ⌝ }
 {
     if n == 4 {
         return true;
@@ -58,7 +58,7 @@ pub fn is_listed(n: usize) -> bool
 pub fn block_ok(s: Sizes) -> bool
     ensures { λ r. ⌜ r ≡ blockOk s ⌝ }
 {
-    if !is_listed(s.n) {
+    if !block_size_ok(s.n) {
         return false;
     }
     if s.width < s.n {

@@ -1,3 +1,3 @@
-pub mod Weighing
-pub mod Found
+pub mod Target
+pub mod SearchResult
 pub mod Exhaustive

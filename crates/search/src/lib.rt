@@ -1,16 +1,16 @@
-// What the four searches of document 01 share: the block that is searched, the distortion of a candidate, and the answer.
+// What the four searches of document 01 share: the block that is searchBy, the distortion of a candidate, and the answer.
 
 ghost use mathlib.Core.Path.{_≡_};
 ghost use Prim.Native.Nat.{_-_, _≤_};
 ghost use lib.IntN.{pos, _+ℤ_};
 ghost use Rattle.signed.specs.Int.{up};
 ghost use Rattle.order.specs.Vectors.{vec};
-ghost use Rattle.search.specs.Weighing.{Ready, Past, targetOf, weighed};
+ghost use Rattle.search.specs.Target.{Ready, Past, targetOf, measureCandidate};
 use frame::Older;
 use frame::Sizes;
 
-// A block of the newer frame, at row y, column x, to be searched within window w.
-pub struct Spot {
+// A block of the newer frame, at row y, column x, to be searchBy within window w.
+pub struct SearchBlock {
     pub sizes: Sizes,
     pub w: usize,
     pub y: usize,
@@ -19,7 +19,7 @@ pub struct Spot {
 
 // What a search answers: a vector, its distortion, five counts for m = 16, 8, 4, 2, 1, and the number dropped.
 #[repr(C)]
-pub struct Found {
+pub struct SearchResult {
     pub refusal: u32,
     pub dy: i32,
     pub dx: i32,
@@ -37,21 +37,27 @@ pub fn past(d: i32, at: usize, from: usize) -> usize
 }
 
 // The distortion of a candidate, or nothing where a vector is none.
-pub enum Weighed {
-    Cost(u32),
-    Nothing,
+pub enum MeasuredCandidate {
+    Distortion(u32),
+    NotCandidate,
 }
 
 // The distortion of (dy, dx), where it is a candidate.
-pub fn weigh(older: &[u8], newer: &[u8], b: Spot, dy: i32, dx: i32) -> Weighed
+pub fn measure_candidate(
+    older: &[u8],
+    newer: &[u8],
+    b: SearchBlock,
+    dy: i32,
+    dx: i32,
+) -> MeasuredCandidate
     requires { ⌜ Ready (now older) (now newer) b ⌝ }
-    ensures { λ r. ⌜ r ≡ weighed (targetOf (now (older .entry)) (now (newer .entry)) b) (vec dy dx) ⌝ }
+    ensures { λ r. ⌜ r ≡ measureCandidate (targetOf (now (older .entry)) (now (newer .entry)) b) (vec dy dx) ⌝ }
 {
     let s = b.sizes;
     let y = b.y;
     let x = b.x;
     let Older::At(r, c) = frame::older_at(s, b.w, y, x, dy, dx) else {
-        return Weighed::Nothing;
+        return MeasuredCandidate::NotCandidate;
     };
-    Weighed::Cost(distortion::block_distortion(older, newer, s, y, x, r, c))
+    MeasuredCandidate::Distortion(distortion::block_distortion(older, newer, s, y, x, r, c))
 }

@@ -27,65 +27,65 @@ pub abs-diff-is : (a b : ℕ) → natAbs (pos a -ℤ pos b) ≡ absDiff a b
 abs-diff-is a b = omega (arith, less (pos a) (pos b))
 
 -- z, where it lies in 0 ..= last
-abbrev pub placed : ℤ → ℕ → Shifted
-placed (pos n) last = cond (leb n last) (At n) Outside
-placed (negsuc n) last = Outside
+abbrev pub atPlace : ℤ → ℕ → Shifted
+atPlace (pos n) last = cond (leb n last) (At n) Outside
+atPlace (negsuc n) last = Outside
 
 unfoldable pub shiftedBy : ℕ → ℤ → ℕ → Shifted
-shiftedBy at d last = placed (pos at +ℤ d) last
+shiftedBy at d last = atPlace (pos at +ℤ d) last
 
-placed-at : (z : ℤ) (last n : ℕ) → up z ≡ n + dn z → n ≤ last → placed z last ≡ At n
-placed-at (pos m) last n e h = rw (le-leb m last (omega arith)) (ap At (omega arith))
-placed-at (negsuc m) last n e h = absurd (omega arith)
+at-place-at : (z : ℤ) (last n : ℕ) → up z ≡ n + dn z → n ≤ last → atPlace z last ≡ At n
+at-place-at (pos m) last n e h = rw (le-leb m last (omega arith)) (ap At (omega arith))
+at-place-at (negsuc m) last n e h = absurd (omega arith)
 
-placed-below : (z : ℤ) (last : ℕ) → up z < dn z → placed z last ≡ Outside
-placed-below (pos m) last h = absurd (omega arith)
-placed-below (negsuc m) last h = refl
+at-place-below : (z : ℤ) (last : ℕ) → up z < dn z → atPlace z last ≡ Outside
+at-place-below (pos m) last h = absurd (omega arith)
+at-place-below (negsuc m) last h = refl
 
-placed-above : (z : ℤ) (last : ℕ) → last + dn z < up z → placed z last ≡ Outside
-placed-above (pos m) last h = rw (lt-leb m last (omega arith)) refl
-placed-above (negsuc m) last h = refl
+at-place-above : (z : ℤ) (last : ℕ) → last + dn z < up z → atPlace z last ≡ Outside
+at-place-above (pos m) last h = rw (lt-leb m last (omega arith)) refl
+at-place-above (negsuc m) last h = refl
 
-placed-is : (z : ℤ) (last n : ℕ) → placed z last ≡ At n → (up z ≡ n + dn z) × (n ≤ last)
-placed-is (pos m) last n e = go (leb m last) refl
+at-place-is : (z : ℤ) (last n : ℕ) → atPlace z last ≡ At n → (up z ≡ n + dn z) × (n ≤ last)
+at-place-is (pos m) last n e = go (leb m last) refl
   where
     go : (t : Bool) → leb m last ≡ t → (m ≡ n + 0) × (n ≤ last)
     go true q = let k : m ≡ n = cc in omega (arith, leb-true m last q)
     go false q = let z : _≡_ {A = ℕ} 0 1 = cc in absurd (omega arith)
-placed-is (negsuc m) last n e = let z : _≡_ {A = ℕ} 0 1 = cc in absurd (omega arith)
+at-place-is (negsuc m) last n e = let z : _≡_ {A = ℕ} 0 1 = cc in absurd (omega arith)
 
-placed-not : (z : ℤ) (last : ℕ) → placed z last ≡ Outside → (up z < dn z) ⊎ (last + dn z < up z)
-placed-not (pos m) last e = go (leb m last) refl
+at-place-not : (z : ℤ) (last : ℕ) → atPlace z last ≡ Outside → (up z < dn z) ⊎ (last + dn z < up z)
+at-place-not (pos m) last e = go (leb m last) refl
   where
     go : (t : Bool) → leb m last ≡ t → (m < 0) ⊎ (last + 0 < m)
     go true q = let z : _≡_ {A = ℕ} 0 1 = cc in absurd (omega arith)
     go false q = inr (omega (arith, leb-false m last q))
-placed-not (negsuc m) last e = inl (omega arith)
+at-place-not (negsuc m) last e = inl (omega arith)
 
 module _ (at : ℕ) (d : ℤ) (last : ℕ) where
   -- read back: what each answer says
   pub shifted-is : (n : ℕ) → shiftedBy at d last ≡ At n → (at + up d ≡ n + dn d) × (n ≤ last)
   unfolding shiftedBy
-  shifted-is n e = omega (arith, placed-is (pos at +ℤ d) last n e, added (pos at) d)
+  shifted-is n e = omega (arith, at-place-is (pos at +ℤ d) last n e, added (pos at) d)
 
   pub shifted-not : shiftedBy at d last ≡ Outside → (at + up d < dn d) ⊎ (last + dn d < at + up d)
   unfolding shiftedBy
   shifted-not e =
       ⊎-elim (λ h. inl (omega (arith, added (pos at) d))) (λ h. inr (omega (arith, added (pos at) d)))
-      (placed-not (pos at +ℤ d) last e)
+      (at-place-not (pos at +ℤ d) last e)
 
   -- and what gives it
   pub shifted-at : (n : ℕ) → at + up d ≡ n + dn d → n ≤ last → shiftedBy at d last ≡ At n
   unfolding shiftedBy
-  shifted-at n e h = placed-at (pos at +ℤ d) last n (omega (arith, added (pos at) d)) h
+  shifted-at n e h = at-place-at (pos at +ℤ d) last n (omega (arith, added (pos at) d)) h
 
   pub shifted-below : at + up d < dn d → shiftedBy at d last ≡ Outside
   unfolding shiftedBy
-  shifted-below h = placed-below (pos at +ℤ d) last (omega (arith, added (pos at) d))
+  shifted-below h = at-place-below (pos at +ℤ d) last (omega (arith, added (pos at) d))
 
   pub shifted-above : last + dn d < at + up d → shiftedBy at d last ≡ Outside
   unfolding shiftedBy
-  shifted-above h = placed-above (pos at +ℤ d) last (omega (arith, added (pos at) d))
+  shifted-above h = at-place-above (pos at +ℤ d) last (omega (arith, added (pos at) d))
 
 -- the sum, where it is at most 1,000,000 from 0
 unfoldable pub movedBy : ℤ → ℤ → Moved

@@ -19,7 +19,7 @@ pub fn magnitude(d: i32) -> u32
 }
 
 // |a - b| of two sums of pels. By a signed difference: the compiler has its best code for that.
-pub fn gap(a: u32, b: u32) -> u32
+pub fn abs_diff_u32(a: u32, b: u32) -> u32
     requires { ⌜ (a ≤ 2147483647) × (b ≤ 2147483647) ⌝ }
     ensures { λ r. ⌜ r ≡ absDiff a b ⌝ }
 {
@@ -30,7 +30,7 @@ pub fn gap(a: u32, b: u32) -> u32
 pub fn abs_diff(a: u8, b: u8) -> u32
     ensures { λ r. ⌜ (r ≡ absDiff a b) × (r ≤ 255) ⌝ }
 {
-    gap(a as u32, b as u32)
+    abs_diff_u32(a as u32, b as u32)
 }
 
 // |d| is at most w: d lies in -w ..= w.
@@ -100,7 +100,7 @@ pub enum Moved {
 }
 
 // y - d, that is y moved by the reverse of d, where that lies in -1,000,000 ..= 1,000,000.
-pub fn retreat(y: i32, d: i32) -> Moved
+pub fn minus_travel(y: i32, d: i32) -> Moved
     ensures { λ r. ⌜ r ≡ movedBy y (negℤ d) ⌝ }
 {
     let s = (y as i64) - (d as i64);

@@ -3,7 +3,7 @@
 
 ghost use mathlib.Core.Path.{_≡_};
 ghost use Prim.Native.Nat.{_<_};
-ghost use Rattle.track.specs.Track.{newTrack, homed, stepRefusal, refusedStep, arrived, asStepping, stepped};
+ghost use Rattle.track.specs.Track.{trackNew, trackHome, stepRefusal, unmoved, arrived, stepResult, trackStep};
 use field::FieldAnswer;
 use refusals::Request;
 use signed::Moved;
@@ -32,8 +32,8 @@ pub struct Stepped {
 }
 
 // A refused step: the number, zeros and the old track.
-fn refused_step(refusal: u32, t: Track) -> Stepped
-    ensures { λ r. ⌜ r ≡ refusedStep refusal t ⌝ }
+fn unmoved(refusal: u32, t: Track) -> Stepped
+    ensures { λ r. ⌜ r ≡ unmoved refusal t ⌝ }
 {
     Stepped {
         answer: field::refused_field(refusal),
@@ -44,7 +44,7 @@ fn refused_step(refusal: u32, t: Track) -> Stepped
 impl Track {
     // New: not homed, 0, 0, 0.
     pub fn new() -> Track
-        ensures { λ r. ⌜ r ≡ newTrack ⌝ }
+        ensures { λ r. ⌜ r ≡ trackNew ⌝ }
     {
         Track {
             homed: false,
@@ -56,7 +56,7 @@ impl Track {
 
     // Home: the place (y, x), or 11 and the old track.
     pub fn home(self, y: i32, x: i32) -> Homed
-        ensures { λ r. ⌜ r ≡ homed self y x ⌝ }
+        ensures { λ r. ⌜ r ≡ trackHome self y x ⌝ }
     {
         if !signed::within(y, 1000000) {
             return Homed {
@@ -110,11 +110,11 @@ impl Track {
         requires { ⌜ self .steps < 1000000 ⌝ }
         ensures { λ r. ⌜ r ≡ arrived self a ⌝ }
     {
-        let Moved::To(y) = signed::retreat(self.y, a.dy) else {
-            return refused_step(33, self); // y would leave its range
+        let Moved::To(y) = signed::minus_travel(self.y, a.dy) else {
+            return unmoved(33, self); // y would leave its range
         };
-        let Moved::To(x) = signed::retreat(self.x, a.dx) else {
-            return refused_step(33, self); // x would leave its range
+        let Moved::To(x) = signed::minus_travel(self.x, a.dx) else {
+            return unmoved(33, self); // x would leave its range
         };
         Stepped {
             answer: a,
@@ -136,11 +136,11 @@ impl Track {
         list: &mut [i32],
         table: &mut [u32],
     ) -> Stepped
-        ensures { λ r. ⌜ asStepping r (now (list .exit)) (now (table .exit)) ≡ stepped self (now (older .entry)) (now (newer .entry)) q (now (list .entry)) (now (table .entry)) ⌝ }
+        ensures { λ r. ⌜ stepResult r (now (list .exit)) (now (table .exit)) ≡ trackStep self (now (older .entry)) (now (newer .entry)) q (now (list .entry)) (now (table .entry)) ⌝ }
     {
         let refusal = self.step_refusal(older.len(), newer.len(), q, list.len(), table.len());
         if refusal != 0 {
-            return refused_step(refusal, self);
+            return unmoved(refusal, self);
         }
         let answer = field::field(older, newer, q, list, table);
         self.arrive(answer)

@@ -15,7 +15,7 @@ use Rattle.base.specs.Tests.{le-both}
 use Rattle.frame.specs.declared.Sizes.{Sizes}
 use Rattle.view.specs.declared.RowView.{RowView}
 use Rattle.frame.specs.Pictures.{Pair, row-inside}
-use Rattle.refusals.specs.Refusals.{unless, first, unless-zero, first-zero, pairRefusal, Paired, paired}
+use Rattle.refusals.specs.Refusals.{unless, firstRefusal, unless-zero, first-refusal-zero, pairRefusal, Paired, paired}
 
 -- 7 row view: the N pels not inside one row of the frame asked for
 abbrev pub rowOk : Sizes → ℕ → ℕ → Bool
@@ -23,7 +23,7 @@ rowOk s row column = leb (row + 1) (s .height) && leb (column + s .n) (s .width)
 
 unfoldable pub viewRefusal : ℕ → ℕ → Sizes → ℕ → ℕ → ℕ → ℕ
 viewRefusal older newer s side row column =
-    first (pairRefusal older newer s)
+    firstRefusal (pairRefusal older newer s)
     (unless (leb side 1) 12
     (unless (rowOk s row column) 7 0))
 
@@ -61,7 +61,7 @@ pub record Viewed (older newer : ℕ) (s : Sizes) (side row column : ℕ) : Type
 pub viewed : (older newer : ℕ) (s : Sizes) (side row column : ℕ) → viewRefusal older newer s side row column ≡ 0 → Viewed older newer s side row column
 unfolding viewRefusal
 viewed older newer s side row column e =
-    let a = first-zero (pairRefusal older newer s) _ e in
+    let a = first-refusal-zero (pairRefusal older newer s) _ e in
     let b = unless-zero (leb side 1) 11 _ (a .1) in
     let c = le-both (row + 1) (s .height) (column + s .n) (s .width) (unless-zero (rowOk s row column) 6 0 (b .1) .0) in
     record {

@@ -13,12 +13,12 @@ use Rattle.order.specs.Vectors.{vec}
 use Rattle.order.specs.Preference.{preference}
 use Rattle.frame.specs.Grid.{rows, columns, blocks, blockRow, blockColumn}
 use Rattle.frame.specs.Candidates.{candidate}
-use Rattle.refusals.specs.Refusals.{first, listed, windowOk, thresholdOk, pairRefusal, requestRefusal}
+use Rattle.refusals.specs.Refusals.{firstRefusal, blockSizeOk, windowOk, thresholdOk, pairRefusal, requestRefusal}
 use Rattle.distortion.specs.Blocks.{distortion, distortionBy}
 use Rattle.probe.specs.Probe.{origin}
 use Rattle.field.specs.Field.{fieldRefusal}
 use Rattle.track.specs.declared.Track.{Track}
-use Rattle.track.specs.Track.{newTrack}
+use Rattle.track.specs.Track.{trackNew}
 use Rattle.promise.specs.Demand.{Call, travel, refusalOf, accept, reckon, reckoned, Result, trackIn, last, Each}
 use Rattle.promise.specs.Demand.Call.{home, step}
 use Rattle.promise.specs.Demand.Each.{none, next}
@@ -51,20 +51,20 @@ again = home (pos 10) (pos 20) ∷ stepB ∷ step pairB 0 0 (heldList 5) (heldTa
 at : (steps : ℕ) → Track
 at steps = record { homed = true; y = pos 10; x = pos 19; steps = steps }
 
-ends-B : (reckoned newTrack once ≡ at 1) × (reckoned newTrack again ≡ at 2)
-unfolding pairB reckoned reckon refusalOf accept fieldRefusal requestRefusal pairRefusal listed windowOk thresholdOk first blocks rows columns at
+ends-B : (reckoned trackNew once ≡ at 1) × (reckoned trackNew again ≡ at 2)
+unfolding pairB reckoned reckon refusalOf accept fieldRefusal requestRefusal pairRefusal blockSizeOk windowOk thresholdOk firstRefusal blocks rows columns at
 ends-B = (rw (travels-B .0), rw (travels-B .0, travels-B .1))
 
 -- a track that stands at another x
-elsewhere : (x : ℕ) (cs : List Call) (rs : List Result) (n : ℕ) → Each Tracks newTrack cs rs → reckoned newTrack cs ≡ at n
-    → (x ≡ 19 → ⊥) → last newTrack rs .x ≡ pos x → ⊥
+elsewhere : (x : ℕ) (cs : List Call) (rs : List Result) (n : ℕ) → Each Tracks trackNew cs rs → reckoned trackNew cs ≡ at n
+    → (x ≡ 19 → ⊥) → last trackNew rs .x ≡ pos x → ⊥
 unfolding at
-elsewhere x cs rs n k e ne h = ne (ap up (sym h ∙ ap (λ (t : Track). t .x) (tracks-end newTrack cs rs k ∙ e)))
+elsewhere x cs rs n k e ne h = ne (ap up (sym h ∙ ap (λ (t : Track). t .x) (tracks-end trackNew cs rs k ∙ e)))
 
 -- "still paper for every pair"
-pub still-excluded : (rs : List Result) → Each Tracks newTrack once rs → last newTrack rs .x ≡ pos 20 → ⊥
+pub still-excluded : (rs : List Result) → Each Tracks trackNew once rs → last trackNew rs .x ≡ pos 20 → ⊥
 still-excluded rs k = elsewhere 20 once rs 1 k (ends-B .0) (λ q. omega arith)
 
 -- "a first step worked out and its travel repeated"
-pub repeated-excluded : (rs : List Result) → Each Tracks newTrack again rs → last newTrack rs .x ≡ pos 18 → ⊥
+pub repeated-excluded : (rs : List Result) → Each Tracks trackNew again rs → last trackNew rs .x ≡ pos 18 → ⊥
 repeated-excluded rs k = elsewhere 18 again rs 2 k (ends-B .1) (λ q. omega arith)

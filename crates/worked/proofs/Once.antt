@@ -20,21 +20,21 @@ use Rattle.frame.specs.Grid.{blocks, blockRow, blockColumn}
 use Rattle.frame.specs.Candidates.{candidate}
 use Rattle.refusals.specs.Refusals.{sizesOf}
 use Rattle.distortion.specs.Blocks.{absolute}
-use Rattle.search.specs.declared.Found.{Found}
-use Rattle.search.specs.Weighing.{target}
-use Rattle.search.specs.Found.{foundAs, onlyAtOne, vectorIn, refusedSearch}
+use Rattle.search.specs.declared.SearchResult.{SearchResult}
+use Rattle.search.specs.Target.{target}
+use Rattle.search.specs.SearchResult.{searchResult, onlyAtOne, vectorIn, refusedSearch}
 use Rattle.search.specs.Exhaustive.{best}
-use Rattle.probe.specs.Held.{foundOf}
+use Rattle.probe.specs.BestSoFar.{resultOf}
 use Rattle.four_step.specs.FourStep.{fourStep}
 use Rattle.cross.specs.Cross.{cross}
-use Rattle.pruning.specs.Prune.{Pruning, prune, prunedBest, counts, resolutions}
-use Rattle.full.specs.Full.{fullFound}
-use Rattle.pruned.specs.Answer.{distortionAt, stillDistortion, distanceAt, pruning, chosen, prunedFound}
-use Rattle.block.specs.Block.{searchRefusal, searched, blockFound}
+use Rattle.pruned_rule.specs.Prune.{Pruning, prune, prunedBest, counts, resolutions}
+use Rattle.full.specs.Full.{fullSearch}
+use Rattle.pruned.specs.Answer.{distortionAt, stillDistortion, distanceAt, pruning, chosen, prunedSearch}
+use Rattle.block.specs.Block.{searchRefusal, searchBy, searchBlock}
 use Rattle.reading.specs.Reading.{votes, majority}
-use Rattle.field.specs.Field.{asked, fieldRefusal, blockOf, entries, countsOver, droppedOver, listSize, filledTable, fieldAnswer, refusedField, Fielded, asFielded, fielded}
+use Rattle.field.specs.Field.{requestOf, fieldRefusal, searchAt, entries, countsOver, droppedOver, listSize, filledTable, fieldAnswer, refusedField, FieldResult, fieldResult, field}
 use Rattle.track.specs.declared.Track.{Track}
-use Rattle.track.specs.Track.{homed, stepRefusalIs, refusedStep, asStepping, landed, Stepping, stepped}
+use Rattle.track.specs.Track.{trackHome, stepRefusalIs, unmoved, stepResult, landed, StepResult, trackStep}
 use Rattle.promise.specs.Demand.{Call, turned, travel, Result, trackIn, call, runFrom}
 use Rattle.promise.specs.Demand.Call.{home, step}
 use Rattle.promise.specs.Demand.Result.{homing, stepping}
@@ -60,49 +60,49 @@ module _ (p : Pair) (w y x : ℕ) where
   abbrev bestOnce : Vector
   bestOnce = once (λ ks. preferred (leastOf D ks))
 
-  abbrev fullOnce : Found
-  fullOnce = once (λ ks. foundAs (preferred (leastOf D ks)) (D (leastOf D ks)) (onlyAtOne (length ks)) 0)
+  abbrev fullOnce : SearchResult
+  fullOnce = once (λ ks. searchResult (preferred (leastOf D ks)) (D (leastOf D ks)) (onlyAtOne (length ks)) 0)
 
-  abbrev prunedOnce : Found
-  prunedOnce = once (λ ks. foundAs (preferred (chosenOf ks)) (D (chosenOf ks)) (counts (pruningOf ks)) (length (pruningOf ks .dropped)))
+  abbrev prunedOnce : SearchResult
+  prunedOnce = once (λ ks. searchResult (preferred (chosenOf ks)) (D (chosenOf ks)) (counts (pruningOf ks)) (length (pruningOf ks .dropped)))
 
   best-once : best p w y x ≡ bestOnce
   unfolding best
   best-once = by-walk (p .sizes) w y x _
 
-  full-once : fullFound p w y x ≡ fullOnce
-  unfolding fullFound best
+  full-once : fullSearch p w y x ≡ fullOnce
+  unfolding fullSearch best
   full-once = by-walk (p .sizes) w y x _
 
-  pruned-once : prunedFound p w y x ≡ prunedOnce
-  unfolding prunedFound pruning chosen
+  pruned-once : prunedSearch p w y x ≡ prunedOnce
+  unfolding prunedSearch pruning chosen
   pruned-once = by-walk (p .sizes) w y x _
 
 module _ (p : Pair) (q : Request) (y x : ℕ) where
   -- the search asked for, by the answers f and g of searches 1 and 2
-  abbrev searchedBy : Found → Found → Found
+  abbrev searchedBy : SearchResult → SearchResult → SearchResult
   searchedBy f g =
       cond (eqb (q .search) 1) f
       (cond (eqb (q .search) 2) g
-      (cond (eqb (q .search) 3) (foundOf (fourStep (target p (q .w) y x)))
-      (foundOf (cross (target p (q .w) y x) (q .t) (q .w)))))
+      (cond (eqb (q .search) 3) (resultOf (fourStep (target p (q .w) y x)))
+      (resultOf (cross (target p (q .w) y x) (q .t) (q .w)))))
 
-  abbrev searchedOnce : Found
+  abbrev searchedOnce : SearchResult
   searchedOnce = searchedBy (fullOnce p (q .w) y x) (prunedOnce p (q .w) y x)
 
-  searched-once : searched p q y x ≡ searchedOnce
-  unfolding searched
+  searched-once : searchBy p q y x ≡ searchedOnce
+  unfolding searchBy
   searched-once = ap₂ searchedBy (full-once p (q .w) y x) (pruned-once p (q .w) y x)
 
 module _ (older newer : List ℕ) (q : Request) (y x : ℕ) where
-  abbrev blockBy : Found → Found
+  abbrev blockBy : SearchResult → SearchResult
   blockBy f = let refusal = searchRefusal (length older) (length newer) q y x in cond (eqb refusal 0) f (refusedSearch refusal)
 
-  abbrev pub blockOnce : Found
+  abbrev pub blockOnce : SearchResult
   blockOnce = blockBy (searchedOnce (pairOf older newer (sizesOf q)) q y x)
 
-  pub block-once : blockFound older newer q y x ≡ blockOnce
-  unfolding blockFound
+  pub block-once : searchBlock older newer q y x ≡ blockOnce
+  unfolding searchBlock
   block-once = ap blockBy (searched-once (pairOf older newer (sizesOf q)) q y x)
 
 -- ---- a field
@@ -115,24 +115,24 @@ module _ (older newer : List ℕ) (q : Request) (list : List ℤ) (table : List 
   n = blocks (pair .sizes)
 
   -- the call, by its blocks' answers and the reading's vector
-  abbrev fieldBy : (ℕ → Found) → Vector → Fielded
+  abbrev fieldBy : (ℕ → SearchResult) → Vector → FieldResult
   fieldBy found v =
       let refusal = fieldRefusal (length older) (length newer) q (length list) (length table) in
       cond (eqb refusal 0)
-      (asFielded (reads v (votes (λ k. vectorIn (found k)) n v) (countsOver found n) (droppedOver found n))
+      (fieldResult (reads v (votes (λ k. vectorIn (found k)) n v) (countsOver found n) (droppedOver found n))
       (entries found n ++ drop (listSize (pair .sizes)) list) (filledTable older q table))
-      (asFielded (refusedField refusal) list table)
+      (fieldResult (refusedField refusal) list table)
 
-  abbrev foundOnce : ℕ → Found
+  abbrev foundOnce : ℕ → SearchResult
   foundOnce k = searchedOnce pair q (blockRow (pair .sizes) k) (blockColumn (pair .sizes) k)
 
-  abbrev pub fieldOnce : Fielded
+  abbrev pub fieldOnce : FieldResult
   fieldOnce = fieldBy foundOnce (majorityOnce (λ k. vectorIn (foundOnce k)) n)
 
-  pub field-once : fielded older newer q list table ≡ fieldOnce
-  unfolding fielded fieldAnswer blockOf
+  pub field-once : field older newer q list table ≡ fieldOnce
+  unfolding field fieldAnswer searchAt
   field-once =
-      ap (λ (found : ℕ → Found). fieldBy found (majority (λ k. vectorIn (found k)) n)) (fun-ext (λ k. searched-once pair q _ _))
+      ap (λ (found : ℕ → SearchResult). fieldBy found (majority (λ k. vectorIn (found k)) n)) (fun-ext (λ k. searched-once pair q _ _))
       ∙ ap (fieldBy foundOnce) (majority-once (λ k. vectorIn (foundOnce k)) n)
 
 -- ---- a travel
@@ -153,26 +153,26 @@ module _ (p : Pair) (w : ℕ) where
 -- ---- calls on a track
 
 module _ (t : Track) (older newer : List ℕ) (q : Request) (list : List ℤ) (table : List ℕ) where
-  abbrev stepBy : Fielded → Stepping
+  abbrev stepBy : FieldResult → StepResult
   stepBy f =
       let refusal = stepRefusalIs t older newer q list table in
-      cond (eqb refusal 0) (landed t f) (asStepping (refusedStep refusal t) list table)
+      cond (eqb refusal 0) (landed t f) (stepResult (unmoved refusal t) list table)
 
-  abbrev stepOnce : Stepping
+  abbrev stepOnce : StepResult
   stepOnce = stepBy (fieldOnce older newer q list table)
 
-  step-once : stepped t older newer q list table ≡ stepOnce
-  unfolding stepped
+  step-once : trackStep t older newer q list table ≡ stepOnce
+  unfolding trackStep
   step-once = ap stepBy (field-once older newer q list table)
 
 abbrev callOnce : Track → Call → Result
-callOnce t (home y x) = homing (homed t y x)
-callOnce t (step p w threshold list table) = stepping (stepOnce t (p .older) (p .newer) (asked (p .sizes) 2 w threshold) list table)
+callOnce t (home y x) = homing (trackHome t y x)
+callOnce t (step p w threshold list table) = stepping (stepOnce t (p .older) (p .newer) (requestOf (p .sizes) 2 w threshold) list table)
 
 call-once : (t : Track) (c : Call) → call t c ≡ callOnce t c
 unfolding call
 call-once t (home y x) = refl
-call-once t (step p w threshold list table) = ap stepping (step-once t (p .older) (p .newer) (asked (p .sizes) 2 w threshold) list table)
+call-once t (step p w threshold list table) = ap stepping (step-once t (p .older) (p .newer) (requestOf (p .sizes) 2 w threshold) list table)
 
 abbrev pub runOnce : Track → List Call → List Result
 runOnce t [] = []

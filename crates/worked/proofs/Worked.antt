@@ -10,30 +10,30 @@ use Rattle.order.specs.Preference.{preference}
 use Rattle.frame.specs.Grid.{rows, columns, blocks, blockRow, blockColumn}
 use Rattle.frame.specs.Candidates.{candidate}
 use Rattle.refusals.specs.Cross.{crossWindow}
-use Rattle.refusals.specs.Refusals.{first, listed, windowOk, thresholdOk, pairRefusal, placedRefusal, requestRefusal}
+use Rattle.refusals.specs.Refusals.{firstRefusal, blockSizeOk, windowOk, thresholdOk, pairRefusal, placedRefusal, requestRefusal}
 use Rattle.distortion.specs.Blocks.{distortionBy, distortion}
-use Rattle.distortion.specs.Measured.{measureRefusal, measured}
-use Rattle.probe.specs.Probe.{counted, looked, probe, start as probeStart, around, widened, isIn, fresh}
-use Rattle.probe.specs.Held.{foundOf}
+use Rattle.distortion.specs.Measured.{measureRefusal, measure}
+use Rattle.probe.specs.Probe.{countPoint, probePoint, probe, atOrigin, around, widened, isIn, fresh}
+use Rattle.probe.specs.BestSoFar.{resultOf}
 use Rattle.four_step.specs.FourStep.{square, ring, moved, step1, step23, step4, from3, from2, fourStep}
-use Rattle.cross.specs.Cross.{andrew, greek, pass, passes, diagonal, onDiagonal, ended, finished, cross}
-use Rattle.pruning.specs.Distance.{squareSum, distanceBy}
-use Rattle.pruning.specs.Sift.{kept, over}
-use Rattle.pruning.specs.Prune.{start, lower, sift, rounds, prune, prunedBest, counts, halves}
-use Rattle.sums.specs.Area.{summed}
+use Rattle.cross.specs.Cross.{diagonalCross, plusCross, pass, passes, diagonal, onDiagonal, ended, finished, cross}
+use Rattle.pruned_rule.specs.Distance.{squareSum, distanceBy}
+use Rattle.pruned_rule.specs.Sift.{kept, exceeding}
+use Rattle.pruned_rule.specs.Prune.{allRemaining, lower, sift, rounds, prune, prunedBest, counts, halves}
+use Rattle.pruned_sums.specs.Area.{summed}
 use Rattle.block.specs.Block.{searchRefusal}
 use Rattle.reading.specs.Reading.{votes}
 use Rattle.field.specs.Field.{fieldRefusal, entries, tableOf}
-use Rattle.track.specs.Track.{newTrack, homed, stepRefusal, arrived}
-use Rattle.heads.specs.Heads.{headRefusal, entryOk, isStill}
+use Rattle.track.specs.Track.{trackNew, trackHome, stepRefusal, arrived}
+use Rattle.log_head.specs.Heads.{headRefusal, entryOk, isStill}
 use Rattle.log.specs.Numbers.{be2, be4}
 use Rattle.log.specs.Step.{judged, headIn, headTaken, blockTaken, endTaken, standingOk, byCommand, commandAt, stepAt}
 use Rattle.log.specs.Walk.{commandsFrom, walk as logWalk, lastOf}
 use Rattle.log.specs.Logs.{blockCommand, logCommands, logOf}
-use Rattle.log_writing.specs.Writing.{listRefusal, firstWrong, wroteListed, wrote}
-use Rattle.log_reading.specs.Reading.{fieldOf, logRead, readInto}
-use Rattle.log_text.specs.Text.{digits, number, spaced, endWord, refusedWord, atWord, worded, printed}
-use Rattle.worked.specs.Table.{pairA, pairB, pairC, pairD, Call, search, measure, distance, field, travelling, calls, writing, reading, walking, printing, Answer, found, filled, travels, results, answer, Row, Right, table}
+use Rattle.log_writing.specs.Writing.{listRefusal, firstWrong, writeListed, writeLog}
+use Rattle.log_reading.specs.Reading.{fieldOf, logRead, readLog}
+use Rattle.log_text.specs.Text.{digits, numberText, spaced, endWord, refusedWord, atWord, worded, printLog}
+use Rattle.worked.specs.Table.{pairA, pairB, pairC, pairD, Call, search, measuring, distance, everyBlock, travelling, calls, writing, reading, walking, printing, Answer, found, filled, travels, results, answer, Row, Right, table}
 use Rattle.worked.proofs.Places.{walk, after}
 use Rattle.worked.proofs.Alike.{every, alike}
 use Rattle.worked.proofs.Once.{blockOnce, block-once, fieldOnce, field-once, travelOnce, travel-once, runOnce, run-once}
@@ -41,11 +41,11 @@ use Rattle.worked.proofs.Once.{blockOnce, block-once, fieldOnce, field-
 -- the same answers, quick to compute
 abbrev answerOnce : Call → Answer
 answerOnce (search p q y x) = found (blockOnce (p .older) (p .newer) (q p) y x)
-answerOnce (measure p v) = answer (measure p v)
+answerOnce (measuring p v) = answer (measuring p v)
 answerOnce (distance p m) = answer (distance p m)
-answerOnce (field p q list table) = filled (fieldOnce (p .older) (p .newer) (q p) list table)
+answerOnce (everyBlock p q list table) = filled (fieldOnce (p .older) (p .newer) (q p) list table)
 answerOnce (travelling p w) = travels (travelOnce p w)
-answerOnce (calls cs) = results (runOnce newTrack cs)
+answerOnce (calls cs) = results (runOnce trackNew cs)
 answerOnce (writing h list buffer) = answer (writing h list buffer)
 answerOnce (reading log list) = answer (reading log list)
 answerOnce (walking log) = answer (walking log)
@@ -53,11 +53,11 @@ answerOnce (printing log) = answer (printing log)
 
 answer-once : (c : Call) → answer c ≡ answerOnce c
 answer-once (search p q y x) = ap found (block-once (p .older) (p .newer) (q p) y x)
-answer-once (measure p v) = refl
+answer-once (measuring p v) = refl
 answer-once (distance p m) = refl
-answer-once (field p q list table) = ap filled (field-once (p .older) (p .newer) (q p) list table)
+answer-once (everyBlock p q list table) = ap filled (field-once (p .older) (p .newer) (q p) list table)
 answer-once (travelling p w) = ap travels (travel-once p w)
-answer-once (calls cs) = ap results (run-once newTrack cs)
+answer-once (calls cs) = ap results (run-once trackNew cs)
 answer-once (writing h list buffer) = refl
 answer-once (reading log list) = refl
 answer-once (walking log) = refl
@@ -81,16 +81,16 @@ each (r ∷ rs) e =
 computed : answers table ≡ oweds table
 unfolding
     table pairA pairB pairC pairD
-    sumTo leastFrom leastOf preference candidate crossWindow first listed windowOk thresholdOk pairRefusal placedRefusal requestRefusal
-    distortionBy distortion measureRefusal measured counted looked probe probeStart around widened isIn fresh foundOf
-    square ring moved step1 step23 step4 from3 from2 fourStep andrew greek pass passes diagonal onDiagonal ended finished cross
-    squareSum distanceBy kept over start lower sift rounds prune prunedBest counts halves
+    sumTo leastFrom leastOf preference candidate crossWindow firstRefusal blockSizeOk windowOk thresholdOk pairRefusal placedRefusal requestRefusal
+    distortionBy distortion measureRefusal measure countPoint probePoint probe atOrigin around widened isIn fresh resultOf
+    square ring moved step1 step23 step4 from3 from2 fourStep diagonalCross plusCross pass passes diagonal onDiagonal ended finished cross
+    squareSum distanceBy kept exceeding allRemaining lower sift rounds prune prunedBest counts halves
     searchRefusal walk after
     rows columns blocks blockRow blockColumn listTo concatTo summed fieldRefusal entries tableOf votes every alike
-    movedBy homed stepRefusal arrived
+    movedBy trackHome stepRefusal arrived
     signedByte byteOf headRefusal entryOk isStill be2 be4 judged headIn headTaken blockTaken endTaken standingOk byCommand commandAt stepAt
     commandsFrom logWalk lastOf blockCommand logCommands logOf flatMap
-    listRefusal firstWrong wroteListed wrote fieldOf logRead readInto digits number spaced endWord refusedWord atWord worded printed
+    listRefusal firstWrong writeListed writeLog fieldOf logRead readLog digits numberText spaced endWord refusedWord atWord worded printLog
 computed = refl
 
 pub worked : Each Right table

@@ -23,23 +23,23 @@ use Rattle.refusals.specs.declared.Request.{Request}
 use Rattle.frame.specs.Pictures.{Pair, pairOf, sizes}
 use Rattle.distortion.specs.declared.Measured.{Measured}
 use Rattle.distortion.specs.Blocks.{absolute, newerBlock, olderBlock}
-use Rattle.distortion.specs.Measured.{measured}
-use Rattle.search.specs.declared.Found.{Found}
-use Rattle.search.specs.Found.{foundAs, onlyAtOne}
+use Rattle.distortion.specs.Measured.{measure}
+use Rattle.search.specs.declared.SearchResult.{SearchResult}
+use Rattle.search.specs.SearchResult.{searchResult, onlyAtOne}
 use Rattle.probe.specs.Probe.{origin}
-use Rattle.pruning.specs.Distance.{distanceBy}
-use Rattle.block.specs.Block.{blockFound}
+use Rattle.pruned_rule.specs.Distance.{distanceBy}
+use Rattle.block.specs.Block.{searchBlock}
 use Rattle.field.specs.declared.FieldAnswer.{FieldAnswer}
-use Rattle.field.specs.Field.{asked, refusedField, Fielded, asFielded, fielded}
+use Rattle.field.specs.Field.{requestOf, refusedField, FieldResult, fieldResult, field}
 use Rattle.track.specs.declared.Track.{Track}
-use Rattle.track.specs.Track.{homedAt, asStepping}
-use Rattle.heads.specs.declared.Head.{Head}
+use Rattle.track.specs.Track.{homedAt, stepResult}
+use Rattle.log_head.specs.declared.Head.{Head}
 use Rattle.log.specs.declared.Command.{Command}
 use Rattle.log.specs.declared.Command.the-variants as Cmd
 use Rattle.log.specs.Walk.{walk}
-use Rattle.log_writing.specs.Writing.{Writing, asWriting, wrote}
-use Rattle.log_reading.specs.Reading.{Reading, asReading, refusedRead, acceptedRead, readInto}
-use Rattle.log_text.specs.Text.{printed}
+use Rattle.log_writing.specs.Writing.{WriteResult, writeResult, writeLog}
+use Rattle.log_reading.specs.Reading.{ReadResult, readResult, refusedRead, acceptedRead, readLog}
+use Rattle.log_text.specs.Text.{printLog}
 use Rattle.promise.specs.Demand.{Call as TrackCall, Result, travel, run}
 use Rattle.promise.specs.Demand.Call.{home, step}
 use Rattle.promise.specs.Demand.Result.{homing, stepping}
@@ -68,16 +68,16 @@ pairD = pairOf (replicate 16 10) (twice (0 ∷ 20 ∷ 0 ∷ 20 ∷ 20 ∷ 0 ∷ 
 -- ---- what is asked
 
 abbrev pub full : ℕ → Pair → Request
-full w p = asked (p .sizes) 1 w 0
+full w p = requestOf (p .sizes) 1 w 0
 
 abbrev pub pruned : ℕ → Pair → Request
-pruned w p = asked (p .sizes) 2 w 0
+pruned w p = requestOf (p .sizes) 2 w 0
 
 abbrev pub fourStep : Pair → Request
-fourStep p = asked (p .sizes) 3 7 0
+fourStep p = requestOf (p .sizes) 3 7 0
 
 abbrev pub cross : ℕ → ℕ → Pair → Request
-cross w t p = asked (p .sizes) 4 w t
+cross w t p = requestOf (p .sizes) 4 w t
 
 abbrev pub minus : ℕ → ℤ
 minus n = negℤ (pos n)
@@ -96,9 +96,9 @@ heldBuffer n = replicate n 8
 -- what list and table held; a travel by window w; calls on a track, from New on; a log written into a buffer, read into a list, walked, printed
 pub data Call : Type 0 where
   search : Pair → (Pair → Request) → (y x : ℕ) → Call
-  measure : Pair → Vector → Call
+  measuring : Pair → Vector → Call
   distance : Pair → (m : ℕ) → Call
-  field : Pair → (Pair → Request) → List ℤ → List ℕ → Call
+  everyBlock : Pair → (Pair → Request) → List ℤ → List ℕ → Call
   travelling : Pair → (w : ℕ) → Call
   calls : List TrackCall → Call
   writing : Head → List ℤ → List ℕ → Call
@@ -109,33 +109,33 @@ pub data Call : Type 0 where
 -- ---- what is answered
 
 pub data Answer : Type 0 where
-  found : Found → Answer
+  found : SearchResult → Answer
   amount : Measured → Answer
   apart : ℕ → Answer
-  filled : Fielded → Answer
+  filled : FieldResult → Answer
   travels : Vector → Answer
   results : List Result → Answer
-  written : Writing → Answer
-  read : Reading → Answer
+  written : WriteResult → Answer
+  read : ReadResult → Answer
   commands : List Command → Answer
   text : List ℕ → Answer
 
 -- by the definitions
 abbrev pub answer : Call → Answer
-answer (search p q y x) = found (blockFound (p .older) (p .newer) (q p) y x)
-answer (measure p v) = amount (measured p 0 0 v)
+answer (search p q y x) = found (searchBlock (p .older) (p .newer) (q p) y x)
+answer (measuring p v) = amount (measure p 0 0 v)
 answer (distance p m) = apart (distanceBy absolute (p .sizes .n) m (newerBlock p 0 0) (olderBlock p 0 0 origin))
-answer (field p q list table) = filled (fielded (p .older) (p .newer) (q p) list table)
+answer (everyBlock p q list table) = filled (field (p .older) (p .newer) (q p) list table)
 answer (travelling p w) = travels (travel p w)
 answer (calls cs) = results (run cs)
-answer (writing h list buffer) = written (wrote h list buffer)
-answer (reading log list) = read (readInto log list)
+answer (writing h list buffer) = written (writeLog h list buffer)
+answer (reading log list) = read (readLog log list)
 answer (walking log) = commands (walk log)
-answer (printing log) = text (printed log)
+answer (printing log) = text (printLog log)
 
 -- as 01 gives them: a vector, its distortion, the five counts and the number dropped
 abbrev pub finds : Vector → ℕ → List ℕ → ℕ → Answer
-finds v d counts dropped = found (foundAs v d counts dropped)
+finds v d counts dropped = found (searchResult v d counts dropped)
 
 -- (0,0) with distortion 0 after so many probes, as wherever all pels are alike
 abbrev pub stillAfter : ℕ → Answer
@@ -150,7 +150,7 @@ reads v votes counts dropped = record { refusal = 0; dy = v .dy; dx = v .dx; vot
 
 -- with what list and table then hold
 abbrev pub fills : FieldAnswer → List ℤ → List ℕ → Answer
-fills a list table = filled (asFielded a list table)
+fills a list table = filled (fieldResult a list table)
 
 -- a block's three numbers of the list: "dy, dx, distortion"
 abbrev pub triple : Vector → ℕ → List ℤ
@@ -207,12 +207,12 @@ homeAndStep y x = calls (home y x ∷ stepB ∷ [])
 abbrev pub homedAndStepped : ℤ → ℤ → Track → FieldAnswer → Answer
 homedAndStepped y x t a =
     let first = homing (record { refusal = 0; track = homedAt y x }) in
-    let second = stepping (asStepping (record { track = t; answer = a }) listB tableB) in
+    let second = stepping (stepResult (record { track = t; answer = a }) listB tableB) in
     results (first ∷ second ∷ [])
 
 -- ---- logs: what buffer and list hold, two places longer than the used part
 
--- the head of a pair searched by search 2 with w 1
+-- the head of a pair searchBy by search 2 with w 1
 abbrev pub headOf : Pair → Head
 headOf p = record { width = p .sizes .width; height = p .sizes .height; n = p .sizes .n; w = 1; search = 2 }
 
@@ -232,10 +232,10 @@ abbrev pub logC : List ℕ
 logC = 1 ∷ 0 ∷ 8 ∷ 0 ∷ 8 ∷ 4 ∷ 1 ∷ 2 ∷ 3 ∷ 3 ∷ 3 ∷ 3 ∷ 4 ∷ 0 ∷ 0 ∷ 0 ∷ 4 ∷ []
 
 abbrev pub writes : List ℕ → Answer
-writes log = written (asWriting (record { refusal = 0; place = 0; length = length log }) (log ++ heldBuffer 2))
+writes log = written (writeResult (record { refusal = 0; place = 0; length = length log }) (log ++ heldBuffer 2))
 
 abbrev pub readsAs : Head → List ℤ → Answer
-readsAs h list = read (asReading (acceptedRead h) list)
+readsAs h list = read (readResult (acceptedRead h) list)
 
 -- ---- the table
 
@@ -255,15 +255,15 @@ table =
     -- A* ".. w 16, ..: (0,0), 32; pruned 0,0,1,1,1"
     (search pairA (full 16) 0 0 gives finds origin 32 (onlyAtOne 1) 0)
     ∷ (search pairA (pruned 16) 0 0 gives finds origin 32 (0 ∷ 0 ∷ 1 ∷ 1 ∷ 1 ∷ []) 0)
-    ∷ (measure pairA origin gives measures 32)
-    ∷ (field pairA (full 16) (heldList 5) (heldTable 27) gives fills (reads origin 1 (onlyAtOne 1) 0) listA (heldTable 27))
-    ∷ (field pairA (pruned 16) (heldList 5) (heldTable 27) gives fills (reads origin 1 (0 ∷ 0 ∷ 1 ∷ 1 ∷ 1 ∷ []) 0) listA tableA)
+    ∷ (measuring pairA origin gives measures 32)
+    ∷ (everyBlock pairA (full 16) (heldList 5) (heldTable 27) gives fills (reads origin 1 (onlyAtOne 1) 0) listA (heldTable 27))
+    ∷ (everyBlock pairA (pruned 16) (heldList 5) (heldTable 27) gives fills (reads origin 1 (0 ∷ 0 ∷ 1 ∷ 1 ∷ 1 ∷ []) 0) listA tableA)
     -- B* ".. w 1, ..: (0,1), 0; full 2; pruned 0,0,2,2,1, dropped 1; travel (0,-1)"
     ∷ (search pairB (full 1) 0 0 gives finds vectorB 0 (onlyAtOne 2) 0)
     ∷ (search pairB (pruned 1) 0 0 gives finds vectorB 0 (0 ∷ 0 ∷ 2 ∷ 2 ∷ 1 ∷ []) 1)
-    ∷ (measure pairB vectorB gives measures 0)
-    ∷ (field pairB (full 1) (heldList 5) (heldTable 32) gives fills (reads vectorB 1 (onlyAtOne 2) 0) listB (heldTable 32))
-    ∷ (field pairB (pruned 1) (heldList 5) (heldTable 32) gives fills readsB listB tableB)
+    ∷ (measuring pairB vectorB gives measures 0)
+    ∷ (everyBlock pairB (full 1) (heldList 5) (heldTable 32) gives fills (reads vectorB 1 (onlyAtOne 2) 0) listB (heldTable 32))
+    ∷ (everyBlock pairB (pruned 1) (heldList 5) (heldTable 32) gives fills readsB listB tableB)
     ∷ (travelling pairB 1 gives travels (vec (pos 0) (minus 1)))
     -- "search 2's log above"
     ∷ (writing (headOf pairB) listB (heldBuffer 20) gives writes logB)
@@ -275,8 +275,8 @@ table =
     ∷ (search pairC (full 1) 0 4 gives stillAfter 4)
     ∷ (search pairC (full 1) 4 0 gives stillAfter 4)
     ∷ (search pairC (full 1) 4 4 gives stillAfter 4)
-    ∷ (field pairC (full 1) (heldList 14) (heldTable 83) gives fills (reads origin 4 (onlyAtOne 16) 0) listC (heldTable 83))
-    ∷ (field pairC (pruned 1) (heldList 14) (heldTable 83) gives fills (reads origin 4 (0 ∷ 0 ∷ 16 ∷ 16 ∷ 16 ∷ []) 0) listC tableC)
+    ∷ (everyBlock pairC (full 1) (heldList 14) (heldTable 83) gives fills (reads origin 4 (onlyAtOne 16) 0) listC (heldTable 83))
+    ∷ (everyBlock pairC (pruned 1) (heldList 14) (heldTable 83) gives fills (reads origin 4 (0 ∷ 0 ∷ 16 ∷ 16 ∷ 16 ∷ []) 0) listC tableC)
     -- "log `01 00 08 00 08 04 01 02 03 03 03 03 04 00 00 00 04`"
     ∷ (writing (headOf pairC) listC (heldBuffer 19) gives writes logC)
     ∷ (reading logC (heldList 14) gives readsAs (headOf pairC) listC)
@@ -285,7 +285,7 @@ table =
     -- D* "distances 0 at 4 and 2, distortion 160"
     ∷ (distance pairD 4 gives apart 0)
     ∷ (distance pairD 2 gives apart 0)
-    ∷ (measure pairD origin gives measures 160)
+    ∷ (measuring pairD origin gives measures 160)
     -- E* "C's frames, block (2,2): four-step 17; cross w 2, T 0: 9; T 1: 1"
     ∷ (search pairC fourStep 2 2 gives stillAfter 17)
     ∷ (search pairC (cross 2 0) 2 2 gives stillAfter 9)
@@ -299,7 +299,7 @@ table =
     -- H* "home (0,-1000000), step B: 33": the old track, zeros, list and table filled
     ∷ (homeAndStep (pos 0) (minus 1000000) gives homedAndStepped (pos 0) (minus 1000000) (homedAt (pos 0) (minus 1000000)) (refusedField 33))
     -- I* "empty log: 13 at 0": the list as it was; the line "refused 13 at 0"
-    ∷ (reading [] (heldList 2) gives read (asReading (refusedRead 13 0) (heldList 2)))
+    ∷ (reading [] (heldList 2) gives read (readResult (refusedRead 13 0) (heldList 2)))
     ∷ (walking [] gives commands (Cmd.Refused 13 0 ∷ []))
     ∷ (printing [] gives text (114 ∷ 101 ∷ 102 ∷ 117 ∷ 115 ∷ 101 ∷ 100 ∷ 32 ∷ 49 ∷ 51 ∷ 32 ∷ 97 ∷ 116 ∷ 32 ∷ 48 ∷ 10 ∷ []))
     ∷ []

@@ -4,9 +4,9 @@ use native.Mathlib.Omega.{arith}
 use borrow.Author.Needs.{needs}
 use denote.Ref.{now}
 use lib.ListN.{length}
-use Rattle.sums.specs.Area.{sums-of}
-use Rattle.reach.specs.Reach.{Standing}
-use Rattle.reach.proofs.Windows.{covers-window, window-fillable, ready-standing, ready-size}
+use Rattle.pruned_sums.specs.Area.{sums-of}
+use Rattle.pruned_region.specs.Reach.{Standing}
+use Rattle.pruned_region.proofs.Windows.{covers-window, window-fillable, ready-standing, ready-size}
 use Rattle.block.proofs.pruned_alone.Statement.{statement}
 use Rattle.block.proofs.pruned_alone.Tie as tie
 

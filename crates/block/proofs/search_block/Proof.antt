@@ -1,4 +1,4 @@
--- `search_block`: past the chain the block is ready for each search, and the search asked for answers.
+-- `search_block`: past the chain the block is ready for each search, and the search requested for answers.
 use mathlib.Core.Path.{_≡_, sym, _∙_}
 use native.Mathlib.Omega.{arith}
 use borrow.Author.Needs.{needs}
@@ -6,8 +6,8 @@ use denote.Ref.{now}
 use lib.ListN.{length}
 use Rattle.refusals.specs.Refusals.{windowOk, sizesOf, window-small}
 use Rattle.frame.specs.Pictures.{pairOf}
-use Rattle.search.specs.Weighing.{Ready}
-use Rattle.block.specs.Block.{searchRefusal, blockFound, searched, searched-full, searched-pruned, searched-four-step, searched-cross, searchable, block-refused, block-accepted}
+use Rattle.search.specs.Target.{Ready}
+use Rattle.block.specs.Block.{searchRefusal, searchBlock, searchBy, searched-full, searched-pruned, searched-four-step, searched-cross, searchable, block-refused-search, block-accepted}
 use Rattle.block.proofs.search_block.Statement.{statement}
 use Rattle.block.proofs.search_block.Tie as tie
 
@@ -22,23 +22,23 @@ ready : (c : tie.After-sizes-of) →
     Ready (now (a .older)) (now (a .newer)) (record { sizes = c .sizes-of .result; w = a .q .w; y = a .y; x = a .x })
 ready c =
     let s = searchable _ _ _ _ _ (zero-is (c .before)) in
-    record { placed = rw (c .sizes-of .ensures) (s .placed); window = window-small _ _ (s .asked .window) }
+    record { placed = rw (c .sizes-of .ensures) (s .placed); window = window-small _ _ (s .requested .window) }
 
 accepted : (c : tie.After-sizes-of) →
     let a = c .before .before .before .before .before .args in
-    blockFound (now (a .older)) (now (a .newer)) (a .q) (a .y) (a .x) ≡ searched (pairOf (now (a .older)) (now (a .newer)) (sizesOf (a .q))) (a .q) (a .y) (a .x)
+    searchBlock (now (a .older)) (now (a .newer)) (a .q) (a .y) (a .x) ≡ searchBy (pairOf (now (a .older)) (now (a .newer)) (sizesOf (a .q))) (a .q) (a .y) (a .x)
 accepted c = block-accepted _ _ _ _ _ (zero-is (c .before))
 
 search-refusal-requires : tie.Need-search-refusal-requires
 search-refusal-requires c κs = search needs
 
-refused-requires : tie.Need-refused-requires
-refused-requires c κs = search needs
+refused-search-requires : tie.Need-refused-search-requires
+refused-search-requires c κs = search needs
 
 returns : tie.Need-returns
 returns c =
     let r = c .before .before .search-refusal .ensures in
-    c .refused .ensures ∙ rw r (sym (block-refused _ _ _ _ _ (λ e. c .before .if1 .taken (r ∙ e))))
+    c .refused-search .ensures ∙ rw r (sym (block-refused-search _ _ _ _ _ (λ e. c .before .if1 .taken (r ∙ e))))
 
 sizes-of-requires : tie.Need-sizes-of-requires
 sizes-of-requires c κs = search needs
@@ -55,7 +55,7 @@ search-requires-2 : tie.Need-search-requires-2
 unfolding windowOk
 search-requires-2 c κs =
     let z = c .before .before .before .before in
-    (ready z, rw (c .if3 .taken) at (searchable _ _ _ _ _ (zero-is (z .before)) .asked .window))
+    (ready z, rw (c .if3 .taken) at (searchable _ _ _ _ _ (zero-is (z .before)) .requested .window))
 
 returns-3 : tie.Need-returns-3
 returns-3 c =
@@ -80,7 +80,7 @@ returns-5 : tie.Need-returns-5
 returns-5 c =
     let d = c .before .before in
     let z = d .before .before .before .before .before .before .before in
-    let a = searchable _ _ _ _ _ (zero-is (z .before)) .asked in
+    let a = searchable _ _ _ _ _ (zero-is (z .before)) .requested in
     let one : z .before .before .before .before .before .args .q .search ≡ 1 = omega (arith, a .least, a .most, d .if4 .left, d .before .before .before .if3 .left, d .before .before .before .before .before .if2 .left) in
     (rw (z .sizes-of .ensures) at (c .search3 .ensures)) ∙ sym (accepted z ∙ searched-full _ _ _ _ one)
 
@@ -89,7 +89,7 @@ search-block-spec =
     tie.close
     (tie.spec
     search-refusal-requires
-    refused-requires
+    refused-search-requires
     returns
     sizes-of-requires
     search-requires

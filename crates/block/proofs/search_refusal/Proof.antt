@@ -2,7 +2,7 @@
 use mathlib.Core.Path.{_≡_, sym}
 use borrow.Author.Needs.{needs}
 use Rattle.base.specs.Tests.{passed, failed}
-use Rattle.refusals.specs.Refusals.{unless, placeOk, sizesOf, first-some, first-none}
+use Rattle.refusals.specs.Refusals.{unless, placeOk, sizesOf, first-refusal-some, first-refusal-none}
 use Rattle.block.specs.Block.{searchRefusal}
 use Rattle.block.proofs.search_refusal.Statement.{statement}
 use Rattle.block.proofs.search_refusal.Tie as tie
@@ -10,7 +10,7 @@ use Rattle.block.proofs.search_refusal.Tie as tie
 -- past the request's chain
 rest : (d : tie.Else1) → let a = d .before .before .args in searchRefusal (a .older) (a .newer) (a .q) (a .y) (a .x) ≡ unless (placeOk (sizesOf (a .q)) (a .y) (a .x)) 7 0
 unfolding searchRefusal
-rest d = rw (← (d .before .request-refusal .ensures)) (first-none _ _ (d .if1 .left))
+rest d = rw (← (d .before .request-refusal .ensures)) (first-refusal-none _ _ (d .if1 .left))
 
 in-place : (d : tie.After-place-ok) → let a = d .before .before .before .before .args in d .place-ok .result ≡ placeOk (sizesOf (a .q)) (a .y) (a .x)
 in-place d = rw (d .before .sizes-of .ensures) at (d .place-ok .ensures)
@@ -20,7 +20,7 @@ request-refusal-requires c κs = search needs
 
 returns : tie.Need-returns
 unfolding searchRefusal
-returns c = rw (← (c .before .request-refusal .ensures)) (sym (first-some _ _ (c .if1 .taken)))
+returns c = rw (← (c .before .request-refusal .ensures)) (sym (first-refusal-some _ _ (c .if1 .taken)))
 
 sizes-of-requires : tie.Need-sizes-of-requires
 sizes-of-requires c κs = search needs

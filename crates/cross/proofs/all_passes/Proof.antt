@@ -1,7 +1,7 @@
 -- `all_passes`: the passes left lead to where all lead.
 use native.Mathlib.Omega.{arith}
 use borrow.Author.Needs.{needs}
-use Rattle.search.specs.Weighing.{targetOf}
+use Rattle.search.specs.Target.{targetOf}
 use Rattle.cross.proofs.Passes.{Passing, log2-some, passing-none, passing-more, passing-done}
 use Rattle.cross.proofs.all_passes.Statement.{statement}
 use Rattle.cross.proofs.all_passes.Tie as tie

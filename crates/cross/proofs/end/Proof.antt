@@ -2,10 +2,10 @@
 use lib.Dec.{lit≤}
 use borrow.Author.Needs.{needs}
 use Rattle.probe.specs.Probe.{widened}
-use Rattle.probe.specs.Held.{pairs}
+use Rattle.probe.specs.BestSoFar.{pairs}
 use Rattle.probe.proofs.Probe.{all?}
 use Rattle.probe.proofs.Looks.{pattern?, pattern-yes}
-use Rattle.cross.specs.Cross.{andrew, greek, pass, ended}
+use Rattle.cross.specs.Cross.{diagonalCross, plusCross, pass, ended}
 use Rattle.cross.proofs.end.Statement.{statement}
 use Rattle.cross.proofs.end.Tie as tie
 
@@ -17,14 +17,14 @@ unfolding pattern? pairs all?
 pattern-requires c κs = (c .before .before .before .before .pre, pattern-yes _ tt, lit≤ tt)
 
 returns : tie.Need-returns
-unfolding ended greek widened pairs
+unfolding ended plusCross widened pairs
 returns c = rw (c .before .before .if1 .taken) (c .pattern .ensures)
 
 pass-at-requires : tie.Need-pass-at-requires
 pass-at-requires c κs = (c .before .before .before .pre, lit≤ tt)
 
 returns-2 : tie.Need-returns-2
-unfolding ended pass andrew widened
+unfolding ended pass diagonalCross widened
 returns-2 c = rw (c .before .if1 .left) (c .pass-at .ensures)
 
 pub end-spec : {M : Type 1} → statement M

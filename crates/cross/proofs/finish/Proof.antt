@@ -3,8 +3,8 @@ use mathlib.Core.Path.{ap, _∙_}
 use native.Mathlib.Omega.{arith}
 use borrow.Author.Needs.{needs}
 use denote.Ref.{now}
-use Rattle.search.specs.Weighing.{targetOf}
-use Rattle.probe.specs.Held.{point, seenOf}
+use Rattle.search.specs.Target.{targetOf}
+use Rattle.probe.specs.BestSoFar.{point, seenOf}
 use Rattle.probe.proofs.Looks.{holds-by}
 use Rattle.cross.specs.Cross.{onDiagonal, ended, finished}
 use Rattle.cross.proofs.finish.Statement.{statement}

@@ -1,7 +1,7 @@
 -- `on_diagonal`: the table is the three points of step 6.
 use lib.Dec.{lit≤}
 use borrow.Author.Needs.{needs}
-use Rattle.probe.specs.Held.{pairs}
+use Rattle.probe.specs.BestSoFar.{pairs}
 use Rattle.cross.specs.Cross.{diagonal, onDiagonal}
 use Rattle.cross.proofs.on_diagonal.Statement.{statement}
 use Rattle.cross.proofs.on_diagonal.Tie as tie

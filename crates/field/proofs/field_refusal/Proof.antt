@@ -1,4 +1,4 @@
--- `field_refusal`: the request's refusal, then the table's and the list's length. An accepted request has sides of at most 1,024, so no product wraps.
+-- `field_refusal`: the request's refusal, then the table's and the list's length. An acceptedField request has sides of at most 1,024, so no product wraps.
 use Prim.Native.Nat.{ℕ, _+_, _*_, _≤_}
 use borrow.Author.Tests.{ne-eqb, eq-eqb, lt-leb, le-leb}
 use lib.Dec.{eqb}
@@ -11,7 +11,7 @@ use Rattle.field.specs.Field.{fieldRefusal, tableOk}
 use Rattle.base.specs.Tests.{or-true}
 use Rattle.frame.specs.Grid.{blocks, blocks-few}
 use Rattle.frame.specs.Pictures.{Fitting}
-use Rattle.refusals.specs.Refusals.{first-none, first-some, sizesOf, requestRefusal, asked}
+use Rattle.refusals.specs.Refusals.{first-refusal-none, first-refusal-some, sizesOf, requestRefusal, requested}
 use borrow.Author.Needs.{needs}
 use Rattle.field.proofs.field_refusal.Statement.{statement}
 use Rattle.field.proofs.field_refusal.Tie as tie
@@ -21,14 +21,14 @@ request-refusal-requires c κs = search needs
 
 returns : tie.Need-returns
 unfolding fieldRefusal
-returns c = c .before .request-refusal .ensures ∙ sym (first-some _ _ (λ e. c .if1 .taken (c .before .request-refusal .ensures ∙ e)))
+returns c = c .before .request-refusal .ensures ∙ sym (first-refusal-some _ _ (λ e. c .if1 .taken (c .before .request-refusal .ensures ∙ e)))
 
 -- past the request's refusals
 zero-is : (c : tie.Else1) → let a = c .before .before .args in requestRefusal (a .older) (a .newer) (a .q) ≡ 0
 zero-is c = sym (c .before .request-refusal .ensures) ∙ c .if1 .left
 
 fine : (c : tie.Else1) → Fitting (sizesOf (c .before .before .args .q))
-fine c = asked _ _ _ (zero-is c) .paired .fitting
+fine c = requested _ _ _ (zero-is c) .paired .fitting
 
 area : (h w : ℕ) → h ≤ 1024 → w ≤ 1024 → (h + 1) * (w + 1) ≤ 1050625
 area h w a b = mul-le-mul {n₂ = 1025} {m₂ = 1025} (omega arith) (omega arith)
@@ -49,7 +49,7 @@ returns-2 : tie.Need-returns-2
 unfolding fieldRefusal
 returns-2 c =
     let t = c .before .before .before in
-    sym (first-none _ _ (zero-is (t .before .before)) ∙ rw (eq-eqb _ 2 (t .if2 .taken), lt-leb _ _ (c .if3 .taken)))
+    sym (first-refusal-none _ _ (zero-is (t .before .before)) ∙ rw (eq-eqb _ 2 (t .if2 .taken), lt-leb _ _ (c .if3 .taken)))
 
 sizes-of-requires : tie.Need-sizes-of-requires
 sizes-of-requires c κs = search needs
@@ -73,13 +73,13 @@ returns-3 : tie.Need-returns-3
 unfolding fieldRefusal
 returns-3 c =
     let j = c .before .before .before in
-    sym (first-none _ _ (zero-is (j .before .before)) ∙ rw (long j, ← count-is (c .before), lt-leb _ _ (c .if4 .taken)))
+    sym (first-refusal-none _ _ (zero-is (j .before .before)) ∙ rw (long j, ← count-is (c .before), lt-leb _ _ (c .if4 .taken)))
 
 returns-4 : tie.Need-returns-4
 unfolding fieldRefusal
 returns-4 c =
     let j = c .before .before .before in
-    sym (first-none _ _ (zero-is (j .before .before)) ∙ rw (long j, ← count-is (c .before), le-leb _ _ (c .if4 .left)))
+    sym (first-refusal-none _ _ (zero-is (j .before .before)) ∙ rw (long j, ← count-is (c .before), le-leb _ _ (c .if4 .left)))
 
 pub field-refusal-spec : {M : Type 1} → statement M
 field-refusal-spec =

@@ -10,23 +10,23 @@ use mir.Val.{SFits, toZ, ofZ}
 use lib.IntN.{ℤ, pos, negsuc, natAbs}
 use Rattle.frame.specs.Grid.{blocks, blocks-few}
 use Rattle.frame.specs.Pictures.{pairOf, Fitting}
-use Rattle.refusals.specs.Refusals.{sizesOf, asked}
+use Rattle.refusals.specs.Refusals.{sizesOf, requested}
 use Rattle.reading.proofs.Tally.{tally-room}
-use Rattle.field.specs.Field.{blockOf}
-use Rattle.field.specs.Filling.{Filled}
+use Rattle.field.specs.Field.{searchAt}
+use Rattle.field.specs.Filling.{BlocksFilled}
 use Rattle.field.proofs.Turns.{filled-none, filled-few, filled-more}
 use Rattle.field.proofs.fill_list.Statement.{statement}
 use Rattle.field.proofs.fill_list.Tie as tie
 
 abbrev Inv-loop : tie.InvT-loop
 Inv-loop older newer order q table list₀ votes₀ n total₀ k₀ list votes total k =
-    (k ≤ n) × (n ≡ blocks (sizesOf q)) × Filled (blockOf (pairOf older newer (sizesOf q)) q) k list₀ list votes total
+    (k ≤ n) × (n ≡ blocks (sizesOf q)) × BlocksFilled (searchAt (pairOf older newer (sizesOf q)) q) k list₀ list votes total
 
 abbrev μ-loop : tie.MeasureT-loop
 μ-loop older newer order q table list₀ votes₀ n total₀ k₀ list votes total k = n - k
 
 fitting : (s : tie.Start Inv-loop μ-loop) → Fitting (sizesOf (s .args .q))
-fitting s = asked _ _ _ (s .pre .0 .0 .fine) .paired .fitting
+fitting s = requested _ _ _ (s .pre .0 .0 .fine) .paired .fitting
 
 sizes-of-requires : tie.Need-sizes-of-requires Inv-loop μ-loop
 sizes-of-requires c κs = search needs

@@ -7,8 +7,8 @@ use native.Mathlib.Omega.{arith}
 use Rattle.block.specs.Block.{search-fine, block-accepted, searched-pruned}
 use Rattle.field.proofs.Sound.{Bytes, block-is}
 use Rattle.frame.specs.Grid.{blockRow, blockColumn, block-down, block-across}
-use Rattle.refusals.specs.Refusals.{sizesOf, Asked, asked, window-small}
-use Rattle.reach.proofs.Windows.{covers-frame}
+use Rattle.refusals.specs.Refusals.{sizesOf, Requested, requested, window-small}
+use Rattle.pruned_region.proofs.Windows.{covers-frame}
 use borrow.Author.Needs.{needs}
 use Rattle.field.proofs.search_at.Statement.{statement}
 use Rattle.field.proofs.search_at.Tie as tie
@@ -16,17 +16,17 @@ use Rattle.field.proofs.search_at.Tie as tie
 sizes-of-requires : tie.Need-sizes-of-requires
 sizes-of-requires c κs = search needs
 
-asked-at : (c : tie.After-shared-slice-known3) → let a = c .before .before .before .args in Asked (length (now (a .older))) (length (now (a .newer))) (a .q)
-asked-at c = asked _ _ _ (c .before .before .before .pre .0 .fine)
+request-at : (c : tie.After-shared-slice-known3) → let a = c .before .before .before .args in Requested (length (now (a .older))) (length (now (a .newer))) (a .q)
+request-at c = requested _ _ _ (c .before .before .before .pre .0 .fine)
 
 bytes : (c : tie.After-shared-slice-known3) → let a = c .before .before .before .args in Bytes (now (a .older)) × Bytes (now (a .newer))
 bytes c = ((λ i. let h = c .before .before .shared-slice-known .given i in omega (arith, h)), (λ i. let h = c .before .shared-slice-known2 .given i in omega (arith, h)))
 
 block-row-requires : tie.Need-block-row-requires
-block-row-requires c κs = rw (c .sizes-of .ensures) ((asked-at (c .before) .paired .fitting, c .before .before .before .before .pre .2))
+block-row-requires c κs = rw (c .sizes-of .ensures) ((request-at (c .before) .paired .fitting, c .before .before .before .before .pre .2))
 
 block-column-requires : tie.Need-block-column-requires
-block-column-requires c κs = rw (c .before .sizes-of .ensures) ((asked-at (c .before .before) .paired .fitting, c .before .before .before .before .before .pre .2))
+block-column-requires c κs = rw (c .before .sizes-of .ensures) ((request-at (c .before .before) .paired .fitting, c .before .before .before .before .before .pre .2))
 
 whole-requires : tie.Need-whole-requires
 whole-requires c κs = search needs
@@ -41,7 +41,7 @@ column-is b = b .block-column .ensures ∙ ap (λ s. blockColumn s (b .before .b
 lies : (b : tie.After-block-column) → let s = b .before .before .sizes-of .result in
     (b .before .block-row .result + s .n ≤ s .height) × (b .block-column .result + s .n ≤ s .width)
 lies b =
-    let f = asked-at (b .before .before .before) .paired .fitting in
+    let f = request-at (b .before .before .before) .paired .fitting in
     let k = b .before .before .before .before .before .before .pre .2 in
     rw (row-is b, column-is b, b .before .before .sizes-of .ensures) ((block-down _ f _ k, block-across _ f _ k))
 
@@ -49,7 +49,7 @@ search-requires : tie.Need-search-requires
 search-requires c κs =
     let b = c .before .before .before in
     let s = b .before .before .before .before .before .before in
-    let a = asked-at (b .before .before .before) in (
+    let a = request-at (b .before .before .before) in (
       record {
         ready = record { placed = record { paired = rw (b .before .before .sizes-of .ensures) (a .paired); down = lies b .0; across = lies b .1 }; window = window-small _ _ (a .window) };
         covers = rw (c .whole .ensures, b .before .before .sizes-of .ensures) (covers-frame (record { sizes = sizesOf (s .args .q); w = s .args .q .w; y = b .before .block-row .result; x = b .block-column .result }));
@@ -63,7 +63,7 @@ returns c =
     let b = c .before .before .before .before in
     let s = b .before .before .before .before .before .before in
     let e = rw (b .before .before .sizes-of .ensures, row-is b, column-is b) at (c .search .ensures) in
-    block-is _ _ _ (bytes (b .before .before .before)) (asked-at (b .before .before .before)) _ (s .pre .2) _ (e ∙ sym (searched-pruned _ _ _ _ (c .before .before .if1 .taken)))
+    block-is _ _ _ (bytes (b .before .before .before)) (request-at (b .before .before .before)) _ (s .pre .2) _ (e ∙ sym (searched-pruned _ _ _ _ (c .before .before .if1 .taken)))
 
 search-block-requires : tie.Need-search-block-requires
 search-block-requires c κs = search needs
@@ -74,7 +74,7 @@ returns-2 c =
     let s = b .before .before .before .before .before .before in
     let l = lies b in
     let e = c .search-block .ensures ∙ block-accepted _ _ _ _ _ (search-fine _ _ _ _ _ (s .pre .0 .fine) (rw (b .before .before .sizes-of .ensures) at (l .0)) (rw (b .before .before .sizes-of .ensures) at (l .1))) in
-    block-is _ _ _ (bytes (b .before .before .before)) (asked-at (b .before .before .before)) _ (s .pre .2) _ (rw (row-is b, column-is b) at e)
+    block-is _ _ _ (bytes (b .before .before .before)) (request-at (b .before .before .before)) _ (s .pre .2) _ (rw (row-is b, column-is b) at e)
 
 pub search-at-spec : {M : Type 1} → statement M
 search-at-spec =

@@ -2,7 +2,7 @@
 use lib.Dec.{lit≤}
 use borrow.Author.Needs.{needs}
 use Rattle.probe.specs.Probe.{widened}
-use Rattle.probe.specs.Held.{pairs}
+use Rattle.probe.specs.BestSoFar.{pairs}
 use Rattle.probe.proofs.Probe.{all?}
 use Rattle.probe.proofs.Looks.{pattern?, pattern-yes}
 use Rattle.four_step.specs.FourStep.{square, moved, step23}

@@ -3,9 +3,9 @@ use native.Mathlib.Omega.{arith}
 use lib.Dec.{lit≤}
 use borrow.Author.Needs.{needs}
 use denote.Ref.{now}
-use Rattle.search.specs.Weighing.{targetOf}
+use Rattle.search.specs.Target.{targetOf}
 use Rattle.probe.specs.Probe.{widened, isIn, fresh}
-use Rattle.probe.specs.Held.{seenOf, pairs}
+use Rattle.probe.specs.BestSoFar.{seenOf, pairs}
 use Rattle.probe.proofs.Probe.{all?}
 use Rattle.probe.proofs.Looks.{pattern?, pattern-yes, holds-by}
 use Rattle.four_step.specs.FourStep.{square}
@@ -13,8 +13,8 @@ use Rattle.four_step.proofs.Steps.{step1-is}
 use Rattle.four_step.proofs.step_one.Statement.{statement}
 use Rattle.four_step.proofs.step_one.Tie as tie
 
-first-requires : tie.Need-first-requires
-first-requires c κs = search needs
+at-origin-requires : tie.Need-at-origin-requires
+at-origin-requires c κs = search needs
 
 sub-pattern : tie.Need-sub-pattern
 sub-pattern c = search needs
@@ -28,15 +28,15 @@ part-pattern-end c = search needs
 pattern-requires : tie.Need-pattern-requires
 unfolding pattern? pairs all?
 pattern-requires c κs =
-    let f = c .before .before .first .ensures in
+    let f = c .before .before .at-origin .ensures in
     (record { ready = c .before .before .before .before .before .pre; down = f .down; across = f .across; room = omega arith }, pattern-yes _ tt, lit≤ tt)
 
 returns : tie.Need-returns
 unfolding square fresh isIn widened pairs
 returns c =
     let a = c .before .before .before .before .before .before .args in
-    let f = c .before .before .before .first in
+    let f = c .before .before .before .at-origin in
     holds-by (c .pattern .ensures) (step1-is (targetOf (now (a .older)) (now (a .newer)) (a .b)) (seenOf (f .result)) (f .ensures .is)) (omega arith)
 
 pub step-one-spec : {M : Type 1} → statement M
-step-one-spec = tie.close (tie.spec first-requires sub-pattern part-pattern-start part-pattern-end pattern-requires returns)
+step-one-spec = tie.close (tie.spec at-origin-requires sub-pattern part-pattern-start part-pattern-end pattern-requires returns)

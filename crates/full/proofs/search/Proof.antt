@@ -9,10 +9,10 @@ use mir.Facts.{toZ-ofZ}
 use Rattle.base.specs.Picks.{pick-head}
 use Rattle.frame.specs.Pictures.{pairOf}
 use Rattle.search.proofs.Exhaustive.{still-passes}
-use Rattle.remaining.specs.Gathered.{passes}
-use Rattle.remaining.proofs.Listing.{front-take, gathered-few, gathered-listed}
+use Rattle.pruned_remaining.specs.Gathered.{candidateAt}
+use Rattle.pruned_remaining.proofs.Listing.{front-take, gathered-few, gathered-listed}
 use Rattle.search.specs.Exhaustive.{best}
-use Rattle.full.specs.Full.{fullFound}
+use Rattle.full.specs.Full.{fullSearch}
 use Rattle.full.proofs.search.Statement.{statement}
 use Rattle.full.proofs.search.Tie as tie
 
@@ -23,7 +23,7 @@ some g =
     let r = s .pre .0 in
     let b = s .args .b in
     let still = still-passes (pairOf (now (s .args .older)) (now (s .args .newer)) (b .sizes)) (b .w) (b .y) (b .x) (r .window) (r .placed .down) (r .placed .across) in
-    omega (arith, g .gather .ensures .many, pick-head (passes b) 1088 still .0)
+    omega (arith, g .gather .ensures .many, pick-head (candidateAt b) 1088 still .0)
 
 gather-requires : tie.Need-gather-requires
 gather-requires c κs = (c .before .before .before .pre .1, refl)
@@ -41,7 +41,7 @@ cast-t11 : tie.Need-cast-t11
 cast-t11 c = fits-under w32 _ 1090 (omega (arith, gathered-few _ (c .before .before .before .gather .ensures))) tt
 
 returns : tie.Need-returns
-unfolding fullFound best
+unfolding fullSearch best
 returns c =
     let h = c .before .before .before .before .gather .ensures in
     let k = c .before .before .choose-of-many .ensures in

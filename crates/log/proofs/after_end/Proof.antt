@@ -4,17 +4,17 @@ use borrow.Author.Tests.{lt-ltb, le-ltb}
 use Rattle.log.proofs.after_end.Statement.{statement}
 use Rattle.log.proofs.after_end.Tie as tie
 
-turned-away-requires : tie.Need-turned-away-requires
-turned-away-requires c κs = search needs
+refused-step-requires : tie.Need-refused-step-requires
+refused-step-requires c κs = search needs
 
-turned-away-requires-2 : tie.Need-turned-away-requires-2
-turned-away-requires-2 c κs = search needs
+refused-step-requires-2 : tie.Need-refused-step-requires-2
+refused-step-requires-2 c κs = search needs
 
 returns : tie.Need-returns
-returns c = simp (lt-ltb _ _ (c .before .if1 .taken)) (c .turned-away .ensures)
+returns c = simp (lt-ltb _ _ (c .before .if1 .taken)) (c .refused-step .ensures)
 
 returns-2 : tie.Need-returns-2
-returns-2 c = simp (le-ltb _ _ (c .before .if1 .left)) (c .turned-away2 .ensures)
+returns-2 c = simp (le-ltb _ _ (c .before .if1 .left)) (c .refused-step2 .ensures)
 
 pub after-end-spec : {M : Type 1} → statement M
-after-end-spec = tie.close (tie.spec turned-away-requires turned-away-requires-2 returns returns-2)
+after-end-spec = tie.close (tie.spec refused-step-requires refused-step-requires-2 returns returns-2)

@@ -7,8 +7,8 @@ use mir.Syntax.{w32}
 use mir.Val.{toZ}
 use mir.Facts.{toZ-ofZ, toZ-pos}
 use Rattle.base.specs.Tests.{passed, failed}
-use Rattle.heads.specs.Heads.{entryOk, isStill}
-use Rattle.log.specs.declared.Stepped.{Stepped}
+use Rattle.log_head.specs.Heads.{entryOk, isStill}
+use Rattle.log.specs.declared.WalkStep.{WalkStep}
 use Rattle.log.specs.declared.Command.{Command}
 use Rattle.log.specs.Step.{block-not, block-still, block-taken}
 use Rattle.log.proofs.block_in.Statement.{statement}
@@ -40,7 +40,7 @@ entry c =
     let p : toZ w32 (t .two .result) ≡ pos (t .two .result) = toZ-pos w32 {n = t .two .result} (omega (arith, t .two .ensures .1)) in
     rw (toZ-ofZ (sfits-of (y .from-byte .ok)), toZ-ofZ (sfits-of (x .from-byte2 .ok)), p) at (c .entry-ok .ensures)
 
-abbrev commandOf : Stepped → Command
+abbrev commandOf : WalkStep → Command
 commandOf s = s .command
 
 add-from-byte : tie.Need-add-from-byte

@@ -3,7 +3,7 @@ use mathlib.Core.Path.{ap, sym, _∙_}
 use native.Mathlib.Omega.{arith}
 use borrow.Author.Needs.{needs}
 use Rattle.frame.specs.Grid.{blocks-few}
-use Rattle.heads.specs.Heads.{sizesIn, headed}
+use Rattle.log_head.specs.Heads.{sizesIn, headed}
 use Rattle.log.specs.Commands.{isRefused}
 use Rattle.log.specs.Step.{block-refused, block-handed}
 use Rattle.log.proofs.block_taken.Statement.{statement}
@@ -15,13 +15,13 @@ block-in-requires c κs = search needs
 is-refused-requires : tie.Need-is-refused-requires
 is-refused-requires c κs = search needs
 
-turned-away-requires : tie.Need-turned-away-requires
-turned-away-requires c κs = search needs
+refused-step-requires : tie.Need-refused-step-requires
+refused-step-requires c κs = search needs
 
 returns : tie.Need-returns
 returns c = let r = c .before .before in
     let b = r .before in
-    c .turned-away .ensures ∙ sym (block-refused _ _ _ _ (ap isRefused (sym (b .block-in .ensures)) ∙ sym (r .is-refused .ensures) ∙ c .before .if1 .taken))
+    c .refused-step .ensures ∙ sym (block-refused _ _ _ _ (ap isRefused (sym (b .block-in .ensures)) ∙ sym (r .is-refused .ensures) ∙ c .before .if1 .taken))
 
 add-t7 : tie.Need-add-t7
 add-t7 c = search needs
@@ -42,7 +42,7 @@ block-taken-spec =
     (tie.spec
     block-in-requires
     is-refused-requires
-    turned-away-requires
+    refused-step-requires
     returns
     add-t7
     add-t8

@@ -5,18 +5,18 @@ use Rattle.log.specs.Step.{commandAt, byCommand}
 use Rattle.log.proofs.command_at.Statement.{statement}
 use Rattle.log.proofs.command_at.Tie as tie
 
-turned-away-requires : tie.Need-turned-away-requires
-turned-away-requires c κs = search needs
+refused-step-requires : tie.Need-refused-step-requires
+refused-step-requires c κs = search needs
 
 returns : tie.Need-returns
 unfolding commandAt
-returns c = simp (le-leb _ _ (c .before .if1 .taken)) (c .turned-away .ensures)
+returns c = simp (le-leb _ _ (c .before .if1 .taken)) (c .refused-step .ensures)
 
 shared-slice-read-command : tie.Need-shared-slice-read-command
 shared-slice-read-command c = search needs
 
-turned-away-requires-2 : tie.Need-turned-away-requires-2
-turned-away-requires-2 c κs = search needs
+refused-step-requires-2 : tie.Need-refused-step-requires-2
+refused-step-requires-2 c κs = search needs
 
 head-at-requires : tie.Need-head-at-requires
 head-at-requires c κs = search needs
@@ -30,12 +30,12 @@ still-at-requires c κs = search needs
 end-at-requires : tie.Need-end-at-requires
 end-at-requires c κs = search needs
 
-turned-away-requires-3 : tie.Need-turned-away-requires-3
-turned-away-requires-3 c κs = search needs
+refused-step-requires-3 : tie.Need-refused-step-requires-3
+refused-step-requires-3 c κs = search needs
 
 returns-2 : tie.Need-returns-2
 unfolding commandAt byCommand
-returns-2 c = simp (lt-leb _ _ (c .before .before .before .if1 .left), c .before .match .keys1) (c .turned-away2 .ensures)
+returns-2 c = simp (lt-leb _ _ (c .before .before .before .if1 .left), c .before .match .keys1) (c .refused-step2 .ensures)
 
 returns-3 : tie.Need-returns-3
 unfolding commandAt byCommand
@@ -55,21 +55,21 @@ returns-6 c = simp (lt-leb _ _ (c .before .before .before .if1 .left), c .before
 
 returns-7 : tie.Need-returns-7
 unfolding commandAt byCommand
-returns-7 c = let no = c .before .match .rest in simp (lt-leb _ _ (c .before .before .before .if1 .left), ne-eqb _ 1 (no .0 .0 .0 .1), ne-eqb _ 2 (no .0 .0 .1), ne-eqb _ 3 (no .0 .1), ne-eqb _ 4 (no .1)) (c .turned-away3 .ensures)
+returns-7 c = let no = c .before .match .rest in simp (lt-leb _ _ (c .before .before .before .if1 .left), ne-eqb _ 1 (no .0 .0 .0 .1), ne-eqb _ 2 (no .0 .0 .1), ne-eqb _ 3 (no .0 .1), ne-eqb _ 4 (no .1)) (c .refused-step3 .ensures)
 
 pub command-at-spec : {M : Type 1} → statement M
 command-at-spec =
     tie.close
     (tie.spec
-    turned-away-requires
+    refused-step-requires
     returns
     shared-slice-read-command
-    turned-away-requires-2
+    refused-step-requires-2
     head-at-requires
     block-at-requires
     still-at-requires
     end-at-requires
-    turned-away-requires-3
+    refused-step-requires-3
     returns-2
     returns-3
     returns-4

@@ -3,18 +3,18 @@ use mathlib.Core.Path.{_≡_, refl, sym, _∙_}
 use native.Mathlib.Omega.{arith}
 use borrow.Author.Needs.{needs}
 use Rattle.log.specs.Step.{judged-short, judged-whole, head-not, head-taken}
-use Rattle.heads.specs.Heads.{headRefusal}
+use Rattle.log_head.specs.Heads.{headRefusal}
 use Rattle.log.proofs.head_due.Statement.{statement}
 use Rattle.log.proofs.head_due.Tie as tie
 
 sub-if1 : tie.Need-sub-if1
 sub-if1 c = search needs
 
-turned-away-requires : tie.Need-turned-away-requires
-turned-away-requires c κs = search needs
+refused-step-requires : tie.Need-refused-step-requires
+refused-step-requires c κs = search needs
 
 returns : tie.Need-returns
-returns c = c .turned-away .ensures ∙ sym (judged-short _ _ _ _ _ refl (omega arith))
+returns c = c .refused-step .ensures ∙ sym (judged-short _ _ _ _ _ refl (omega arith))
 
 head-in-requires : tie.Need-head-in-requires
 head-in-requires c κs = search needs
@@ -22,13 +22,13 @@ head-in-requires c κs = search needs
 head-refusal-requires : tie.Need-head-refusal-requires
 head-refusal-requires c κs = search needs
 
-turned-away-requires-2 : tie.Need-turned-away-requires-2
-turned-away-requires-2 c κs = search needs
+refused-step-requires-2 : tie.Need-refused-step-requires-2
+refused-step-requires-2 c κs = search needs
 
 returns-2 : tie.Need-returns-2
 returns-2 c = let d = c .before .before .before in
     let n : headRefusal (d .head-in .result) ≡ 0 → ⊥ = λ e. c .before .if2 .taken (c .before .before .head-refusal .ensures ∙ e) in
-    c .turned-away2 .ensures ∙ sym (judged-whole _ _ _ _ _ refl (omega arith) ∙ head-not _ _ (rw (d .head-in .ensures) at n))
+    c .refused-step2 .ensures ∙ sym (judged-whole _ _ _ _ _ refl (omega arith) ∙ head-not _ _ (rw (d .head-in .ensures) at n))
 
 add-t4 : tie.Need-add-t4
 add-t4 c = search needs
@@ -43,11 +43,11 @@ head-due-spec =
     tie.close
     (tie.spec
     sub-if1
-    turned-away-requires
+    refused-step-requires
     returns
     head-in-requires
     head-refusal-requires
-    turned-away-requires-2
+    refused-step-requires-2
     returns-2
     add-t4
     returns-3)

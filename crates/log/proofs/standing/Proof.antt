@@ -13,12 +13,12 @@ returns : tie.Need-returns
 unfolding standingOk
 returns c = rw (← (c .before .head-refusal .ensures), ne-eqb _ 0 (c .if1 .taken))
 
-grid-requires : tie.Need-grid-requires
-grid-requires c κs = sym (c .before .head-refusal .ensures) ∙ c .if1 .left
+head-blocks-requires : tie.Need-head-blocks-requires
+head-blocks-requires c κs = sym (c .before .head-refusal .ensures) ∙ c .if1 .left
 
 returns-2 : tie.Need-returns-2
 unfolding standingOk
-returns-2 c = let d = c .before in rw (← (d .before .head-refusal .ensures), eq-eqb _ 0 (d .if1 .left), ← (c .grid .ensures .0))
+returns-2 c = let d = c .before in rw (← (d .before .head-refusal .ensures), eq-eqb _ 0 (d .if1 .left), ← (c .head-blocks .ensures .0))
 
 pub standing-spec : {M : Type 1} → statement M
-standing-spec = tie.close (tie.spec head-refusal-requires returns grid-requires returns-2)
+standing-spec = tie.close (tie.spec head-refusal-requires returns head-blocks-requires returns-2)

@@ -6,12 +6,12 @@ use Rattle.log.specs.Step.{stepAt, commandAt}
 use Rattle.log.proofs.step_at.Statement.{statement}
 use Rattle.log.proofs.step_at.Tie as tie
 
-turned-away-requires : tie.Need-turned-away-requires
-turned-away-requires c κs = search needs
+refused-step-requires : tie.Need-refused-step-requires
+refused-step-requires c κs = search needs
 
 returns : tie.Need-returns
 unfolding stepAt
-returns c = simp (lt-ltb _ _ (c .before .if1 .taken)) (c .turned-away .ensures)
+returns c = simp (lt-ltb _ _ (c .before .if1 .taken)) (c .refused-step .ensures)
 
 enum-told : tie.Need-enum-told
 enum-told c = search needs
@@ -28,8 +28,8 @@ standing-requires c κs = search needs
 command-at-requires-2 : tie.Need-command-at-requires-2
 command-at-requires-2 c κs = (c .before .before .before .before .before .if1 .left, sym (c .before .standing .ensures) ∙ c .if2 .taken)
 
-turned-away-requires-2 : tie.Need-turned-away-requires-2
-turned-away-requires-2 c κs = search needs
+refused-step-requires-2 : tie.Need-refused-step-requires-2
+refused-step-requires-2 c κs = search needs
 
 enum-told-2 : tie.Need-enum-told-2
 enum-told-2 c = search needs
@@ -40,8 +40,8 @@ after-end-requires c κs = search needs
 enum-told-3 : tie.Need-enum-told-3
 enum-told-3 c = search needs
 
-turned-away-requires-3 : tie.Need-turned-away-requires-3
-turned-away-requires-3 c κs = search needs
+refused-step-requires-3 : tie.Need-refused-step-requires-3
+refused-step-requires-3 c κs = search needs
 
 returns-2 : tie.Need-returns-2
 unfolding stepAt
@@ -53,7 +53,7 @@ returns-3 c = let d = c .before .before in simp (le-ltb _ _ (d .before .before .
 
 returns-4 : tie.Need-returns-4
 unfolding stepAt
-returns-4 c = let d = c .before .before in simp (le-ltb _ _ (d .before .before .before .before .if1 .left), d .before .before .phase .given .1, sym (d .standing .ensures), c .before .if2 .left) (c .turned-away2 .ensures)
+returns-4 c = let d = c .before .before in simp (le-ltb _ _ (d .before .before .before .before .if1 .left), d .before .before .phase .given .1, sym (d .standing .ensures), c .before .if2 .left) (c .refused-step2 .ensures)
 
 returns-5 : tie.Need-returns-5
 unfolding stepAt
@@ -61,24 +61,24 @@ returns-5 c = simp (le-ltb _ _ (c .before .before .before .if1 .left), c .before
 
 returns-6 : tie.Need-returns-6
 unfolding stepAt
-returns-6 c = simp (le-ltb _ _ (c .before .before .before .if1 .left), c .before .enum-told3 .given .1) (c .turned-away3 .ensures)
+returns-6 c = simp (le-ltb _ _ (c .before .before .before .if1 .left), c .before .enum-told3 .given .1) (c .refused-step3 .ensures)
 
 pub step-at-spec : {M : Type 1} → statement M
 step-at-spec =
     tie.close
     (tie.spec
-    turned-away-requires
+    refused-step-requires
     returns
     enum-told
     command-at-requires
     enum-known-phase
     standing-requires
     command-at-requires-2
-    turned-away-requires-2
+    refused-step-requires-2
     enum-told-2
     after-end-requires
     enum-told-3
-    turned-away-requires-3
+    refused-step-requires-3
     returns-2
     returns-3
     returns-4

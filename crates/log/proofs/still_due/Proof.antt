@@ -7,14 +7,14 @@ use Rattle.log.specs.Step.{standing-head, judged-not, judged-whole}
 use Rattle.log.proofs.still_due.Statement.{statement}
 use Rattle.log.proofs.still_due.Tie as tie
 
-grid-requires : tie.Need-grid-requires
-grid-requires c κs = standing-head (c .before .args .head) (c .before .args .blocks) (c .before .pre .1)
+head-blocks-requires : tie.Need-head-blocks-requires
+head-blocks-requires c κs = standing-head (c .before .args .head) (c .before .args .blocks) (c .before .pre .1)
 
-turned-away-requires : tie.Need-turned-away-requires
-turned-away-requires c κs = search needs
+refused-step-requires : tie.Need-refused-step-requires
+refused-step-requires c κs = search needs
 
 returns : tie.Need-returns
-returns c = c .turned-away .ensures ∙ sym (judged-not _ _ _ _ _ (le-ltb _ _ (rw (c .before .before .grid .ensures .0) at (c .before .if1 .taken))))
+returns c = c .refused-step .ensures ∙ sym (judged-not _ _ _ _ _ (le-ltb _ _ (rw (c .before .before .head-blocks .ensures .0) at (c .before .if1 .taken))))
 
 add-t5 : tie.Need-add-t5
 add-t5 c = search needs
@@ -23,8 +23,8 @@ add-t8 : tie.Need-add-t8
 add-t8 c = search needs
 
 returns-2 : tie.Need-returns-2
-returns-2 c = sym (judged-whole _ _ _ _ _ (lt-ltb _ _ (rw (c .before .grid .ensures .0) at (c .if1 .left))) (omega arith))
+returns-2 c = sym (judged-whole _ _ _ _ _ (lt-ltb _ _ (rw (c .before .head-blocks .ensures .0) at (c .if1 .left))) (omega arith))
 
 pub still-due-spec : {M : Type 1} → statement M
 still-due-spec =
-    tie.close (tie.spec grid-requires turned-away-requires returns add-t5 add-t8 returns-2)
+    tie.close (tie.spec head-blocks-requires refused-step-requires returns add-t5 add-t8 returns-2)

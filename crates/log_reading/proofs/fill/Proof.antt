@@ -7,15 +7,15 @@ use mathlib.Core.List.{flatMap}
 use Rattle.log_reading.proofs.Turns.{store-room, stored, step-fits}
 use Rattle.log.specs.Walk.{commandsFrom, walk}
 use Rattle.log_reading.specs.Reading.{fieldOf}
-use Rattle.put.specs.Put.{Rest, rest-first}
-use Rattle.walks.proofs.Turns.{turn}
+use Rattle.put.specs.Put.{StillToPut, rest-first}
+use Rattle.log_walks.proofs.Turns.{turn}
 use Rattle.log.specs.Commands.{blockValues}
 use lib.ListN.{length}
 use Rattle.log_reading.proofs.fill.Statement.{statement}
 use Rattle.log_reading.proofs.fill.Tie as tie
 
 abbrev Inv-loop : tie.InvT-loop
-Inv-loop log list₀ cursor₀ at₀ left₀ list cursor at left = (left ≤ length log + 1) × Rest list at (fieldOf (commandsFrom left log cursor)) list₀ 0 (fieldOf (walk log))
+Inv-loop log list₀ cursor₀ at₀ left₀ list cursor at left = (left ≤ length log + 1) × StillToPut list at (fieldOf (commandsFrom left log cursor)) list₀ 0 (fieldOf (walk log))
 
 abbrev μ-loop : tie.MeasureT-loop
 μ-loop log list₀ cursor₀ at₀ left₀ list cursor at left = left

@@ -8,8 +8,8 @@ use denote.Ref.{now}
 use mathlib.Core.Bool.{false}
 use Rattle.log.specs.Step.{headIn, stepAt, startCursor}
 use Rattle.log.specs.Commands.{commandNumber, isRefused}
-use Rattle.heads.specs.Heads.{headRefusal}
-use Rattle.walks.proofs.Accepted.{begun}
+use Rattle.log_head.specs.Heads.{headRefusal}
+use Rattle.log_walks.proofs.Accepted.{begun}
 use Rattle.log_reading.specs.Reading.{logRead}
 use lib.ListN.{length}
 use Rattle.log_reading.proofs.log_read.Statement.{statement}
@@ -47,11 +47,11 @@ returns c =
 head-in-requires : tie.Need-head-in-requires
 head-in-requires c κs = head-there c .0
 
-grid-requires : tie.Need-grid-requires
-grid-requires c κs = ap headRefusal (c .head-in .ensures) ∙ head-there (c .before) .1
+head-blocks-requires : tie.Need-head-blocks-requires
+head-blocks-requires c κs = ap headRefusal (c .head-in .ensures) ∙ head-there (c .before) .1
 
 mul-if2 : tie.Need-mul-if2
-mul-if2 c = omega (arith, c .grid .ensures .1)
+mul-if2 c = omega (arith, c .head-blocks .ensures .1)
 
 refused-read-requires : tie.Need-refused-read-requires
 refused-read-requires c κs = search needs
@@ -61,7 +61,7 @@ unfolding logRead
 returns-2 c =
     let d = c .before .before in
     let h = d .before .before in
-    rw (goes-on h, ← d .before .head-in .ensures, ← d .grid .ensures .0, lt-ltb _ _ (c .before .if2 .taken)) (c .refused-read .ensures)
+    rw (goes-on h, ← d .before .head-in .ensures, ← d .head-blocks .ensures .0, lt-ltb _ _ (c .before .if2 .taken)) (c .refused-read .ensures)
 
 walk-end-requires : tie.Need-walk-end-requires
 walk-end-requires c κs = search needs
@@ -75,7 +75,7 @@ returns-3 c =
     let d = c .before in
     let g = d .before .before .before in
     let h = g .before .before in
-    rw (goes-on h, ← g .before .head-in .ensures, ← g .grid .ensures .0, le-ltb _ _ (d .before .before .if2 .left), ← d .before .walk-end .ensures, ← d .command-number .ensures, eq-eqb _ 34 (c .if3 .taken)) refl
+    rw (goes-on h, ← g .before .head-in .ensures, ← g .head-blocks .ensures .0, le-ltb _ _ (d .before .before .if2 .left), ← d .before .walk-end .ensures, ← d .command-number .ensures, eq-eqb _ 34 (c .if3 .taken)) refl
 
 refused-by-requires-2 : tie.Need-refused-by-requires-2
 refused-by-requires-2 c κs = search needs
@@ -87,7 +87,7 @@ returns-4 c =
     let g = d .before .before .before in
     let h = g .before .before in
     let other = ne-eqb (commandNumber (d .before .walk-end .result)) 34 (λ e. c .before .if3 .left (d .command-number .ensures ∙ e)) in
-    rw (goes-on h, ← g .before .head-in .ensures, ← g .grid .ensures .0, le-ltb _ _ (d .before .before .if2 .left), ← d .before .walk-end .ensures, other) (c .refused-by2 .ensures)
+    rw (goes-on h, ← g .before .head-in .ensures, ← g .head-blocks .ensures .0, le-ltb _ _ (d .before .before .if2 .left), ← d .before .walk-end .ensures, other) (c .refused-by2 .ensures)
 
 pub log-read-spec : {M : Type 1} → statement M
 log-read-spec =
@@ -99,7 +99,7 @@ log-read-spec =
     refused-by-requires
     returns
     head-in-requires
-    grid-requires
+    head-blocks-requires
     mul-if2
     refused-read-requires
     returns-2

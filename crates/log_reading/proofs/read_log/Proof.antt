@@ -2,7 +2,7 @@
 use mathlib.Core.Path.{refl, ap, sym, _∙_}
 use borrow.Author.Needs.{needs}
 use borrow.Author.Tests.{eq-eqb, ne-eqb}
-use Rattle.log_reading.specs.Reading.{readInto}
+use Rattle.log_reading.specs.Reading.{readLog}
 use Rattle.log_reading.proofs.Turns.{roomy}
 use Rattle.log_reading.proofs.read_log.Statement.{statement}
 use Rattle.log_reading.proofs.read_log.Tie as tie
@@ -11,7 +11,7 @@ log-read-requires : tie.Need-log-read-requires
 log-read-requires c κs = search needs
 
 returns : tie.Need-returns
-unfolding readInto
+unfolding readLog
 returns c = rw (← c .before .before .log-read .ensures, ne-eqb _ 0 (c .if1 .taken)) refl
 
 fill-requires : tie.Need-fill-requires
@@ -21,7 +21,7 @@ same-length : tie.Need-same-length
 same-length c = search needs
 
 returns-2 : tie.Need-returns-2
-unfolding readInto
+unfolding readLog
 returns-2 c =
     let e = c .before .before .before in
     rw (← e .before .before .log-read .ensures, eq-eqb _ 0 (e .if1 .left), c .before .fill .ensures) refl

@@ -2,7 +2,7 @@
 use mathlib.Core.Path.{sym, _∙_}
 use native.Mathlib.Omega.{arith}
 use borrow.Author.Needs.{needs}
-use Rattle.log_text.specs.Text.{number, digits, spaced, worded}
+use Rattle.log_text.specs.Text.{numberText, digits, spaced, worded}
 use Rattle.log_text.proofs.Blocks.{still-number}
 use Rattle.log_text.proofs.put_block_line.Statement.{statement}
 use Rattle.log_text.proofs.put_block_line.Tie as tie
@@ -23,7 +23,7 @@ same-length : tie.Need-same-length
 same-length c = search needs
 
 returns : tie.Need-returns
-unfolding worded spaced number digits
+unfolding worded spaced numberText digits
 returns c = let w = c .before .before .put-word in
     let n = c .before .before .before .before .before .before in
     let a = n .before .before in

@@ -5,7 +5,7 @@ use native.Mathlib.Omega.{arith}
 use borrow.Author.Needs.{needs}
 use lib.ListN.{length}
 use mathlib.Core.List.{flatMap}
-use Rattle.put.specs.Put.{Rest, rest-first, rest-all}
+use Rattle.put.specs.Put.{StillToPut, rest-first, rest-all}
 use Rattle.log.specs.Walk.{commandsFrom}
 use Rattle.log_text.specs.Text.{lineOf}
 use Rattle.log_text.specs.Quick.{among, Quick}
@@ -17,7 +17,7 @@ use Rattle.log_text.proofs.put_body.Statement.{statement}
 use Rattle.log_text.proofs.put_body.Tie as tie
 
 abbrev Inv-loop : tie.InvT-loop
-Inv-loop log out₀ from head all next₀ k₀ at₀ command₀ out next k at command = (8 + k ≤ next) × (next ≤ length log) × (at ≤ from + 128 * k) × Quick log next head k command × Rest out at (flatMap lineOf (commandsFrom (length log - k) log (among head next k))) out₀ from (flatMap lineOf (commandsFrom (length log) log (among head 8 0)))
+Inv-loop log out₀ from head all next₀ k₀ at₀ command₀ out next k at command = (8 + k ≤ next) × (next ≤ length log) × (at ≤ from + 128 * k) × Quick log next head k command × StillToPut out at (flatMap lineOf (commandsFrom (length log - k) log (among head next k))) out₀ from (flatMap lineOf (commandsFrom (length log) log (among head 8 0)))
 
 abbrev μ-loop : tie.MeasureT-loop
 μ-loop log out₀ from head all next₀ k₀ at₀ command₀ out next k at command = length log - next
@@ -33,11 +33,11 @@ on : (d : tie.Then1 Inv-loop μ-loop) →
     (l .next < l .next + length (commandBytes (l .command))) × (l .next + length (commandBytes (l .command)) ≤ length log)
 on d = let l = d .before .before .loop in quick-on _ (l .next) _ (l .k) (l .command) (l .inv .3) (said d)
 
-grid-requires : tie.Need-grid-requires Inv-loop μ-loop
-grid-requires c κs = c .before .before .pre .3
+head-blocks-requires : tie.Need-head-blocks-requires Inv-loop μ-loop
+head-blocks-requires c κs = c .before .before .pre .3
 
 block-here-requires : tie.Need-block-here-requires Inv-loop μ-loop
-block-here-requires c κs = let a = c .before .before .before in (a .pre .0, a .pre .3, c .grid .ensures .0)
+block-here-requires c κs = let a = c .before .before .before in (a .pre .0, a .pre .3, c .head-blocks .ensures .0)
 
 loop-holds : tie.Need-loop-holds Inv-loop μ-loop
 loop-holds c = let a = c .before .before .before .before in
@@ -62,7 +62,7 @@ add-k c = let l = c .before .before .before .before .before .before .before .loo
 
 block-here-requires-2 : tie.Need-block-here-requires-2 Inv-loop μ-loop
 block-here-requires-2 c κs = let g = c .before .before .before .before .before .before .before .before .before in let a = g .before .before .before in
-    (omega (arith, c .command-size .ensures, on (c .before .before .before .before .before) .1), a .pre .3, g .grid .ensures .0)
+    (omega (arith, c .command-size .ensures, on (c .before .before .before .before .before) .1), a .pre .3, g .head-blocks .ensures .0)
 
 loop-less : tie.Need-loop-less Inv-loop μ-loop
 loop-less c = omega (arith, c .before .command-size .ensures, on (c .before .before .before .before .before .before) .0, on (c .before .before .before .before .before .before) .1)
@@ -98,7 +98,7 @@ put-body-spec =
     (tie.spec
     Inv-loop
     μ-loop
-    grid-requires
+    head-blocks-requires
     block-here-requires
     loop-holds
     is-refused-requires

@@ -1,6 +1,6 @@
 -- `put_field`: the digits, then the byte.
 use Rattle.put.specs.Put.{put-then}
-use Rattle.log_text.specs.Text.{number}
+use Rattle.log_text.specs.Text.{numberText}
 use Rattle.log_text.proofs.Texts.{digits-length}
 use native.Mathlib.Omega.{arith}
 use borrow.Author.Needs.{needs}
@@ -17,7 +17,7 @@ same-length : tie.Need-same-length
 same-length c = search needs
 
 returns : tie.Need-returns
-unfolding number
+unfolding numberText
 returns c = (put-then (c .before .before .before .before .before .before .put-number .ensures) (c .before .before .put-byte .ensures), omega (arith, digits-length 20 (c .before .before .before .before .before .before .before .before .before .args .n), c .before .before .before .before .before .before .put-number .ensures .place, c .before .before .put-byte .ensures .place))
 
 pub put-field-spec : {M : Type 1} → statement M

@@ -4,15 +4,15 @@ use mathlib.Core.Path.{_≡_, _∙_}
 use native.Mathlib.Omega.{arith}
 use borrow.Author.Needs.{needs}
 use mathlib.Core.List.{flatMap}
-use Rattle.put.specs.Put.{Rest, rest-first, rest-last}
+use Rattle.put.specs.Put.{StillToPut, rest-first, rest-last}
 use Rattle.log.specs.Walk.{commandsFrom}
-use Rattle.walks.proofs.Turns.{turn}
+use Rattle.log_walks.proofs.Turns.{turn}
 use Rattle.log_text.specs.Text.{lineOf}
 use Rattle.log_text.proofs.put_from.Statement.{statement}
 use Rattle.log_text.proofs.put_from.Tie as tie
 
 abbrev Inv-loop : tie.InvT-loop
-Inv-loop log out₀ from most cursor₀ at₀ calls₀ out cursor at calls = (calls ≤ most) × (at + 128 * calls ≤ from + 128 * most) × Rest out at (flatMap lineOf (commandsFrom calls log cursor)) out₀ from (flatMap lineOf (commandsFrom most log cursor₀))
+Inv-loop log out₀ from most cursor₀ at₀ calls₀ out cursor at calls = (calls ≤ most) × (at + 128 * calls ≤ from + 128 * most) × StillToPut out at (flatMap lineOf (commandsFrom calls log cursor)) out₀ from (flatMap lineOf (commandsFrom most log cursor₀))
 
 abbrev μ-loop : tie.MeasureT-loop
 μ-loop log out₀ from most cursor₀ at₀ calls₀ out cursor at calls = calls

@@ -3,7 +3,7 @@ use mir.Val.{toZ, ofZ}
 use mir.Syntax.{w32}
 use borrow.Author.Tests.{eq-eqb, ne-eqb}
 use Rattle.put.specs.Put.{put-none}
-use Rattle.log_text.specs.Text.{worded, spaced, number, digits}
+use Rattle.log_text.specs.Text.{worded, spaced, numberText, digits}
 use mathlib.Core.Path.{_≡_}
 use native.Mathlib.Omega.{arith}
 use borrow.Author.Needs.{needs}
@@ -63,7 +63,7 @@ same-length-3 : tie.Need-same-length-3
 same-length-3 c = search needs
 
 returns-3 : tie.Need-returns-3
-unfolding worded spaced number digits
+unfolding worded spaced numberText digits
 returns-3 c = (rw (c .before .before .before .before .before .enum-told .given .1) (c .before .before .put-word .ensures .0), omega arith)
 
 same-length-4 : tie.Need-same-length-4

@@ -5,11 +5,11 @@ use borrow.Author.Needs.{needs}
 use mathlib.Core.List.{flatMap, append-nil}
 use Rattle.put.specs.Put.{put-then}
 use mathlib.Core.Bool.{false}
-use Rattle.log.specs.declared.Stepped.{Stepped}
+use Rattle.log.specs.declared.WalkStep.{WalkStep}
 use Rattle.log.specs.Commands.{isRefused}
 use Rattle.log.specs.Step.{stepAt, startCursor}
 use Rattle.log_text.proofs.Blocks.{first-line}
-use Rattle.walks.proofs.Accepted.{begun}
+use Rattle.log_walks.proofs.Accepted.{begun}
 use Rattle.log_text.proofs.put_walk.Statement.{statement}
 use Rattle.log_text.proofs.put_walk.Tie as tie
 
@@ -18,7 +18,7 @@ first : (c : tie.After-step-at) → c .step-at .result ≡ stepAt (c .before .be
 first c = c .step-at .ensures ∙ ap (stepAt _) (c .before .start .ensures)
 
 goes-on : (c : tie.Else1) → isRefused (stepAt (c .before .before .before .before .before .before .before .before .before .before .args .log .now) startCursor .command) ≡ false
-goes-on c = ap (λ (s : Stepped). isRefused (s .command)) (sym (first (c .before .before .before .before .before .before))) ∙ sym (c .before .is-refused .ensures) ∙ c .if1 .left
+goes-on c = ap (λ (s : WalkStep). isRefused (s .command)) (sym (first (c .before .before .before .before .before .before))) ∙ sym (c .before .is-refused .ensures) ∙ c .if1 .left
 
 start-requires : tie.Need-start-requires
 start-requires c κs = search needs
@@ -38,7 +38,7 @@ same-length c = search needs
 returns : tie.Need-returns
 unfolding flatMap
 returns c = let s = c .before .before .before .before .before .before in
-    let t = ap (λ (x : Stepped). isRefused (x .command)) (sym (first s)) ∙ sym (c .before .is-refused .ensures) ∙ c .if1 .taken in
+    let t = ap (λ (x : WalkStep). isRefused (x .command)) (sym (first s)) ∙ sym (c .before .is-refused .ensures) ∙ c .if1 .taken in
     rw (first-line _, t, append-nil _) (rw (first s) at (c .before .before .before .before .put-line .ensures .0))
 
 head-in-requires : tie.Need-head-in-requires

@@ -1,27 +1,27 @@
--- `first_wrong`: what is left, searched from here, answers for the whole.
+-- `first_wrong`: what is left, searchBy from here, answers for the whole.
 use Prim.Native.Nat.{_-_, _≤_, _<_}
 use mathlib.Core.Path.{_≡_, refl, sym, _∙_}
 use native.Mathlib.Omega.{arith}
 use borrow.Author.Needs.{needs}
 use native.Mathlib.Nat.{sub-zero}
 use Rattle.base.specs.Tests.{passed, failed}
-use Rattle.heads.specs.Heads.{gridOf}
+use Rattle.log_head.specs.Heads.{headBlocks}
 use Rattle.log_writing.specs.Writing.{listedOk, firstWrong}
 use Rattle.log_writing.proofs.Sound.{wrong-next, wrong-here, wrong-none}
 use Rattle.log_writing.proofs.first_wrong.Statement.{statement}
 use Rattle.log_writing.proofs.first_wrong.Tie as tie
 
 abbrev Inv-loop : tie.InvT-loop
-Inv-loop head list n k₀ k = (k ≤ n) × (n ≡ gridOf head) × (firstWrong (listedOk head list) k (n - k) ≡ firstWrong (listedOk head list) 0 (gridOf head))
+Inv-loop head list n k₀ k = (k ≤ n) × (n ≡ headBlocks head) × (firstWrong (listedOk head list) k (n - k) ≡ firstWrong (listedOk head list) 0 (headBlocks head))
 
 abbrev μ-loop : tie.MeasureT-loop
 μ-loop head list n k₀ k = n - k
 
-grid-requires : tie.Need-grid-requires Inv-loop μ-loop
-grid-requires c κs = c .pre .fine
+head-blocks-requires : tie.Need-head-blocks-requires Inv-loop μ-loop
+head-blocks-requires c κs = c .pre .fine
 
 loop-holds : tie.Need-loop-holds Inv-loop μ-loop
-loop-holds c = (omega arith, c .grid .ensures .0, rw (← c .grid .ensures .0, sub-zero) refl)
+loop-holds c = (omega arith, c .head-blocks .ensures .0, rw (← c .head-blocks .ensures .0, sub-zero) refl)
 
 listed-ok-requires : tie.Need-listed-ok-requires Inv-loop μ-loop
 listed-ok-requires c κs = (c .before .before .before .pre, omega (arith, c .before .loop .inv .1))
@@ -29,7 +29,7 @@ listed-ok-requires c κs = (c .before .before .before .pre, omega (arith, c .bef
 returns : tie.Need-returns Inv-loop μ-loop
 returns c =
     let l = c .before .before .before .loop in
-    let t : l .k < c .before .before .before .before .grid .result = omega arith in
+    let t : l .k < c .before .before .before .before .head-blocks .result = omega arith in
     sym (wrong-here _ _ _ t (failed (c .before .listed-ok .ensures) (c .if1 .taken))) ∙ l .inv .2
 
 add-k : tie.Need-add-k Inv-loop μ-loop
@@ -41,13 +41,13 @@ loop-less c = search needs
 loop-again : tie.Need-loop-again Inv-loop μ-loop
 loop-again c =
     let l = c .before .before .before .loop in
-    let t : l .k < c .before .before .before .before .grid .result = omega arith in
+    let t : l .k < c .before .before .before .before .head-blocks .result = omega arith in
     (omega arith, l .inv .1, sym (wrong-next _ _ _ t (passed (c .before .listed-ok .ensures) (c .if1 .left))) ∙ l .inv .2)
 
 returns-2 : tie.Need-returns-2 Inv-loop μ-loop
 returns-2 c =
     let l = c .before .loop in
-    let t : c .before .before .grid .result ≤ l .k = omega arith in
+    let t : c .before .before .head-blocks .result ≤ l .k = omega arith in
     sym (wrong-none _ _ _ t) ∙ l .inv .2
 
 pub first-wrong-spec : {M : Type 1} → statement M
@@ -56,7 +56,7 @@ first-wrong-spec =
     (tie.spec
     Inv-loop
     μ-loop
-    grid-requires
+    head-blocks-requires
     loop-holds
     listed-ok-requires
     returns

@@ -4,7 +4,7 @@ use mathlib.Core.Path.{_≡_}
 use native.Mathlib.Omega.{arith}
 use borrow.Author.Needs.{needs}
 use Rattle.base.specs.Lists.{concatTo}
-use Rattle.heads.specs.Heads.{gridOf}
+use Rattle.log_head.specs.Heads.{headBlocks}
 use Rattle.log_writing.specs.Parts.{blockBytes}
 use Rattle.log_writing.proofs.Bytes.{sized-none, sized-more, sized-all}
 use lib.ListN.{length}
@@ -17,14 +17,14 @@ Inv-loop list n size₀ k₀ size k = (k ≤ n) × (size ≤ 13 + 5 * k) × (siz
 abbrev μ-loop : tie.MeasureT-loop
 μ-loop list n size₀ k₀ size k = n - k
 
-grid-requires : tie.Need-grid-requires Inv-loop μ-loop
-grid-requires c κs = c .pre .fine
+head-blocks-requires : tie.Need-head-blocks-requires Inv-loop μ-loop
+head-blocks-requires c κs = c .pre .fine
 
 loop-holds : tie.Need-loop-holds Inv-loop μ-loop
 loop-holds c = (omega arith, omega arith, sized-none _)
 
 block-size-requires : tie.Need-block-size-requires Inv-loop μ-loop
-block-size-requires c κs = let s = c .before .before .before in (omega (arith, s .pre .room, c .before .before .grid .ensures), omega (arith, c .before .before .grid .ensures))
+block-size-requires c κs = let s = c .before .before .before in (omega (arith, s .pre .room, c .before .before .head-blocks .ensures), omega (arith, c .before .before .head-blocks .ensures))
 
 add-size : tie.Need-add-size Inv-loop μ-loop
 add-size c = search needs
@@ -44,7 +44,7 @@ returns : tie.Need-returns Inv-loop μ-loop
 returns c =
     let l = c .before .loop in
     let s = c .before .before .before in
-    let e : l .k ≡ gridOf (s .args .head) = omega (arith, c .before .before .grid .ensures) in
+    let e : l .k ≡ headBlocks (s .args .head) = omega (arith, c .before .before .head-blocks .ensures) in
     sized-all _ _ _ (rw e at (l .inv .2))
 
 pub log-size-spec : {M : Type 1} → statement M
@@ -53,7 +53,7 @@ log-size-spec =
     (tie.spec
     Inv-loop
     μ-loop
-    grid-requires
+    head-blocks-requires
     loop-holds
     block-size-requires
     add-size

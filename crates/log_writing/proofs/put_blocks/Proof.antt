@@ -5,7 +5,7 @@ use native.Mathlib.Omega.{arith}
 use borrow.Author.Needs.{needs}
 use Rattle.put.specs.Put.{Put, put-none, put-then}
 use Rattle.base.specs.Lists.{concatTo, concatTo-more}
-use Rattle.heads.specs.Heads.{gridOf, entry}
+use Rattle.log_head.specs.Heads.{headBlocks, entry}
 use Rattle.log_writing.specs.Parts.{blockBytes}
 use lib.ListN.{length}
 use Rattle.log_writing.proofs.put_blocks.Statement.{statement}
@@ -17,8 +17,8 @@ Inv-loop out₀ at list n next₀ k₀ out next k = (k ≤ n) × (next ≤ 8 + 5
 abbrev μ-loop : tie.MeasureT-loop
 μ-loop out₀ at list n next₀ k₀ out next k = n - k
 
-grid-requires : tie.Need-grid-requires Inv-loop μ-loop
-grid-requires c κs = c .before .pre .1 .listed .fine
+head-blocks-requires : tie.Need-head-blocks-requires Inv-loop μ-loop
+head-blocks-requires c κs = c .before .pre .1 .listed .fine
 
 loop-holds : tie.Need-loop-holds Inv-loop μ-loop
 unfolding concatTo
@@ -29,8 +29,8 @@ put-block-requires c κs =
     let s = c .before .before .before .before .before in
     let l = c .before .before .loop in
     let p = s .pre .1 in
-    let t : l .k < gridOf (s .args .head) = omega (arith, c .before .before .before .grid .ensures) in (
-      (omega (arith, l .inv .1, c .before .before .before .grid .ensures), omega (arith, p .listed .room), omega (arith, p .listed .few)),
+    let t : l .k < headBlocks (s .args .head) = omega (arith, c .before .before .before .head-blocks .ensures) in (
+      (omega (arith, l .inv .1, c .before .before .before .head-blocks .ensures), omega (arith, p .listed .room), omega (arith, p .listed .few)),
       entry _ (p .listed .fine) _ _ _ _ (p .each _ t),
     )
 
@@ -57,8 +57,8 @@ returns : tie.Need-returns Inv-loop μ-loop
 returns c =
     let l = c .before .loop in
     let s = c .before .before .before .before in
-    let e : l .k ≡ gridOf (s .args .head) = omega (arith, c .before .before .grid .ensures) in
-    (rw e at (l .inv .3), omega (arith, l .inv .1, c .before .before .grid .ensures))
+    let e : l .k ≡ headBlocks (s .args .head) = omega (arith, c .before .before .head-blocks .ensures) in
+    (rw e at (l .inv .3), omega (arith, l .inv .1, c .before .before .head-blocks .ensures))
 
 pub put-blocks-spec : {M : Type 1} → statement M
 put-blocks-spec =
@@ -66,7 +66,7 @@ put-blocks-spec =
     (tie.spec
     Inv-loop
     μ-loop
-    grid-requires
+    head-blocks-requires
     loop-holds
     put-block-requires
     add-k

@@ -3,7 +3,7 @@ use native.Mathlib.Omega.{arith}
 use borrow.Author.Needs.{needs}
 use Rattle.log_writing.specs.Parts.{headBytes}
 use Rattle.put.specs.Put.{put-then}
-use Rattle.heads.specs.Heads.{headed}
+use Rattle.log_head.specs.Heads.{headed}
 use Rattle.log_writing.proofs.put_head.Statement.{statement}
 use Rattle.log_writing.proofs.put_head.Tie as tie
 

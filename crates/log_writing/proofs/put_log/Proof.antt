@@ -14,8 +14,8 @@ put-blocks-requires : tie.Need-put-blocks-requires
 unfolding headBytes
 put-blocks-requires c κs = (omega (arith, c .before .before .before .put-head .ensures .place), c .before .before .before .before .before .before .pre)
 
-grid-requires : tie.Need-grid-requires
-grid-requires c κs = c .before .before .before .before .before .before .before .before .before .before .pre .listed .fine
+head-blocks-requires : tie.Need-head-blocks-requires
+head-blocks-requires c κs = c .before .before .before .before .before .before .before .before .before .before .pre .listed .fine
 
 put-end-requires : tie.Need-put-end-requires
 put-end-requires c κs = search needs
@@ -29,7 +29,7 @@ returns c =
     let b = e .before .before .before .before .before in
     rw (log-parts _ _)
     (put-then (b .before .before .before .before .put-head .ensures)
-    (put-then (b .put-blocks .ensures .0) (rw (e .before .grid .ensures .0) at (e .put-end .ensures))))
+    (put-then (b .put-blocks .ensures .0) (rw (e .before .head-blocks .ensures .0) at (e .put-end .ensures))))
 
 pub put-log-spec : {M : Type 1} → statement M
 put-log-spec =
@@ -37,7 +37,7 @@ put-log-spec =
     (tie.spec
     put-head-requires
     put-blocks-requires
-    grid-requires
+    head-blocks-requires
     put-end-requires
     same-length
     returns)

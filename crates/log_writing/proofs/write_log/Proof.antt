@@ -2,7 +2,7 @@
 use mathlib.Core.Path.{refl, sym, _∙_}
 use borrow.Author.Needs.{needs}
 use borrow.Author.Tests.{eq-eqb, ne-eqb}
-use Rattle.log_writing.specs.Writing.{wrote}
+use Rattle.log_writing.specs.Writing.{writeLog}
 use Rattle.log_writing.proofs.Sound.{listed}
 use Rattle.log_writing.proofs.write_log.Statement.{statement}
 use Rattle.log_writing.proofs.write_log.Tie as tie
@@ -10,14 +10,14 @@ use Rattle.log_writing.proofs.write_log.Tie as tie
 list-refusal-requires : tie.Need-list-refusal-requires
 list-refusal-requires c κs = search needs
 
-refused-requires : tie.Need-refused-requires
-refused-requires c κs = search needs
+refused-write-requires : tie.Need-refused-write-requires
+refused-write-requires c κs = search needs
 
 returns : tie.Need-returns
-unfolding wrote
+unfolding writeLog
 returns c =
     let r = c .before .before .list-refusal .ensures in
-    rw (c .refused .ensures, ← r, ne-eqb _ 0 (c .before .if1 .taken)) refl
+    rw (c .refused-write .ensures, ← r, ne-eqb _ 0 (c .before .if1 .taken)) refl
 
 write-listed-requires : tie.Need-write-listed-requires
 write-listed-requires c κs = let e = c .before in listed _ _ (sym (e .before .list-refusal .ensures) ∙ e .if1 .left)
@@ -26,7 +26,7 @@ same-length : tie.Need-same-length
 same-length c = search needs
 
 returns-2 : tie.Need-returns-2
-unfolding wrote
+unfolding writeLog
 returns-2 c =
     let f = c .before .before in
     let e = f .before .before in
@@ -37,7 +37,7 @@ write-log-spec =
     tie.close
     (tie.spec
     list-refusal-requires
-    refused-requires
+    refused-write-requires
     returns
     write-listed-requires
     same-length

@@ -9,7 +9,7 @@ use denote.Ref.{now}
 use mir.Facts.{toZ-ofZ}
 use Rattle.order.specs.Vectors.{same?}
 use Rattle.probe.specs.Probe.{plus}
-use Rattle.probe.specs.Held.{point, offset}
+use Rattle.probe.specs.BestSoFar.{point, offset}
 use Rattle.probe.proofs.Looks.{Missing, missing-none, missing-hit, missing-more, missing-done}
 use Rattle.probe.proofs.is_in.Statement.{statement}
 use Rattle.probe.proofs.is_in.Tie as tie

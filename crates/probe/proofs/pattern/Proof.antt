@@ -3,9 +3,9 @@ use mathlib.Core.Path.{ap}
 use native.Mathlib.Omega.{arith}
 use borrow.Author.Needs.{needs}
 use denote.Ref.{now}
-use Rattle.search.specs.Weighing.{targetOf}
+use Rattle.search.specs.Target.{targetOf}
 use Rattle.probe.specs.Probe.{probe, around}
-use Rattle.probe.specs.Held.{seenOf, pairs}
+use Rattle.probe.specs.BestSoFar.{seenOf, pairs}
 use Rattle.probe.proofs.Probe.{fresh-none}
 use Rattle.probe.proofs.Looks.{holds-by}
 use Rattle.probe.proofs.pattern.Statement.{statement}

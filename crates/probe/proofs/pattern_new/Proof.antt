@@ -11,9 +11,9 @@ use mir.Syntax.{w32}
 use mir.Val.{toZ, ofZ}
 use mir.Facts.{toZ-ofZ}
 use Rattle.order.specs.Vectors.{Within}
-use Rattle.search.specs.Weighing.{targetOf}
+use Rattle.search.specs.Target.{targetOf}
 use Rattle.probe.specs.Probe.{around, times}
-use Rattle.probe.specs.Held.{point, offset, pairs}
+use Rattle.probe.specs.BestSoFar.{point, offset, pairs}
 use Rattle.probe.proofs.Probe.{within-more}
 use Rattle.probe.proofs.Looks.{Going, going-none, going-near, going-more, going-done}
 use Rattle.probe.proofs.pattern_new.Statement.{statement}
@@ -73,8 +73,8 @@ index-2-scaled-2 c = search needs
 scaled-requires-2 : tie.Need-scaled-requires-2 Inv-loop μ-loop
 scaled-requires-2 c κs = (omega arith, rw (toZ-ofZ (sfits-of (c .scaled-arg2 .given))) (small (c .before .before .before) .across))
 
-look-new-requires : tie.Need-look-new-requires Inv-loop μ-loop
-look-new-requires c κs =
+probe-new-requires : tie.Need-probe-new-requires Inv-loop μ-loop
+probe-new-requires c κs =
     let q = c .before .before .before .before .before .before .before .before .pre in
     let i = c .before .before .before .before .before .loop .inv in
     let g = i .2 in (
@@ -97,7 +97,7 @@ loop-again c =
     let i = c .before .before .before .before .before .before .loop .inv in (
       i .0,
       i .1,
-      going-more _ _ _ _ _ _ _ _ _ (i .2) _ (omega arith) (rw (down (c .before .before .before), across (c .before)) at (c .look-new .ensures)),
+      going-more _ _ _ _ _ _ _ _ _ (i .2) _ (omega arith) (rw (down (c .before .before .before), across (c .before)) at (c .probe-new .ensures)),
     )
 
 returns : tie.Need-returns Inv-loop μ-loop
@@ -120,7 +120,7 @@ pattern-new-spec =
     index-1-scaled-2
     index-2-scaled-2
     scaled-requires-2
-    look-new-requires
+    probe-new-requires
     add-i
     loop-less
     loop-again

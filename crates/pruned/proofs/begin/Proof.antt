@@ -7,7 +7,7 @@ use Rattle.order.proofs.Order.{first-still}
 use Rattle.frame.specs.Pictures.{pairOf}
 use Rattle.distortion.specs.Blocks.{distortion}
 use Rattle.search.proofs.Exhaustive.{still-passes}
-use Rattle.remaining.specs.Gathered.{passes}
+use Rattle.pruned_remaining.specs.Gathered.{candidateAt}
 use Rattle.pruned.proofs.begin.Statement.{statement}
 use Rattle.pruned.proofs.begin.Tie as tie
 
@@ -15,7 +15,7 @@ distortion-of-requires : tie.Need-distortion-of-requires
 distortion-of-requires c κs =
     let s = c .before .before in
     let r = s .pre .0 in
-    (s .pre, (omega arith, true-T (passes (s .args .b) 0) (still-passes (pairOf (now (s .args .older)) (now (s .args .newer)) (s .args .b .sizes)) _ _ _ (r .window) (r .placed .down) (r .placed .across))))
+    (s .pre, (omega arith, true-T (candidateAt (s .args .b) 0) (still-passes (pairOf (now (s .args .older)) (now (s .args .newer)) (s .args .b .sizes)) _ _ _ (r .window) (r .placed .down) (r .placed .across))))
 
 first-slot-requires : tie.Need-first-slot-requires
 first-slot-requires c κs = c .before .before .before .before .pre .0 .placed .paired .allowed

@@ -6,19 +6,19 @@ use borrow.Author.Needs.{needs}
 use lib.Count.{trailingZeros}
 use lib.Dec.{T}
 use Rattle.refusals.specs.Cross.{log2}
-use Rattle.refusals.specs.Refusals.{listed, listed-elim}
-use Rattle.pruning.specs.Prune.{halves}
+use Rattle.refusals.specs.Refusals.{blockSizeOk, block-size-elim}
+use Rattle.pruned_rule.specs.Prune.{halves}
 use Rattle.pruned.specs.Memory.{firstSlot}
 use Rattle.pruned.proofs.first_slot.Statement.{statement}
 use Rattle.pruned.proofs.first_slot.Tie as tie
 
-few : (n : ℕ) → T (listed n) → log2 n ≤ 4
+few : (n : ℕ) → T (blockSizeOk n) → log2 n ≤ 4
 unfolding trailingZeros
-few = listed-elim (λ n. log2 n ≤ 4) (omega arith) (omega arith) (omega arith)
+few = block-size-elim (λ n. log2 n ≤ 4) (omega arith) (omega arith) (omega arith)
 
-slot : (n : ℕ) → T (listed n) → 4 - log2 n ≡ firstSlot n
+slot : (n : ℕ) → T (blockSizeOk n) → 4 - log2 n ≡ firstSlot n
 unfolding halves trailingZeros
-slot = listed-elim (λ n. 4 - log2 n ≡ firstSlot n) refl refl refl
+slot = block-size-elim (λ n. 4 - log2 n ≡ firstSlot n) refl refl refl
 
 log2-window-requires : tie.Need-log2-window-requires
 log2-window-requires c κs = search needs

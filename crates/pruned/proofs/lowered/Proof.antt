@@ -4,8 +4,8 @@ use native.Mathlib.Omega.{arith}
 use borrow.Author.Needs.{needs}
 use denote.Ref.{now}
 use Rattle.distortion.specs.Blocks.{UpTo}
-use Rattle.remaining.specs.Gathered.{nearestOf}
-use Rattle.remaining.proofs.Listing.{nearest-mem}
+use Rattle.pruned_remaining.specs.Gathered.{nearestOf}
+use Rattle.pruned_remaining.proofs.Listing.{nearest-mem}
 use Rattle.full.specs.Full.{distortionOf}
 use Rattle.pruned.proofs.lowered.Statement.{statement}
 use Rattle.pruned.proofs.lowered.Tie as tie
@@ -16,14 +16,14 @@ nearest-requires c κs = search needs
 distortion-of-requires : tie.Need-distortion-of-requires
 distortion-of-requires c κs =
     let s = c .before .before .before in
-    let (i, l, e) = nearest-mem (now (s .args .alive)) (now (s .args .dist)) (s .args .r .count) (omega (arith, s .pre .1 .1)) in
+    let (i, l, e) = nearest-mem (now (s .args .remaining)) (now (s .args .dist)) (s .args .r .count) (omega (arith, s .pre .1 .1)) in
     let h = s .pre .1 .0 .each i l in
     rw (c .nearest .ensures, e) (s .pre .0, (h .0, h .1))
 
 -- the distortion of the nearest, as far as E goes
 near : (c : tie.After-distortion-of) →
     let a = c .before .before .before .before .args in
-    UpTo (a .r .bound) (distortionOf (now (a .older)) (now (a .newer)) (a .b) (nearestOf (now (a .alive)) (a .r .count) (now (a .dist)))) (c .distortion-of .result)
+    UpTo (a .r .bound) (distortionOf (now (a .older)) (now (a .newer)) (a .b) (nearestOf (now (a .remaining)) (a .r .count) (now (a .dist)))) (c .distortion-of .result)
 near c = rw (← c .before .nearest .ensures) (c .distortion-of .ensures .0)
 
 returns : tie.Need-returns

@@ -10,40 +10,40 @@ use denote.Ref.{now}
 use Rattle.base.specs.Picks.{pick}
 use Rattle.order.proofs.Order.{first-still}
 use Rattle.frame.specs.Pictures.{pairOf}
-use Rattle.squares.specs.Squares.{OwnSums}
-use Rattle.sums.specs.Area.{sums-of}
+use Rattle.pruned_subblocks.specs.Squares.{BlockSums}
+use Rattle.pruned_sums.specs.Area.{sums-of}
 use Rattle.search.proofs.Exhaustive.{still-passes}
 use Rattle.distortion.specs.Blocks.{distortion}
-use Rattle.pruning.proofs.Pruned.{still-attained}
-use Rattle.pruning.proofs.Search.{resolutions-divide}
-use Rattle.pruned.specs.Answer.{stillDistortion, pruning, chosen, prunedFound}
-use Rattle.distance.specs.Remaining.{distanceOf}
-use Rattle.remaining.specs.Gathered.{passes}
+use Rattle.pruned_rule.proofs.Pruned.{still-attained}
+use Rattle.pruned_rule.proofs.Search.{resolutions-divide}
+use Rattle.pruned.specs.Answer.{stillDistortion, pruning, chosen, prunedSearch}
+use Rattle.pruned_distance.specs.Remaining.{distanceOf}
+use Rattle.pruned_remaining.specs.Gathered.{candidateAt}
 use Rattle.full.specs.Full.{distortionOf}
-use Rattle.pruned.proofs.Blocks.{own-fillable, listed-power, few-rounds, two-least, safe-at}
-use Rattle.remaining.proofs.Listing.{gathered-few, gathered-long, gathered-listed, filled-is}
+use Rattle.pruned.proofs.Blocks.{block-fillable, block-size-power, few-rounds, two-least, safe-at}
+use Rattle.pruned_remaining.proofs.Listing.{gathered-few, gathered-long, gathered-listed, filled-is}
 use Rattle.pruned.proofs.State.{sift-done, level-done, level-wide}
 use Rattle.pruned.proofs.Rounds.{Going, going-start, going-some, going-few, going-room, going-divides, going-listed, going-more, going-done}
 use Rattle.pruned.proofs.search.Statement.{statement}
 use Rattle.pruned.proofs.search.Tie as tie
 
 abbrev Inv-loop : tie.InvT-loop
-Inv-loop older newer order b sums a alive₀ dist₀ n own total r₀ m₀ alive dist r m =
-    Going (stillDistortion (pairOf older newer (b .sizes)) (b .y) (b .x)) (distortionOf older newer b) (distanceOf older newer b) (b .sizes .n) (passes b) m alive dist r × (length (pick (passes b) 1089) ≡ total)
+Inv-loop older newer order b sums a remaining₀ dist₀ n blocksums total r₀ m₀ remaining dist r m =
+    Going (stillDistortion (pairOf older newer (b .sizes)) (b .y) (b .x)) (distortionOf older newer b) (distanceOf older newer b) (b .sizes .n) (candidateAt b) m remaining dist r × (length (pick (candidateAt b) 1089) ≡ total)
 
 abbrev μ-loop : tie.MeasureT-loop
-μ-loop older newer order b sums a alive₀ dist₀ n own total r₀ m₀ alive dist r m = m
+μ-loop older newer order b sums a remaining₀ dist₀ n blocksums total r₀ m₀ remaining dist r m = m
 
 -- ---- the newer block's own table
 
-own-window-requires : tie.Need-own-window-requires Inv-loop μ-loop
-own-window-requires c κs = search needs
+block-region-requires : tie.Need-block-region-requires Inv-loop μ-loop
+block-region-requires c κs = search needs
 
 slice-aggregate-fill-sums : tie.Need-slice-aggregate-fill-sums Inv-loop μ-loop
 slice-aggregate-fill-sums c = search needs
 
 fill-sums-requires : tie.Need-fill-sums-requires Inv-loop μ-loop
-fill-sums-requires c κs = rw (c .before .own-window .ensures) (own-fillable _ _ _ (c .before .before .before .before .before .before .pre .0 .ready))
+fill-sums-requires c κs = rw (c .before .block-region .ensures) (block-fillable _ _ _ (c .before .before .before .before .before .before .pre .0 .ready))
 
 abbrev start : tie.After-fill-sums Inv-loop μ-loop → tie.Start Inv-loop μ-loop
 start c = c .before .before .before .before .before .before .before
@@ -52,10 +52,10 @@ start c = c .before .before .before .before .before .before .before
 abbrev tabled : tie.At-loop Inv-loop μ-loop → tie.After-fill-sums Inv-loop μ-loop
 tabled c = c .before .before .before .before .before .before .before .before .before .before .before .before
 
-own-sums : (c : tie.After-fill-sums Inv-loop μ-loop) →
+block-sums : (c : tie.After-fill-sums Inv-loop μ-loop) →
     let a = start c .args in
-    OwnSums (now (a .newer)) (a .b) (c .fill-sums .last .1 .1 .1 .0)
-own-sums c = sums-of _ _ _ _ _ (rw (c .before .before .own-window .ensures) at (c .fill-sums .ensures))
+    BlockSums (now (a .newer)) (a .b) (c .fill-sums .last .1 .1 .1 .0)
+block-sums c = sums-of _ _ _ _ _ (rw (c .before .before .block-region .ensures) at (c .fill-sums .ensures))
 
 -- ---- the steps
 
@@ -83,7 +83,7 @@ fill-distances-requires c κs =
         table = l .table;
         listed = gathered-listed _ (c .before .before .before .before .gather .ensures) refl;
       },
-      own-sums o,
+      block-sums o,
     )
 
 sifted-requires : tie.Need-sifted-requires Inv-loop μ-loop
@@ -104,7 +104,7 @@ loop-holds c =
       going-start _ _ _ _ refl a f _
           (λ h e. rw (t .1) (sift-done _ _ h e (omega (arith, h .long, gathered-few _ a, f .count)) (omega (arith, f .slot)) (rw (f .count) d) (t .0))) (d .long)
           (still-attained _ _ _ _ (still-passes p _ _ _ (r .window) (r .placed .down) (r .placed .across)) (ap (distortion p _ _) first-still)) (safe-at p _ _ _ (dvd-refl _))
-          (λ i k. resolutions-divide _ (listed-power _ (r .placed .paired .allowed)) i (List·Memᴰ·tail k)) (few-rounds _ (r .placed .paired .allowed)),
+          (λ i k. resolutions-divide _ (block-size-power _ (r .placed .paired .allowed)) i (List·Memᴰ·tail k)) (few-rounds _ (r .placed .paired .allowed)),
       sym (a .many),
     )
 
@@ -128,7 +128,7 @@ level-requires c κs =
         table = l .table;
         listed = going-listed g;
       },
-      own-sums (tabled i),
+      block-sums (tabled i),
       going-some g,
       omega (arith, going-room g h),
     )
@@ -159,7 +159,7 @@ finish-requires c κs =
     ((s .pre .0 .ready, s .pre .1), (going-listed (l .0), going-some (l .0), omega (arith, l .0 .slots), omega (arith, going-few (l .0), l .1), few))
 
 returns : tie.Need-returns Inv-loop μ-loop
-unfolding prunedFound chosen pruning
+unfolding prunedSearch chosen pruning
 returns c =
     let l = c .before .before .before .loop .inv in
     c .finish .ensures ∙ going-done (l .0) _ (omega (arith, c .before .before .loop-test .left)) (l .1)
@@ -170,7 +170,7 @@ search-spec =
     (tie.spec
     Inv-loop
     μ-loop
-    own-window-requires
+    block-region-requires
     slice-aggregate-fill-sums
     fill-sums-requires
     gather-requires

@@ -2,21 +2,21 @@
 use mathlib.Core.Path.{_≡_, sym}
 use borrow.Author.Needs.{needs}
 use Rattle.base.specs.Tests.{passed, failed}
-use Rattle.refusals.specs.Refusals.{unless, placeOk, placedRefusal, first-some, first-none}
+use Rattle.refusals.specs.Refusals.{unless, placeOk, placedRefusal, first-refusal-some, first-refusal-none}
 use Rattle.refusals.proofs.placed_refusal.Statement.{statement}
 use Rattle.refusals.proofs.placed_refusal.Tie as tie
 
 -- past the pair's chain
 rest : (d : tie.Else1) → let a = d .before .before .args in placedRefusal (a .older) (a .newer) (a .s) (a .y) (a .x) ≡ unless (placeOk (a .s) (a .y) (a .x)) 7 0
 unfolding placedRefusal
-rest d = rw (← (d .before .pair-refusal .ensures)) (first-none _ _ (d .if1 .left))
+rest d = rw (← (d .before .pair-refusal .ensures)) (first-refusal-none _ _ (d .if1 .left))
 
 pair-refusal-requires : tie.Need-pair-refusal-requires
 pair-refusal-requires c κs = search needs
 
 returns : tie.Need-returns
 unfolding placedRefusal
-returns c = rw (← (c .before .pair-refusal .ensures)) (sym (first-some _ _ (c .if1 .taken)))
+returns c = rw (← (c .before .pair-refusal .ensures)) (sym (first-refusal-some _ _ (c .if1 .taken)))
 
 place-ok-requires : tie.Need-place-ok-requires
 place-ok-requires c κs = search needs

@@ -2,7 +2,7 @@
 use mathlib.Core.Path.{_≡_, ap, sym, _∙_}
 use borrow.Author.Needs.{needs}
 use Rattle.base.specs.Tests.{passed, failed}
-use Rattle.refusals.specs.Refusals.{unless, searchOk, windowOk, thresholdOk, pairRefusal, requestRefusal, sizesOf, first-some, first-none}
+use Rattle.refusals.specs.Refusals.{unless, searchOk, windowOk, thresholdOk, pairRefusal, requestRefusal, sizesOf, first-refusal-some, first-refusal-none}
 use Rattle.refusals.proofs.request_refusal.Statement.{statement}
 use Rattle.refusals.proofs.request_refusal.Tie as tie
 
@@ -15,7 +15,7 @@ rest : (d : tie.Else1) →
     requestRefusal (a .older) (a .newer) (a .q)
     ≡ unless (searchOk (a .q .search)) 4 (unless (windowOk (a .q .search) (a .q .w)) 5 (unless (thresholdOk (a .q .search) (a .q .t)) 6 0))
 unfolding requestRefusal
-rest d = rw (← (gave (d .before))) (first-none _ _ (d .if1 .left))
+rest d = rw (← (gave (d .before))) (first-refusal-none _ _ (d .if1 .left))
 
 sizes-of-requires : tie.Need-sizes-of-requires
 sizes-of-requires c κs = search needs
@@ -25,7 +25,7 @@ pair-refusal-requires c κs = search needs
 
 returns : tie.Need-returns
 unfolding requestRefusal
-returns c = rw (← (gave (c .before))) (sym (first-some _ _ (c .if1 .taken)))
+returns c = rw (← (gave (c .before))) (sym (first-refusal-some _ _ (c .if1 .taken)))
 
 search-ok-requires : tie.Need-search-ok-requires
 search-ok-requires c κs = search needs

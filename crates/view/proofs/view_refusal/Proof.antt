@@ -5,7 +5,7 @@ use native.Mathlib.Omega.{arith}
 use borrow.Author.Needs.{needs}
 use borrow.Author.Tests.{le-leb, lt-leb}
 use lib.Dec.{leb}
-use Rattle.refusals.specs.Refusals.{unless, Paired, paired, first-some, first-none}
+use Rattle.refusals.specs.Refusals.{unless, Paired, paired, first-refusal-some, first-refusal-none}
 use Rattle.view.specs.View.{rowOk, viewRefusal}
 use Rattle.view.proofs.view_refusal.Statement.{statement}
 use Rattle.view.proofs.view_refusal.Tie as tie
@@ -18,14 +18,14 @@ rest : (d : tie.Else1) →
     let a = d .before .before .args in
     viewRefusal (a .older) (a .newer) (a .s) (a .side) (a .row) (a .column) ≡ unless (leb (a .side) 1) 12 (unless (rowOk (a .s) (a .row) (a .column)) 7 0)
 unfolding viewRefusal
-rest d = rw (← (d .before .pair-refusal .ensures)) (first-none _ _ (d .if1 .left))
+rest d = rw (← (d .before .pair-refusal .ensures)) (first-refusal-none _ _ (d .if1 .left))
 
 pair-refusal-requires : tie.Need-pair-refusal-requires
 pair-refusal-requires c κs = search needs
 
 returns : tie.Need-returns
 unfolding viewRefusal
-returns c = rw (← (c .before .pair-refusal .ensures)) (sym (first-some _ _ (c .if1 .taken)))
+returns c = rw (← (c .before .pair-refusal .ensures)) (sym (first-refusal-some _ _ (c .if1 .taken)))
 
 sub-last : tie.Need-sub-last
 sub-last c = omega (arith, ok (c .before) .fitting)

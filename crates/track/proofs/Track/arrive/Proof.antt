@@ -10,26 +10,26 @@ use Rattle.track.proofs.Track.arrive.Statement.{statement}
 use Rattle.track.proofs.Track.arrive.Tie as tie
 
 -- a part comes back from its bits unchanged
-row : (c : tie.After-retreat) →
+row : (c : tie.After-minus-travel) →
     let s = c .before .before .before .args in
-    c .retreat .result ≡ movedBy (s .self .y) (negℤ (s .a .dy))
+    c .minus-travel .result ≡ movedBy (s .self .y) (negℤ (s .a .dy))
 row c =
     let s = c .before .before .before .args in
     let y = toZ-ofZ {w = w32} {z = s .self .y} (sfits-of (c .before .before .struct-told .given .1 .0 .1)) in
     let d = toZ-ofZ {w = w32} {z = s .a .dy} (sfits-of (c .before .struct-told2 .given .1 .0 .1)) in
-    c .retreat .ensures ∙ ap₂ (λ (p q : ℤ). movedBy p (negℤ q)) y d
+    c .minus-travel .ensures ∙ ap₂ (λ (p q : ℤ). movedBy p (negℤ q)) y d
 
-column : (c : tie.After-retreat2) →
+column : (c : tie.After-minus-travel2) →
     let s = c .before .before .before .before .before .before .before .before .before .args in
-    c .retreat2 .result ≡ movedBy (s .self .x) (negℤ (s .a .dx))
+    c .minus-travel2 .result ≡ movedBy (s .self .x) (negℤ (s .a .dx))
 column c =
     let s = c .before .before .before .before .before .before .before .before .before .args in
     let x = toZ-ofZ {w = w32} {z = s .self .x} (sfits-of (c .before .before .struct-told3 .given .1 .1 .0 .1)) in
     let d = toZ-ofZ {w = w32} {z = s .a .dx} (sfits-of (c .before .struct-told4 .given .1 .1 .0 .1)) in
-    c .retreat2 .ensures ∙ ap₂ (λ (p q : ℤ). movedBy p (negℤ q)) x d
+    c .minus-travel2 .ensures ∙ ap₂ (λ (p q : ℤ). movedBy p (negℤ q)) x d
 
-retreat-requires : tie.Need-retreat-requires
-retreat-requires c κs = search needs
+minus-travel-requires : tie.Need-minus-travel-requires
+minus-travel-requires c κs = search needs
 
 enum-known-y : tie.Need-enum-known-y
 enum-known-y c = search needs
@@ -37,15 +37,15 @@ enum-known-y c = search needs
 enum-told : tie.Need-enum-told
 enum-told c = search needs
 
-refused-step-requires : tie.Need-refused-step-requires
-refused-step-requires c κs = search needs
+unmoved-requires : tie.Need-unmoved-requires
+unmoved-requires c κs = search needs
 
 returns : tie.Need-returns
 unfolding arrived
-returns c = rw (← (row (c .before .before .before)), c .before .enum-told .given .1) (c .refused-step .ensures)
+returns c = rw (← (row (c .before .before .before)), c .before .enum-told .given .1) (c .unmoved .ensures)
 
-retreat-requires-2 : tie.Need-retreat-requires-2
-retreat-requires-2 c κs = search needs
+minus-travel-requires-2 : tie.Need-minus-travel-requires-2
+minus-travel-requires-2 c κs = search needs
 
 enum-known-x : tie.Need-enum-known-x
 enum-known-x c = search needs
@@ -53,8 +53,8 @@ enum-known-x c = search needs
 enum-told-2 : tie.Need-enum-told-2
 enum-told-2 c = search needs
 
-refused-step-requires-2 : tie.Need-refused-step-requires-2
-refused-step-requires-2 c κs = search needs
+unmoved-requires-2 : tie.Need-unmoved-requires-2
+unmoved-requires-2 c κs = search needs
 
 returns-2 : tie.Need-returns-2
 unfolding arrived
@@ -62,7 +62,7 @@ returns-2 c =
     let b = c .before .before .before in
     let d = b .before .before .before .before in
     rw (← (row (d .before .before)), d .y .given .1, ← (column b), c .before .enum-told2 .given .1)
-    (c .refused-step2 .ensures)
+    (c .unmoved2 .ensures)
 
 add-t7 : tie.Need-add-t7
 add-t7 c = search needs
@@ -86,15 +86,15 @@ pub arrive-spec : {M : Type 1} → statement M
 arrive-spec =
     tie.close
     (tie.spec
-    retreat-requires
+    minus-travel-requires
     enum-known-y
     enum-told
-    refused-step-requires
+    unmoved-requires
     returns
-    retreat-requires-2
+    minus-travel-requires-2
     enum-known-x
     enum-told-2
-    refused-step-requires-2
+    unmoved-requires-2
     returns-2
     add-t7
     returns-3)

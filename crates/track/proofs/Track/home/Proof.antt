@@ -3,7 +3,7 @@ use mathlib.Core.Path.{_≡_, ap, _∙_}
 use borrow.Author.Needs.{needs}
 use mir.Facts.{toZ-ofZ}
 use Rattle.base.specs.Tests.{passed, failed}
-use Rattle.track.specs.Track.{homed, inRange}
+use Rattle.track.specs.Track.{trackHome, inRange}
 use Rattle.track.proofs.Track.home.Statement.{statement}
 use Rattle.track.proofs.Track.home.Tie as tie
 
@@ -18,20 +18,20 @@ within-requires : tie.Need-within-requires
 within-requires c κs = search needs
 
 returns : tie.Need-returns
-unfolding homed
+unfolding trackHome
 returns c = rw (failed (row (c .before)) (c .if1 .taken))
 
 within-requires-2 : tie.Need-within-requires-2
 within-requires-2 c κs = search needs
 
 returns-2 : tie.Need-returns-2
-unfolding homed
+unfolding trackHome
 returns-2 c =
     let r = c .before .before in
     rw (passed (row (r .before)) (r .if1 .left), failed (column (c .before)) (c .if2 .taken))
 
 returns-3 : tie.Need-returns-3
-unfolding homed
+unfolding trackHome
 returns-3 c =
     let r = c .before .before in
     let s = r .before .before in

@@ -10,12 +10,12 @@ use lib.Dec.{leb}
 use lib.IntN.{ℤ}
 use Rattle.base.specs.Tests.{T-true}
 use Rattle.refusals.specs.declared.Request.{Request}
-use Rattle.refusals.specs.Refusals.{unless-zero, first-zero}
+use Rattle.refusals.specs.Refusals.{unless-zero, first-refusal-zero}
 use Rattle.field.specs.declared.FieldAnswer.{FieldAnswer}
-use Rattle.field.specs.Field.{fieldRefusal, asFielded, fielded}
+use Rattle.field.specs.Field.{fieldRefusal, fieldResult, field}
 use Rattle.track.specs.declared.Track.{Track}
 use Rattle.track.specs.declared.Stepped.{Stepped}
-use Rattle.track.specs.Track.{stepRefusal, stepRefusalIs, refusedStep, asStepping, arrived, landed, stepped, step-refused, step-landed}
+use Rattle.track.specs.Track.{stepRefusal, stepRefusalIs, unmoved, stepResult, arrived, landed, trackStep, step-refused, step-landed}
 use Rattle.track.proofs.Track.step.Statement.{statement}
 use Rattle.track.proofs.Track.step.Tie as tie
 
@@ -23,24 +23,24 @@ use Rattle.track.proofs.Track.step.Tie as tie
 few-steps : (t : Track) (older newer : ℕ) (q : Request) (list table : ℕ) → stepRefusal t older newer q list table ≡ 0 → t .steps < 1000000
 unfolding stepRefusal
 few-steps t older newer q list table e =
-    let a = first-zero (fieldRefusal older newer q list table) _ e in
+    let a = first-refusal-zero (fieldRefusal older newer q list table) _ e in
     let b = unless-zero (t .homed) 30 _ (a .1) in
     let c = unless-zero (not (leb 1000000 (t .steps))) 31 0 (b .1) in
     leb-false 1000000 (t .steps) (not-true (leb 1000000 (t .steps)) (T-true (not (leb 1000000 (t .steps))) (c .0)))
 
 module _ (t : Track) (older newer : List ℕ) (q : Request) (list : List ℤ) (table : List ℕ) where
   -- a refusal
-  stops : (n : ℕ) (s : Stepped) → n ≡ stepRefusalIs t older newer q list table → (n ≡ 0 → ⊥) → s ≡ refusedStep n t
-      → asStepping s list table ≡ stepped t older newer q list table
+  stops : (n : ℕ) (s : Stepped) → n ≡ stepRefusalIs t older newer q list table → (n ≡ 0 → ⊥) → s ≡ unmoved n t
+      → stepResult s list table ≡ trackStep t older newer q list table
   stops n s e h r =
-      ap (λ (u : Stepped). asStepping u list table) (r ∙ ap (λ (k : ℕ). refusedStep k t) e) ∙ sym (step-refused t older newer q list table (λ z. h (e ∙ z)))
+      ap (λ (u : Stepped). stepResult u list table) (r ∙ ap (λ (k : ℕ). unmoved k t) e) ∙ sym (step-refused t older newer q list table (λ z. h (e ∙ z)))
 
   -- the field's answer with what list and table then hold, and the new place
   arrives : (a : FieldAnswer) (filled : List ℤ) (sums : List ℕ) (s : Stepped)
-      → stepRefusalIs t older newer q list table ≡ 0 → asFielded a filled sums ≡ fielded older newer q list table → s ≡ arrived t a
-      → asStepping s filled sums ≡ stepped t older newer q list table
+      → stepRefusalIs t older newer q list table ≡ 0 → fieldResult a filled sums ≡ field older newer q list table → s ≡ arrived t a
+      → stepResult s filled sums ≡ trackStep t older newer q list table
   arrives a filled sums s z f e =
-      ap (λ (u : Stepped). asStepping u filled sums) e ∙ ap (landed t) f ∙ sym (step-landed t older newer q list table z)
+      ap (λ (u : Stepped). stepResult u filled sums) e ∙ ap (landed t) f ∙ sym (step-landed t older newer q list table z)
 
 -- past the chain
 zero-is : (e : tie.Else1) →
@@ -51,13 +51,13 @@ zero-is e = sym (e .before .step-refusal .ensures) ∙ e .if1 .left
 step-refusal-requires : tie.Need-step-refusal-requires
 step-refusal-requires c κs = search needs
 
-refused-step-requires : tie.Need-refused-step-requires
-refused-step-requires c κs = search needs
+unmoved-requires : tie.Need-unmoved-requires
+unmoved-requires c κs = search needs
 
 returns : tie.Need-returns
 returns c =
     let i = c .before in
-    stops _ _ _ _ _ _ _ _ (i .before .step-refusal .ensures) (i .if1 .taken) (c .refused-step .ensures)
+    stops _ _ _ _ _ _ _ _ (i .before .step-refusal .ensures) (i .if1 .taken) (c .unmoved .ensures)
 
 field-requires : tie.Need-field-requires
 field-requires c κs = search needs
@@ -82,7 +82,7 @@ step-spec =
     tie.close
     (tie.spec
     step-refusal-requires
-    refused-step-requires
+    unmoved-requires
     returns
     field-requires
     arrive-requires

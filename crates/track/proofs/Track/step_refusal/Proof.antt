@@ -4,7 +4,7 @@ use mathlib.Core.Bool.{not}
 use borrow.Author.Needs.{needs}
 use borrow.Author.Tests.{le-leb, lt-leb, not-true, not-false}
 use lib.Dec.{leb}
-use Rattle.refusals.specs.Refusals.{unless, first-some, first-none}
+use Rattle.refusals.specs.Refusals.{unless, first-refusal-some, first-refusal-none}
 use Rattle.track.specs.Track.{stepRefusal}
 use Rattle.track.proofs.Track.step_refusal.Statement.{statement}
 use Rattle.track.proofs.Track.step_refusal.Tie as tie
@@ -14,14 +14,14 @@ rest : (d : tie.Else1) →
     let a = d .before .before .args in
     stepRefusal (a .self) (a .older) (a .newer) (a .q) (a .list) (a .table) ≡ unless (a .self .homed) 31 (unless (not (leb 1000000 (a .self .steps))) 32 0)
 unfolding stepRefusal
-rest d = rw (← (d .before .field-refusal .ensures)) (first-none _ _ (d .if1 .left))
+rest d = rw (← (d .before .field-refusal .ensures)) (first-refusal-none _ _ (d .if1 .left))
 
 field-refusal-requires : tie.Need-field-refusal-requires
 field-refusal-requires c κs = search needs
 
 returns : tie.Need-returns
 unfolding stepRefusal
-returns c = rw (← (c .before .field-refusal .ensures)) (sym (first-some _ _ (c .if1 .taken)))
+returns c = rw (← (c .before .field-refusal .ensures)) (sym (first-refusal-some _ _ (c .if1 .taken)))
 
 returns-2 : tie.Need-returns-2
 returns-2 c =

@@ -1,0 +1,19 @@
+-- `grid`: the sizes of an accepted head fit.
+use mathlib.Core.Path.{refl}
+use borrow.Author.Needs.{needs}
+use Rattle.frame.specs.Grid.{blocks-few}
+use Rattle.log_head.specs.Heads.{sizesIn, headed}
+use Rattle.log_head.proofs.head_blocks.Statement.{statement}
+use Rattle.log_head.proofs.head_blocks.Tie as tie
+
+sizes-in-requires : tie.Need-sizes-in-requires
+sizes-in-requires c κs = search needs
+
+block-count-requires : tie.Need-block-count-requires
+block-count-requires c κs = rw (c .sizes-in .ensures) (headed _ (c .before .pre) .fitting)
+
+returns : tie.Need-returns
+returns c = let h = c .before .before .args .h in let e = c .before .before .pre in rw (c .block-count .ensures, c .before .sizes-in .ensures) (refl, blocks-few (sizesIn h) (headed h e .fitting))
+
+pub head-blocks-spec : {M : Type 1} → statement M
+head-blocks-spec = tie.close (tie.spec sizes-in-requires block-count-requires returns)

@@ -1,0 +1,81 @@
+-- `head_refusal`: the tests in the chain's order; what each return passed rewrites the chain down to its number.
+use mathlib.Core.Path.{_≡_, ap, _∙_}
+use borrow.Author.Needs.{needs}
+use mathlib.Core.Bool.{true}
+use Rattle.base.specs.Tests.{passed, failed}
+use Rattle.log_head.specs.Heads.{headRefusal, sizesIn}
+use Rattle.refusals.specs.Refusals.{sideOk, blockOk, searchOk}
+use Rattle.log_head.proofs.head_refusal.Statement.{statement}
+use Rattle.log_head.proofs.head_refusal.Tie as tie
+
+-- what was passed on the way, in the chain's words
+wide : (d : tie.Else1) → sideOk (d .before .before .args .h .width) ≡ true
+wide d = passed (d .before .side-ok .ensures) (d .if1 .left)
+
+high : (d : tie.Else2) → sideOk (d .before .before .before .before .args .h .height) ≡ true
+high d = passed (d .before .side-ok2 .ensures) (d .if2 .left)
+
+fits : (d : tie.Else3) → blockOk (sizesIn (d .before .before .before .before .before .before .before .args .h)) ≡ true
+fits d = passed (d .before .block-ok .ensures ∙ ap blockOk (d .before .before .sizes-in .ensures)) (d .if3 .left)
+
+side-ok-requires : tie.Need-side-ok-requires
+side-ok-requires c κs = search needs
+
+returns : tie.Need-returns
+unfolding headRefusal
+returns c = rw (failed (c .before .side-ok .ensures) (c .if1 .taken))
+
+side-ok-requires-2 : tie.Need-side-ok-requires-2
+side-ok-requires-2 c κs = search needs
+
+returns-2 : tie.Need-returns-2
+unfolding headRefusal
+returns-2 c = rw (wide (c .before .before), failed (c .before .side-ok2 .ensures) (c .if2 .taken))
+
+sizes-in-requires : tie.Need-sizes-in-requires
+sizes-in-requires c κs = search needs
+
+block-ok-requires : tie.Need-block-ok-requires
+block-ok-requires c κs = search needs
+
+returns-3 : tie.Need-returns-3
+unfolding headRefusal
+returns-3 c = let d = c .before .before .before in rw (wide (d .before .before), high d, failed (c .before .block-ok .ensures ∙ ap blockOk (c .before .before .sizes-in .ensures)) (c .if3 .taken))
+
+search-ok-requires : tie.Need-search-ok-requires
+search-ok-requires c κs = search needs
+
+window-ok-requires : tie.Need-window-ok-requires
+window-ok-requires c κs = search needs
+
+returns-4 : tie.Need-returns-4
+unfolding headRefusal
+returns-4 c = let s = c .before .before in let f = s .before in let d = f .before .before .before in rw (wide (d .before .before), high d, fits f, failed (s .search-ok .ensures) (c .if4 .taken))
+
+known : (d : tie.Else4) → searchOk (d .before .before .before .before .before .before .before .before .before .before .args .h .search) ≡ true
+known d = passed (d .before .before .search-ok .ensures) (d .if4 .left)
+
+returns-5 : tie.Need-returns-5
+unfolding headRefusal
+returns-5 c = let g = c .before in let w = g .before in let f = w .before .before in let d = f .before .before .before in rw (wide (d .before .before), high d, fits f, known g, failed (w .window-ok .ensures) (c .if5 .taken))
+
+returns-6 : tie.Need-returns-6
+unfolding headRefusal
+returns-6 c = let g = c .before in let w = g .before in let f = w .before .before in let d = f .before .before .before in rw (wide (d .before .before), high d, fits f, known g, passed (w .window-ok .ensures) (c .if5 .left))
+
+pub head-refusal-spec : {M : Type 1} → statement M
+head-refusal-spec =
+    tie.close
+    (tie.spec
+    side-ok-requires
+    returns
+    side-ok-requires-2
+    returns-2
+    sizes-in-requires
+    block-ok-requires
+    returns-3
+    search-ok-requires
+    window-ok-requires
+    returns-4
+    returns-5
+    returns-6)

@@ -1,0 +1,127 @@
+-- 01, "Log" and refusals 15 and 16: the rules for a head's numbers, and for what a block may be in a log with that head.
+--   sizesIn       the sizes of a head
+--   headRefusal   1 3 4 5: what turns head numbers away
+--   headOk        15 lets the head pass: "head that 1, 3, 4 or 5 would turn away"
+--   headBlocks        how many blocks the head's grid has
+--   entryOk       16, "block vector no candidate, distortion below 0 or over 255 × N²", of grid block k
+--   isStill       "a still block": (0,0) with distortion 0
+use Prim.Native.Nat.{ℕ, suc, _+_, _*_, _≤_, _<_}
+use mathlib.Core.Path.{_≡_, refl, sym}
+use mathlib.Core.Logic.{_⊎_, ⊎-elim}
+use native.Mathlib.Nat.{le-trans}
+use native.Mathlib.Omega.{arith}
+use borrow.Author.Tests.{le-leb, lt-leb, ne-eqb}
+use mathlib.Core.Bool.{Bool, true, false, _&&_}
+use lib.Dec.{T, leb, eqb, leb→le}
+use lib.IntN.{ℤ, pos, negsuc, natAbs}
+use Rattle.base.specs.Tests.{and-left, and-right, le-both, true-T}
+use Rattle.signed.specs.declared.Shifted.the-variants.{At, Outside}
+use Rattle.signed.specs.Int.{eqZ, up, dn}
+use Rattle.signed.specs.Values.{shiftedBy, shifted-is, shifted-not}
+use Rattle.order.specs.Vectors.{vec}
+use Rattle.frame.specs.declared.Sizes.{Sizes}
+use Rattle.frame.specs.Pictures.{sizes, Fitting, largestN, largestDistortion}
+use Rattle.frame.specs.Grid.{blocks, blockRow, blockColumn}
+use Rattle.frame.specs.Candidates.{candidate, candidate-yes}
+use Rattle.refusals.specs.Refusals.{unless, sideOk, blockSizeOk, blockOk, searchOk, windowOk, unless-zero, block-size-elim, fitting, window-small}
+use Rattle.log_head.specs.declared.Head.{Head}
+
+abbrev pub sizesIn : Head → Sizes
+sizesIn h = sizes (h .width) (h .height) (h .n)
+
+unfoldable pub headRefusal : Head → ℕ
+headRefusal h =
+    unless (sideOk (h .width) && sideOk (h .height)) 1
+    (unless (blockOk (sizesIn h)) 3
+    (unless (searchOk (h .search)) 4
+    (unless (windowOk (h .search) (h .w)) 5 0)))
+
+abbrev pub headOk : Head → Bool
+headOk h = eqb (headRefusal h) 0
+
+abbrev pub headBlocks : Head → ℕ
+headBlocks h = blocks (sizesIn h)
+
+abbrev pub distortionOk : ℕ → ℤ → Bool
+distortionOk n (pos d) = leb d (255 * (n * n))
+distortionOk n (negsuc d) = false
+
+unfoldable pub entryOk : Head → ℕ → ℤ → ℤ → ℤ → Bool
+entryOk h k dy dx distortion =
+    let s = sizesIn h in
+    candidate s (h .w) (blockRow s k) (blockColumn s k) (vec dy dx) && distortionOk (h .n) distortion
+
+unfoldable pub isStill : ℤ → ℤ → ℤ → Bool
+isStill dy dx distortion = eqZ dy (pos 0) && (eqZ dx (pos 0) && eqZ distortion (pos 0))
+
+-- ---- what an accepted head may go by
+
+-- its sizes fit, and all its numbers are small
+pub record Headed (h : Head) : Type 0 where
+  pub fitting : Fitting (sizesIn h)
+  pub size : h .n ≤ largestN
+  pub distortion : 255 * (h .n * h .n) ≤ largestDistortion
+  pub searching : h .search ≤ 4
+  pub window : h .w ≤ 16
+
+pub headed : (h : Head) → headRefusal h ≡ 0 → Headed h
+unfolding headRefusal
+headed h e =
+    let a = unless-zero (sideOk (h .width) && sideOk (h .height)) 0 _ e in
+    let b = unless-zero (blockOk (sizesIn h)) 2 _ (a .1) in
+    let c = unless-zero (searchOk (h .search)) 3 _ (b .1) in
+    let d = unless-zero (windowOk (h .search) (h .w)) 4 0 (c .1) in
+    let l = and-left (blockSizeOk (h .n)) (leb (h .n) (h .width) && leb (h .n) (h .height)) (b .0) in
+    record {
+      fitting = fitting (sizesIn h) (a .0) (b .0);
+      size = block-size-elim (λ n. n ≤ largestN) (omega arith) (omega arith) (omega arith) (h .n) l;
+      distortion = block-size-elim (λ n. 255 * (n * n) ≤ largestDistortion) (omega arith) (omega arith) (omega arith) (h .n) l;
+      searching = le-both 1 (h .search) (h .search) 4 (c .0) .1;
+      window = window-small (h .search) (h .w) (d .0);
+    }
+
+-- what an accepted block's numbers are
+pub record Entry (dy dx distortion : ℤ) : Type 0 where
+  pub down : natAbs dy ≤ 16
+  pub across : natAbs dx ≤ 16
+  pub above : dn distortion ≡ 0
+  pub most : up distortion ≤ largestDistortion
+
+pub entry : (h : Head) → headRefusal h ≡ 0 → (k : ℕ) (dy dx distortion : ℤ) → entryOk h k dy dx distortion ≡ true → Entry dy dx distortion
+unfolding entryOk
+entry h e k dy dx distortion ok =
+    let s = sizesIn h in
+    let g = headed h e in
+    let test = candidate s (h .w) (blockRow s k) (blockColumn s k) (vec dy dx) in
+    let t = true-T (test && distortionOk (h .n) distortion) ok in
+    let c = candidate-yes s (h .w) (blockRow s k) (blockColumn s k) (vec dy dx) (and-left test (distortionOk (h .n) distortion) t) in
+    let d = within distortion (and-right test (distortionOk (h .n) distortion) t) in
+    record {
+      down = le-trans (c .window .down) (g .window);
+      across = le-trans (c .window .across) (g .window);
+      above = d .0;
+      most = le-trans (d .1) (g .distortion);
+    }
+  where
+    within : (z : ℤ) → T (distortionOk (h .n) z) → (dn z ≡ 0) × (up z ≤ 255 * (h .n * h .n))
+    within (pos d) t = (refl, leb→le d (255 * (h .n * h .n)) t)
+    within (negsuc d) t = absurd t
+
+pub zero-is : (z : ℤ) → eqZ z (pos 0) ≡ eqb (natAbs z) 0
+zero-is (pos n) = refl
+zero-is (negsuc n) = sym (ne-eqb (suc n) 0 (λ e. omega arith))
+
+-- a distortion in range is 0 moved by it
+pub distortion-in : (n : ℕ) (z : ℤ) (m : ℕ) → shiftedBy 0 z (255 * (n * n)) ≡ At m → distortionOk n z ≡ true
+distortion-in n z m e = go z (shifted-is 0 z (255 * (n * n)) m e)
+  where
+    go : (y : ℤ) → (0 + up y ≡ m + dn y) × (m ≤ 255 * (n * n)) → distortionOk n y ≡ true
+    go (pos d) (q, h) = le-leb d (255 * (n * n)) (omega arith)
+    go (negsuc d) (q, h) = absurd (omega arith)
+
+pub distortion-out : (n : ℕ) (z : ℤ) → shiftedBy 0 z (255 * (n * n)) ≡ Outside → distortionOk n z ≡ false
+distortion-out n z e = go z (shifted-not 0 z (255 * (n * n)) e)
+  where
+    go : (y : ℤ) → (0 + up y < dn y) ⊎ (255 * (n * n) + dn y < 0 + up y) → distortionOk n y ≡ false
+    go (pos d) h = lt-leb d (255 * (n * n)) (⊎-elim (λ l. absurd (omega arith)) (λ l. omega arith) h)
+    go (negsuc d) h = refl

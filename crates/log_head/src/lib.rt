@@ -1,0 +1,99 @@
+// A log's head and blocks: the rules of document 01 for a head's numbers, and for what a block may be in a log with that head.
+
+ghost use mathlib.Core.Path.{_≡_};
+ghost use Prim.Native.Nat.{_≤_, _<_};
+ghost use Rattle.log_head.specs.Heads.{sizesIn, headRefusal, headBlocks, distortionOk, entryOk, isStill};
+use frame::Sizes;
+use signed::Shifted;
+
+// A head's numbers.
+#[repr(C)]
+pub struct Head {
+    pub width: usize,
+    pub height: usize,
+    pub n: usize,
+    pub w: usize,
+    pub search: u32,
+}
+
+// The sizes of a head.
+pub fn sizes_in(h: Head) -> Sizes
+    ensures { λ r. ⌜ r ≡ sizesIn h ⌝ }
+{
+    Sizes {
+        width: h.width,
+        height: h.height,
+        n: h.n,
+    }
+}
+
+// The first of 1 3 4 5 that applies to a head's numbers, or 0.
+pub fn head_refusal(h: Head) -> u32
+    ensures { λ r. ⌜ r ≡ headRefusal h ⌝ }
+{
+    if !refusals::side_ok(h.width) {
+        return 1;
+    }
+    if !refusals::side_ok(h.height) {
+        return 1;
+    }
+    if !refusals::block_ok(sizes_in(h)) {
+        return 3;
+    }
+    let search = refusals::search_ok(h.search);
+    let window = refusals::window_ok(h.search, h.w);
+    if !search {
+        return 4;
+    }
+    if !window {
+        return 5;
+    }
+    0
+}
+
+// How many blocks the head's grid has.
+pub fn head_blocks(h: Head) -> usize
+    requires { ⌜ headRefusal h ≡ 0 ⌝ }
+    ensures { λ r. ⌜ (r ≡ headBlocks h) × (r ≤ 1048576) ⌝ }
+{
+    frame::block_count(sizes_in(h))
+}
+
+// 16: 0 to 255 × N² is a distortion.
+fn distortion_ok(n: usize, distortion: i32) -> bool
+    requires { ⌜ n ≤ 1024 ⌝ }
+    ensures { λ r. ⌜ r ≡ distortionOk n distortion ⌝ }
+{
+    let at = signed::shift(0, distortion, 255 * (n * n));
+    match at {
+        Shifted::At(_) => true,
+        Shifted::Outside => false,
+    }
+}
+
+// 16: what grid block k may have: a candidate and its distortion.
+pub fn entry_ok(h: Head, k: usize, dy: i32, dx: i32, distortion: i32) -> bool
+    requires { ⌜ (headRefusal h ≡ 0) × (k < headBlocks h) ⌝ }
+    ensures { λ r. ⌜ r ≡ entryOk h k dy dx distortion ⌝ }
+{
+    let s = sizes_in(h);
+    let row = frame::block_row(s, k);
+    let column = frame::block_column(s, k);
+    if !frame::is_candidate(s, h.w, row, column, dy, dx) {
+        return false;
+    }
+    distortion_ok(h.n, distortion)
+}
+
+// (0,0) with distortion 0.
+pub fn is_still(dy: i32, dx: i32, distortion: i32) -> bool
+    ensures { λ r. ⌜ r ≡ isStill dy dx distortion ⌝ }
+{
+    if signed::magnitude(dy) != 0 {
+        return false;
+    }
+    if signed::magnitude(dx) != 0 {
+        return false;
+    }
+    signed::magnitude(distortion) == 0
+}

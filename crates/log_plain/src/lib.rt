@@ -1,0 +1,170 @@
+// One call of the walker for callers that have no enums: cursor and command as plain numbers, by value.
+
+ghost use mathlib.Core.Path.{_≡_};
+ghost use Rattle.log_plain.specs.Plain.{noHead, cursorOf, plainOf, answer, answerOf, walkFrom};
+use log::Command;
+use log::Cursor;
+use log::Phase;
+use log_head::Head;
+
+// Where a walk stands: the offset of the next command, and how far the walk is: 0 before the head, 1 among the blocks, 2 after the end,
+// any other number after a refusal. Head and blocks count among the blocks alone.
+#[repr(C)]
+pub struct Place {
+    pub at: usize,
+    pub phase: u32,
+    pub head: Head,
+    pub blocks: usize,
+}
+
+// What a call of the walker answers: the command's number 1 to 4 with its values, or a refusal with its place, and where the walk then
+// stands.
+#[repr(C)]
+pub struct Walked {
+    pub refusal: u32,
+    pub place: usize,
+    pub command: u32,
+    pub head: Head,
+    pub dy: i32,
+    pub dx: i32,
+    pub distortion: u32,
+    pub blocks: usize,
+    pub next: Place,
+}
+
+// A head of zeros.
+fn no_head() -> Head
+    ensures { λ r. ⌜ r ≡ noHead ⌝ }
+{
+    Head {
+        width: 0,
+        height: 0,
+        n: 0,
+        w: 0,
+        search: 0,
+    }
+}
+
+// The cursor that plain numbers stand for.
+fn cursor_of(p: Place) -> Cursor
+    ensures { λ r. ⌜ r ≡ cursorOf p ⌝ }
+{
+    let at = p.at;
+    let phase = p.phase;
+    let head = p.head;
+    match phase {
+        0 => Cursor {
+            at,
+            phase: Phase::Start,
+        },
+        1 => Cursor {
+            at,
+            phase: Phase::Body {
+                head,
+                blocks: p.blocks,
+            },
+        },
+        2 => Cursor {
+            at,
+            phase: Phase::Ended,
+        },
+        _ => Cursor {
+            at,
+            phase: Phase::Over,
+        },
+    }
+}
+
+// A cursor as plain numbers.
+fn plain_of(c: Cursor) -> Place
+    ensures { λ r. ⌜ r ≡ plainOf c ⌝ }
+{
+    let at = c.at;
+    let phase = c.phase;
+    match phase {
+        Phase::Start => Place {
+            at,
+            phase: 0,
+            head: no_head(),
+            blocks: 0,
+        },
+        Phase::Body { head, blocks } => Place {
+            at,
+            phase: 1,
+            head,
+            blocks,
+        },
+        Phase::Ended => Place {
+            at,
+            phase: 2,
+            head: no_head(),
+            blocks: 0,
+        },
+        Phase::Over => Place {
+            at,
+            phase: 3,
+            head: no_head(),
+            blocks: 0,
+        },
+    }
+}
+
+fn answer(
+    refusal: u32,
+    place: usize,
+    command: u32,
+    head: Head,
+    dy: i32,
+    dx: i32,
+    distortion: u32,
+    blocks: usize,
+    next: Place,
+) -> Walked
+    ensures { λ r. ⌜ r ≡ answer refusal place command head dy dx distortion blocks next ⌝ }
+{
+    Walked {
+        refusal,
+        place,
+        command,
+        head,
+        dy,
+        dx,
+        distortion,
+        blocks,
+        next,
+    }
+}
+
+// A command's number and values.
+fn answer_of(command: Command, next: Place) -> Walked
+    ensures { λ r. ⌜ r ≡ answerOf command next ⌝ }
+{
+    let said = log::command_number(command);
+    match command {
+        Command::Head(head) => answer(0, 0, said, head, 0, 0, 0, 0, next),
+        Command::Block { dy, dx, distortion } => answer(
+            0,
+            0,
+            said,
+            no_head(),
+            dy,
+            dx,
+            distortion,
+            0,
+            next,
+        ),
+        Command::Still => answer(0, 0, said, no_head(), 0, 0, 0, 0, next),
+        Command::End(blocks) => answer(0, 0, said, no_head(), 0, 0, 0, blocks, next),
+        Command::Refused { number, place } => answer(number, place, 0, no_head(), 0, 0, 0, 0, next),
+    }
+}
+
+// One call of the walker, from any place.
+pub fn walk_from(log: &[u8], p: Place) -> Walked
+    ensures { λ r. ⌜ r ≡ walkFrom (now (log .entry)) p ⌝ }
+{
+    let s = log::step_at(log, cursor_of(p));
+    let command = s.command;
+    let next = s.next;
+    answer_of(command, plain_of(next))
+}

@@ -1,0 +1,64 @@
+-- The walker loses no byte: what it hands out of an accepted log, put into bytes again, is the log. Each command's bytes are those at its offset.
+use Prim.Native.Nat.{ℕ, _+_}
+use mathlib.Core.Path.{_≡_, sym, ap, ap₂, _∙_}
+use mathlib.Core.List.{List, [], _∷_, _++_, flatMap}
+use native.Mathlib.Omega.{arith}
+use lib.ListN.{getD, drop}
+use lib.Seq.{drop-length}
+use Rattle.base.specs.Lists.{listTo}
+use Rattle.signed.specs.Values.{byte-of-signed}
+use Rattle.log_head.specs.declared.Head.{Head}
+use Rattle.log.specs.declared.Command.{Command}
+use Rattle.log.specs.declared.Command.the-variants as Cmd
+use Rattle.log.specs.Numbers.{be4}
+use Rattle.log.specs.Commands.{commandNumber, commandBytes}
+use Rattle.log_head.specs.Heads.{headBlocks}
+use Rattle.log.specs.Step.{headIn, dyAt, dxAt, distortionAt}
+use Rattle.log.specs.Walk.{walk, lastOf}
+use Rattle.base.specs.Fronts.{drop-front}
+use Rattle.log_walks.proofs.Bytes.{Bytes, byte-at, bytes-be2, bytes-be4}
+use Rattle.log_walks.proofs.Accepted.{AcceptedFrom, last, block, still, acceptedLog}
+
+module _ {log : List ℕ} (bytes : Bytes log) where
+  -- the bytes at an offset are those of the command there
+  block-bytes : (at : ℕ) → getD log at 0 ≡ 2
+      → listTo (λ i. getD log (at + i) 0) 5 ≡ commandBytes (Cmd.Block (dyAt log at) (dxAt log at) (distortionAt log at))
+  unfolding listTo
+  block-bytes at e =
+      let z : at + 0 ≡ at = omega arith in
+      let s : at + 3 + 1 ≡ at + 4 = omega arith in
+      rw (z, e, byte-of-signed (getD log (at + 1) 0) (byte-at bytes (at + 1)), byte-of-signed (getD log (at + 2) 0) (byte-at bytes (at + 2)))
+      (ap (λ (l : List ℕ). 2 ∷ getD log (at + 1) 0 ∷ getD log (at + 2) 0 ∷ l) (sym (bytes-be2 bytes (at + 3) ∙ rw s)))
+
+  still-bytes : (at : ℕ) → getD log at 0 ≡ 3 → listTo (λ i. getD log (at + i) 0) 1 ≡ commandBytes Cmd.Still
+  unfolding listTo
+  still-bytes at e =
+      let z : at + 0 ≡ at = omega arith in
+      rw (z, e)
+
+  end-bytes : (at blocks : ℕ) → getD log at 0 ≡ 4 → be4 log (at + 1) ≡ blocks → listTo (λ i. getD log (at + i) 0) 5 ≡ commandBytes (Cmd.End blocks)
+  unfolding listTo
+  end-bytes at blocks e f =
+      let z : at + 0 ≡ at = omega arith in
+      let a : at + 1 + 1 ≡ at + 2 = omega arith in
+      let b : at + 1 + 2 ≡ at + 3 = omega arith in
+      let c : at + 1 + 3 ≡ at + 4 = omega arith in
+      rw (z, e, ← f) (ap (_∷_ 4) (sym (bytes-be4 bytes (at + 1) ∙ rw (a, b, c))))
+
+  head-bytes : getD log 0 0 ≡ 1 → listTo (λ i. getD log (0 + i) 0) 8 ≡ commandBytes (Cmd.Head (headIn log 0))
+  unfolding listTo headIn
+  head-bytes e =
+      rw e (ap₂ (λ (x y : List ℕ). 1 ∷ x ++ y ++ (getD log 5 0 ∷ getD log 6 0 ∷ getD log 7 0 ∷ [])) (sym (bytes-be2 bytes 1)) (sym (bytes-be2 bytes 3)))
+
+  rest-bytes : {h : Head} {at k : ℕ} {cs : List Command} → AcceptedFrom log h at k cs → drop at log ≡ flatMap commandBytes cs
+  unfolding flatMap
+  rest-bytes {h} {at} (last e b f n) =
+      drop-front log at 5 0 (omega arith) ∙ ap₂ _++_ (end-bytes at (headBlocks h) b n) (rw f (drop-length log))
+  rest-bytes {at} (block l b f o t rest) = drop-front log at 5 0 f ∙ ap₂ _++_ (block-bytes at b) (rest-bytes rest)
+  rest-bytes {at} (still l b f rest) = drop-front log at 1 0 f ∙ ap₂ _++_ (still-bytes at b) (rest-bytes rest)
+
+pub sound : (log : List ℕ) → Bytes log → commandNumber (lastOf (walk log)) ≡ 34 → log ≡ flatMap commandBytes (walk log)
+unfolding flatMap
+sound log bytes e =
+    let a = acceptedLog log e in
+    drop-front log 0 8 0 (a .room) ∙ ap₂ _++_ (head-bytes bytes (a .begins)) (rest-bytes bytes (a .rest)) ∙ ap (flatMap commandBytes) (sym (a .whole))

@@ -1,0 +1,41 @@
+-- 01, "The four searches", search 2: "find the remaining vector of least distance (equals: preference order)", "drop each whose distance exceeds
+-- E". The candidates that remain, as places in the preference table, and the distance at m of each of them.
+--   placeOf      the place of a candidate's older block as an Origin counts; Reached: it stands at or behind that origin
+--   distanceOf   the distance at m of the candidate at place k of the preference table
+--   Tested       what working out the distances at m asks
+use Prim.Native.Nat.{ℕ, _+_, _-_, _*_, _/_, _≤_}
+use mathlib.Core.Path.{_≡_}
+use mathlib.Core.List.{List}
+use Rattle.order.specs.declared.Vector.{Vector}
+use Rattle.order.specs.Preference.{preferred}
+use Rattle.frame.specs.Candidates.{olderRow, olderColumn}
+use Rattle.distortion.specs.Blocks.{absolute, blockAt}
+use Rattle.pruned_rule.specs.Distance.{distanceBy}
+use Rattle.search.specs.declared.SearchBlock.{SearchBlock}
+use Rattle.search.specs.Target.{Ready, Past}
+use Rattle.pruned_remaining.specs.Gathered.{ListedCandidates}
+use Rattle.pruned_sums.specs.declared.Region.{Region}
+use Rattle.pruned_sums.specs.Area.{SumsOf}
+use Rattle.pruned_region.specs.Reach.{Covers}
+use Rattle.pruned_distance.specs.declared.Origin.{Origin}
+
+abbrev pub placeOf : Origin → Vector → ℕ
+placeOf o v = (olderRow (o .y) v - o .top) * o .stride + (olderColumn (o .x) v - o .left)
+
+pub record Reached (o : Origin) (v : Vector) : Type 0 where
+  pub row : Past (v .dy) (o .y) (o .top)
+  pub column : Past (v .dx) (o .x) (o .left)
+  pub narrow : o .stride ≤ 1025
+
+abbrev pub distanceOf : List ℕ → List ℕ → SearchBlock → ℕ → ℕ → ℕ
+distanceOf older newer b m k =
+    distanceBy absolute (b .sizes .n) m (blockAt newer (b .sizes .width) (b .y) (b .x))
+    (blockAt older (b .sizes .width) (olderRow (b .y) (preferred k)) (olderColumn (b .x) (preferred k)))
+
+pub record Tested (older newer : List ℕ) (b : SearchBlock) (sums : List ℕ) (a : Region) (m : ℕ) (remaining : List ℕ) (count : ℕ) : Type 0 where
+  pub ready : Ready older newer b
+  pub whole : b .sizes .n / m * m ≡ b .sizes .n
+  pub two : 2 ≤ m
+  pub covers : Covers b a
+  pub table : SumsOf (blockAt older (b .sizes .width) (a .top) (a .left)) (a .rows) (a .columns) sums
+  pub listed : ListedCandidates b remaining count

@@ -1,0 +1,199 @@
+// The tests of search 2: the distance at m of every remaining candidate, over the summed-area table of the older frame or of a part of it.
+
+ghost use mathlib.Core.Path.{_≡_};
+ghost use Prim.Native.Nat.{ℕ, _+_, _*_, _≤_, _<_};
+ghost use lib.ListN.{length, getD};
+ghost use Rattle.base.specs.Sum.{sumTo};
+ghost use Rattle.base.specs.Lists.{fillTo};
+ghost use Rattle.order.specs.Preference.{preference, preferred, flat};
+ghost use Rattle.distortion.specs.Blocks.{blockAt};
+ghost use Rattle.pruned_subblocks.specs.Squares.{BlockSums, Cut, differenceAt, Compared};
+ghost use Rattle.pruned_distance.specs.Remaining.{Reached, placeOf, distanceOf, Tested};
+use pruned_sums::Region;
+use search::SearchBlock;
+
+// Where the older blocks of a block's candidates stand: the block is at row y, column x, and places count from row `top` and column `left`
+// of the older frame, in rows of `stride`.
+pub struct Origin {
+    pub y: usize,
+    pub x: usize,
+    pub top: usize,
+    pub left: usize,
+    pub stride: usize,
+}
+
+// The place of the older block of the vector at place k of the preference table.
+fn place_of(order: &[i32; 2178], k: usize, o: Origin) -> usize
+    requires { ⌜ (now order ≡ flat preference) × (k < 1089) × Reached o (preferred k) ⌝ }
+    ensures { λ r. ⌜ r ≡ placeOf o (preferred k) ⌝ }
+{
+    let v = order::vector_at(order, k);
+    search::past(v.dy, o.y, o.top) * o.stride + search::past(v.dx, o.x, o.left)
+}
+
+// Each remaining candidate by itself.
+fn fill_few(
+    block: &[u32],
+    steps: &[usize],
+    sums: &[u32],
+    rowoffset: usize,
+    m: usize,
+    squares: usize,
+    order: &[i32; 2178],
+    o: Origin,
+    remaining: &[u16; 1089],
+    count: usize,
+    dist: &mut [u32; 1089],
+)
+    requires { ⌜ (now order ≡ flat preference) × (length (now dist) ≡ 1089) × (length (now remaining) ≡ 1089) × (count ≤ 1089) ⌝ }
+    requires { ⌜ ((i : ℕ) → i < count → (getD (now remaining) i 0 < 1089) × Reached o (preferred (getD (now remaining) i 0)) × Compared (now block) (now steps) (now sums) rowoffset m squares (placeOf o (preferred (getD (now remaining) i 0)))) ⌝ }
+    ensures { λ _. ⌜ now (dist .exit) ≡ fillTo (now (dist .entry)) 0 (λ i. sumTo (differenceAt (now (block .entry)) (now (steps .entry)) (now (sums .entry)) rowoffset m (placeOf o (preferred (getD (now (remaining .entry)) i 0)))) squares) count ⌝ }
+{
+    let mut i: usize = 0;
+    while i < count {
+        let at = place_of(order, pruned_remaining::wide(remaining[i]), o);
+        dist[i] = pruned_subblocks::distance_from(block, steps, sums, rowoffset, m, squares, at);
+        i += 1;
+    }
+}
+
+// Each remaining candidate from the distances of all older blocks.
+fn pick(
+    part: &[u32; 1089],
+    order: &[i32; 2178],
+    o: Origin,
+    remaining: &[u16; 1089],
+    count: usize,
+    dist: &mut [u32; 1089],
+)
+    requires { ⌜ (now order ≡ flat preference) × (length (now dist) ≡ 1089) × (length (now remaining) ≡ 1089) × (length (now part) ≡ 1089) × (count ≤ 1089) ⌝ }
+    requires { ⌜ ((i : ℕ) → i < count → (getD (now remaining) i 0 < 1089) × Reached o (preferred (getD (now remaining) i 0)) × (placeOf o (preferred (getD (now remaining) i 0)) < 1089)) ⌝ }
+    ensures { λ _. ⌜ now (dist .exit) ≡ fillTo (now (dist .entry)) 0 (λ i. getD (now (part .entry)) (placeOf o (preferred (getD (now (remaining .entry)) i 0))) 0) count ⌝ }
+{
+    let mut i: usize = 0;
+    while i < count {
+        dist[i] = part[place_of(order, pruned_remaining::wide(remaining[i]), o)];
+        i += 1;
+    }
+}
+
+// The remaining candidates where they are many: the distances of all older blocks in reach first.
+fn fill_many(
+    older: &[u8],
+    newer: &[u8],
+    order: &[i32; 2178],
+    b: SearchBlock,
+    sums: &[u32],
+    a: Region,
+    m: usize,
+    block: &[u32],
+    steps: &[usize],
+    k: usize,
+    remaining: &[u16; 1089],
+    count: usize,
+    dist: &mut [u32; 1089],
+)
+    requires { ⌜ (now order ≡ flat preference) × (length (now dist) ≡ 1089) × Tested (now older) (now newer) b (now sums) a m (now remaining) count ⌝ }
+    requires { ⌜ (k * m ≡ b .sizes .n) × Cut (blockAt (now newer) (b .sizes .width) (b .y) (b .x)) m k (a .columns + 1) (now block) (now steps) ⌝ }
+    ensures { λ _. ⌜ now (dist .exit) ≡ fillTo (now (dist .entry)) 0 (λ i. distanceOf (now (older .entry)) (now (newer .entry)) b m (getD (now (remaining .entry)) i 0)) count ⌝ }
+{
+    let y = b.y;
+    let x = b.x;
+    let stride = a.columns + 1;
+    let r = pruned_region::corner_region(b);
+    let top = r.top;
+    let left = r.left;
+    let rows = r.rows;
+    let columns = r.columns;
+    let at = (top - a.top) * stride + (left - a.left);
+    let mut part = [0u32; 1089];
+    pruned_spread::spread(
+        block,
+        steps,
+        sums,
+        m * stride,
+        m,
+        k * k,
+        at,
+        stride,
+        rows,
+        columns,
+        &mut part,
+    );
+    let o = Origin {
+        y,
+        x,
+        top,
+        left,
+        stride: columns,
+    };
+    pick(&part, order, o, remaining, count, dist);
+}
+
+// The distance at m of every remaining candidate. The frames stand for the contract alone: the older one's sums are read, and the newer block's own.
+pub fn fill_distances(
+    older: &[u8],
+    newer: &[u8],
+    order: &[i32; 2178],
+    b: SearchBlock,
+    sums: &[u32],
+    a: Region,
+    blocksums: &[u32],
+    m: usize,
+    remaining: &[u16; 1089],
+    count: usize,
+    dist: &mut [u32; 1089],
+)
+    requires { ⌜ (now order ≡ flat preference) × (length (now dist) ≡ 1089) × Tested (now older) (now newer) b (now sums) a m (now remaining) count
+        × BlockSums (now newer) b (now blocksums) ⌝ }
+    ensures { λ _. ⌜ now (dist .exit) ≡ fillTo (now (dist .entry)) 0 (λ i. distanceOf (now (older .entry)) (now (newer .entry)) b m (getD (now (remaining .entry)) i 0)) count ⌝ }
+{
+    let s = b.sizes;
+    let y = b.y;
+    let x = b.x;
+    let k = s.n / m;
+    let stride = a.columns + 1;
+    let mut block = [0u32; pruned_subblocks::MOST_SQUARES];
+    let mut steps = [0usize; pruned_subblocks::MOST_SQUARES];
+    pruned_subblocks::cut(newer, b, blocksums, m, k, stride, &mut block, &mut steps);
+    if count <= 256 {
+        let top = a.top;
+        let left = a.left;
+        let o = Origin {
+            y,
+            x,
+            top,
+            left,
+            stride,
+        };
+        fill_few(
+            &block,
+            &steps,
+            sums,
+            m * stride,
+            m,
+            k * k,
+            order,
+            o,
+            remaining,
+            count,
+            dist,
+        );
+    } else {
+        fill_many(
+            older,
+            newer,
+            order,
+            b,
+            sums,
+            a,
+            m,
+            &block,
+            &steps,
+            k,
+            remaining,
+            count,
+            dist,
+        );
+    }
+}

@@ -1,0 +1,57 @@
+-- The search window holds every candidate's older block, as all of the frame does; and its summed-area table has at most 49 × 49 places.
+use Prim.Native.Nat.{ℕ, _+_, _*_, _≤_}
+use mathlib.Core.List.{List}
+use native.Mathlib.Nat.{le-trans, mul-le-mul, mul-le-mul-right}
+use native.Mathlib.Omega.{arith}
+use lib.ListN.{length}
+use Rattle.refusals.specs.Refusals.{block-size-elim}
+use Rattle.frame.specs.Pictures.{largestN}
+use Rattle.search.specs.declared.SearchBlock.{SearchBlock}
+use Rattle.search.specs.Target.{Ready}
+use Rattle.pruned_sums.specs.Filling.{windowTable, Fillable}
+use Rattle.pruned_region.specs.Reach.{Standing, searchWindow, wholeFrame, Covers}
+
+pub covers-frame : (b : SearchBlock) → Covers b (wholeFrame (b .sizes))
+covers-frame b = record {
+  high = omega arith;
+  wide = omega arith;
+  above = λ r h. omega arith;
+  below = λ r h k. omega arith;
+  before = λ c h. omega arith;
+  behind = λ c h k. omega arith;
+}
+
+pub covers-window : (b : SearchBlock) → Standing b → Covers b (searchWindow b)
+unfolding searchWindow
+covers-window b s = record {
+  high = omega (arith, s .down);
+  wide = omega (arith, s .across);
+  above = λ r h. omega arith;
+  below = λ r h k. omega (arith, s .down);
+  before = λ c h. omega arith;
+  behind = λ c h k. omega (arith, s .across);
+}
+
+-- room for N + 2 w rows and columns
+pub window-fillable : (older : List ℕ) (b : SearchBlock) → Standing b → b .sizes .n ≤ largestN → b .sizes .height * b .sizes .width ≤ length older
+    → Fillable older (b .sizes .width) (searchWindow b) windowTable
+unfolding searchWindow
+window-fillable older b s n h =
+    let v = covers-window b s in
+    record {
+      across = v .wide;
+      down = le-trans (mul-le-mul-right (b .sizes .width) (v .high)) h;
+      wide = s .wide;
+      high = omega (arith, s .window, n);
+      table = mul-le-mul {n₂ = largestN + 32 + 1} {m₂ = largestN + 32 + 1} (omega (arith, s .window, n)) (omega (arith, s .window, n));
+    }
+
+-- a block that is ready to be searchBy
+module _ (older newer : List ℕ) (b : SearchBlock) (r : Ready older newer b) where
+  pub ready-standing : Standing b
+  ready-standing =
+      let p = r .placed in
+      record { down = p .down; across = p .across; high = p .paired .fitting .high; wide = p .paired .fitting .wide; window = r .window }
+
+  pub ready-size : b .sizes .n ≤ largestN
+  ready-size = block-size-elim (λ n. n ≤ largestN) (omega arith) (omega arith) (omega arith) (b .sizes .n) (r .placed .paired .allowed)

@@ -1,0 +1,50 @@
+-- 01, "Pictures, blocks, vectors": a vector "is a candidate for window w if both parts lie in -w..w and the older block is wholly inside its
+-- frame." Where in the older frame these blocks are.
+--   Standing     a block wholly inside a frame, with a window of at most 16
+--   cornerRegion      the rows and columns in which the corners of the candidates' older blocks stand
+--   searchWindow     the search window: the rows and columns of these blocks themselves
+--   wholeFrame   all of a frame
+--   Covers       a part of the older frame that holds the older block of every candidate
+use Prim.Native.Nat.{ℕ, _+_, _-_, _≤_, min}
+use Rattle.frame.specs.declared.Sizes.{Sizes}
+use Rattle.search.specs.declared.SearchBlock.{SearchBlock}
+use Rattle.pruned_sums.specs.declared.Region.{Region}
+
+pub record Standing (b : SearchBlock) : Type 0 where
+  pub down : b .y + b .sizes .n ≤ b .sizes .height
+  pub across : b .x + b .sizes .n ≤ b .sizes .width
+  pub high : b .sizes .height ≤ 1024
+  pub wide : b .sizes .width ≤ 1024
+  pub window : b .w ≤ 16
+
+unfoldable pub cornerRegion : SearchBlock → Region
+cornerRegion b =
+    let s = b .sizes in
+    record {
+      top = b .y - b .w;
+      left = b .x - b .w;
+      rows = min (b .y + b .w) (s .height - s .n) + 1 - (b .y - b .w);
+      columns = min (b .x + b .w) (s .width - s .n) + 1 - (b .x - b .w);
+    }
+
+unfoldable pub searchWindow : SearchBlock → Region
+searchWindow b =
+    let s = b .sizes in
+    record {
+      top = b .y - b .w;
+      left = b .x - b .w;
+      rows = min (b .y + b .w + s .n) (s .height) - (b .y - b .w);
+      columns = min (b .x + b .w + s .n) (s .width) - (b .x - b .w);
+    }
+
+abbrev pub wholeFrame : Sizes → Region
+wholeFrame s = record { top = 0; left = 0; rows = s .height; columns = s .width }
+
+-- a candidate's older block stands at a row r within w of y, a column c within w of x, inside the frame
+pub record Covers (b : SearchBlock) (a : Region) : Type 0 where
+  pub high : a .top + a .rows ≤ b .sizes .height
+  pub wide : a .left + a .columns ≤ b .sizes .width
+  pub above : (r : ℕ) → b .y ≤ r + b .w → a .top ≤ r
+  pub below : (r : ℕ) → r ≤ b .y + b .w → r + b .sizes .n ≤ b .sizes .height → r + b .sizes .n ≤ a .top + a .rows
+  pub before : (c : ℕ) → b .x ≤ c + b .w → a .left ≤ c
+  pub behind : (c : ℕ) → c ≤ b .x + b .w → c + b .sizes .n ≤ b .sizes .width → c + b .sizes .n ≤ a .left + a .columns

@@ -1,0 +1,78 @@
+-- `nearest`: the place of the first least distance so far is carried along.
+use Prim.Native.Nat.{_-_}
+use mathlib.Core.Logic.{⊎-elim}
+use mathlib.Core.Path.{_≡_, _∙_}
+use native.Mathlib.Omega.{arith}
+use borrow.Author.Needs.{needs}
+use Rattle.pruned_remaining.proofs.Turns.{Nearest, nearest-one, nearest-less, nearest-not, nearest-done}
+use Rattle.pruned_remaining.proofs.nearest.Statement.{statement}
+use Rattle.pruned_remaining.proofs.nearest.Tie as tie
+
+abbrev Inv-loop : tie.InvT-loop
+Inv-loop remaining count dist best₀ i₀ best i = Nearest dist count i best
+
+abbrev μ-loop : tie.MeasureT-loop
+μ-loop remaining count dist best₀ i₀ best i = count - i
+
+loop-holds : tie.Need-loop-holds Inv-loop μ-loop
+loop-holds c = nearest-one _ _ (search needs)
+
+mul-if1 : tie.Need-mul-if1 Inv-loop μ-loop
+mul-if1 c = search needs
+
+element-copy-out-if1 : tie.Need-element-copy-out-if1 Inv-loop μ-loop
+element-copy-out-if1 c = search needs
+
+mul-if1-2 : tie.Need-mul-if1-2 Inv-loop μ-loop
+mul-if1-2 c = search needs
+
+element-copy-out-if1-2 : tie.Need-element-copy-out-if1-2 Inv-loop μ-loop
+element-copy-out-if1-2 c = search needs
+
+add-i : tie.Need-add-i Inv-loop μ-loop
+add-i c = search needs
+
+loop-less : tie.Need-loop-less Inv-loop μ-loop
+loop-less c = search needs
+
+loop-again : tie.Need-loop-again Inv-loop μ-loop
+loop-again c =
+    let l = c .before .before .before .before .loop in
+    ⊎-elim
+    (λ w. rw (w .1) (nearest-less (l .inv) (c .before .before .before .loop-test .taken) (w .0 .taken)))
+    (λ w. rw (w .1) (nearest-not (l .inv) (c .before .before .before .loop-test .taken) (w .0 .left)))
+    (c .if1 .came)
+
+mul-wide : tie.Need-mul-wide Inv-loop μ-loop
+mul-wide c = search needs
+
+element-copy-out-wide : tie.Need-element-copy-out-wide Inv-loop μ-loop
+element-copy-out-wide c = search needs
+
+wide-requires : tie.Need-wide-requires Inv-loop μ-loop
+wide-requires c κs = search needs
+
+returns : tie.Need-returns Inv-loop μ-loop
+returns c =
+    let l = c .before .before .before .loop in
+    let e : l .i ≡ c .before .before .before .before .args .count = omega arith in
+    c .wide .ensures ∙ nearest-done _ (rw e at (l .inv))
+
+pub nearest-spec : {M : Type 1} → statement M
+nearest-spec =
+    tie.close
+    (tie.spec
+    Inv-loop
+    μ-loop
+    loop-holds
+    mul-if1
+    element-copy-out-if1
+    mul-if1-2
+    element-copy-out-if1-2
+    add-i
+    loop-less
+    loop-again
+    mul-wide
+    element-copy-out-wide
+    wide-requires
+    returns)

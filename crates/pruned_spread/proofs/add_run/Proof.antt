@@ -1,0 +1,122 @@
+-- `add_run`: after c turns the first c places have their difference added (`Raising`).
+use Prim.Native.Nat.{_+_, _-_, _*_, _≤_}
+use mathlib.Core.Path.{_≡_}
+use native.Mathlib.Omega.{arith}
+use borrow.Author.Needs.{needs}
+use denote.Ref.{now}
+use lib.ListN.{getD}
+use Rattle.signed.specs.Values.{absDiff}
+use Rattle.pruned_subblocks.specs.Squares.{largestSquareSum, mostSquares, squareSumAt, HasSquare}
+use Rattle.pruned_spread.proofs.Adding.{Raising, raising-none, raising-read, raising-step}
+use Rattle.pruned_spread.proofs.add_run.Statement.{statement}
+use Rattle.pruned_spread.proofs.add_run.Tie as tie
+
+-- `add_run`: after c turns the first c places have their difference added; the next still holds what it held.
+
+abbrev Inv-loop : tie.InvT-loop
+Inv-loop sums rowoffset m at value columns part₀ from c₀ part c =
+    Raising (λ j. absDiff value (squareSumAt sums rowoffset m (at + j))) columns part₀ part from c
+
+abbrev μ-loop : tie.MeasureT-loop
+μ-loop sums rowoffset m at value columns part₀ from c₀ part c = columns - c
+
+-- the square of a turn, and the place that its difference is added to
+here : (b : tie.In-loop Inv-loop μ-loop) →
+    let a = b .before .before .before .before .args in
+    HasSquare (now (a .sums)) (a .rowoffset) (a .m) (a .at + b .before .loop .c) × (getD (b .before .loop .part) (a .from + b .before .loop .c) 0 ≤ mostSquares * largestSquareSum)
+here b =
+    let l = b .before .loop in
+    let s = b .before .before .before .before in
+    let h = s .pre .1 (l .c) (b .loop-test .taken) in
+    (h .0, rw (raising-read _ _ _ _ (s .pre .0 .1) _ _ (l .inv)) (h .1))
+
+-- the difference of a turn
+turn : (c : tie.After-abs-diff-u32 Inv-loop μ-loop) →
+    let b = c .before .before .before in
+    let a = b .before .before .before .before .args in
+    (c .abs-diff-u32 .result ≡ absDiff (a .value) (squareSumAt (now (a .sums)) (a .rowoffset) (a .m) (a .at + b .before .loop .c)))
+    × (c .abs-diff-u32 .result ≤ largestSquareSum)
+    × (getD (b .before .loop .part) (a .from + b .before .loop .c) 0 ≤ mostSquares * largestSquareSum)
+turn c =
+    let b = c .before .before .before in
+    let s = b .before .before .before .before in
+    let k = c .before .square-sum-at .ensures in
+    let e : c .abs-diff-u32 .result ≡ absDiff (s .args .value) (squareSumAt (now (s .args .sums)) (s .args .rowoffset) (s .args .m) (s .args .at + b .before .loop .c)) =
+    rw (k .0) at (c .abs-diff-u32 .ensures) in
+    (e, omega (arith, e, here b .0 .small, s .pre .0 .0), here b .1)
+
+loop-holds : tie.Need-loop-holds Inv-loop μ-loop
+loop-holds c = raising-none _ _ _ _
+
+add-part : tie.Need-add-part Inv-loop μ-loop
+add-part c = search needs
+
+mul-part : tie.Need-mul-part Inv-loop μ-loop
+mul-part c = search needs
+
+slice-read-part : tie.Need-slice-read-part Inv-loop μ-loop
+slice-read-part c = search needs
+
+add-square-sum-at : tie.Need-add-square-sum-at Inv-loop μ-loop
+add-square-sum-at c = omega (arith, here (c .before) .0 .inside)
+
+square-sum-at-requires : tie.Need-square-sum-at-requires Inv-loop μ-loop
+square-sum-at-requires c κs = here (c .before) .0
+
+abs-diff-u32-requires : tie.Need-abs-diff-u32-requires Inv-loop μ-loop
+abs-diff-u32-requires c κs = (omega (arith, c .before .before .before .before .before .before .pre .0 .0), omega (arith, c .square-sum-at .ensures .1))
+
+add-part-2 : tie.Need-add-part-2 Inv-loop μ-loop
+add-part-2 c = omega (arith, turn c)
+
+add-part-3 : tie.Need-add-part-3 Inv-loop μ-loop
+add-part-3 c = search needs
+
+mul-part-2 : tie.Need-mul-part-2 Inv-loop μ-loop
+mul-part-2 c = search needs
+
+slice-write-part : tie.Need-slice-write-part Inv-loop μ-loop
+slice-write-part c = search needs
+
+add-c : tie.Need-add-c Inv-loop μ-loop
+add-c c = search needs
+
+loop-less : tie.Need-loop-less Inv-loop μ-loop
+loop-less c = search needs
+
+loop-again : tie.Need-loop-again Inv-loop μ-loop
+loop-again c =
+    let b = c .before .before .before in
+    raising-step _ _ _ _ (b .before .before .before .before .pre .0 .1) _ _ (b .before .loop .inv) (c .abs-diff-u32 .result) (turn c .0) (b .loop-test .taken)
+
+same-length : tie.Need-same-length Inv-loop μ-loop
+same-length c = c .before .loop .inv .long
+
+returns : tie.Need-returns Inv-loop μ-loop
+returns c =
+    let l = c .before .loop in
+    let e : l .c ≡ c .before .before .before .before .args .columns = omega (arith, l .inv .rowoffset) in
+    rw e at (l .inv .filled)
+
+pub add-run-spec : {M : Type 1} → statement M
+add-run-spec =
+    tie.close
+    (tie.spec
+    Inv-loop
+    μ-loop
+    loop-holds
+    add-part
+    mul-part
+    slice-read-part
+    add-square-sum-at
+    square-sum-at-requires
+    abs-diff-u32-requires
+    add-part-2
+    add-part-3
+    mul-part-2
+    slice-write-part
+    add-c
+    loop-less
+    loop-again
+    same-length
+    returns)

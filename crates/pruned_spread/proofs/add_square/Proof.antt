@@ -1,0 +1,91 @@
+-- `add_square`: after i turns the differences are added in the first i rows (`Adding`).
+use Prim.Native.Nat.{ℕ, _+_, _-_, _*_, _≤_, _<_}
+use mathlib.Core.Path.{_≡_, ap}
+use native.Mathlib.Omega.{arith}
+use borrow.Author.Needs.{needs}
+use denote.Ref.{now}
+use lib.ListN.{getD}
+use Rattle.signed.specs.Values.{absDiff}
+use Rattle.pruned_subblocks.specs.Squares.{largestSquareSum, mostSquares, squareSumAt, HasSquare}
+use Rattle.pruned_spread.proofs.Adding.{Adding, adding-none, adding-read, adding-room, adding-step}
+use Rattle.pruned_spread.proofs.add_square.Statement.{statement}
+use Rattle.pruned_spread.proofs.add_square.Tie as tie
+
+abbrev Inv-loop : tie.InvT-loop
+Inv-loop sums rowoffset m at stride value rows columns part₀ i₀ here₀ from₀ part i here from =
+    Adding (λ r j. absDiff value (squareSumAt sums rowoffset m (at + r * stride + j))) rows columns at stride part₀ part i here from
+
+abbrev μ-loop : tie.MeasureT-loop
+μ-loop sums rowoffset m at stride value rows columns part₀ i₀ here₀ from₀ part i here from = rows - i
+
+-- the row of a turn
+row : (b : tie.In-loop Inv-loop μ-loop) →
+    let a = b .before .before .before .before .args in
+    let l = b .before .loop in
+    (c : ℕ) → c < a .columns → HasSquare (now (a .sums)) (a .rowoffset) (a .m) (l .here + c) × (getD (l .part) (l .from + c) 0 ≤ mostSquares * largestSquareSum)
+row b c h =
+    let l = b .before .loop in
+    let s = b .before .before .before .before in
+    let p = s .pre .1 (l .i) c (b .loop-test .taken) h in
+    (rw (l .inv .here-is) (p .0), rw (adding-read _ _ _ _ _ _ _ _ _ _ (l .inv) c) (p .1))
+
+loop-holds : tie.Need-loop-holds Inv-loop μ-loop
+loop-holds c = adding-none _ _ _ _ _ _
+
+add-run-requires : tie.Need-add-run-requires Inv-loop μ-loop
+add-run-requires c κs =
+    let b = c .before in
+    let s = b .before .before .before .before in
+    ((s .pre .0 .0, adding-room _ _ _ _ _ _ _ _ _ _ (b .before .loop .inv) (b .loop-test .taken) (s .pre .0 .2)), row b)
+
+add-here : tie.Need-add-here Inv-loop μ-loop
+add-here c =
+    let b = c .before .before .before .before in
+    let s = b .before .before .before .before in
+    omega (arith, row b 0 (s .pre .0 .1) .0 .inside, s .pre .0 .3)
+
+add-from : tie.Need-add-from Inv-loop μ-loop
+add-from c =
+    let b = c .before .before .before .before in
+    let s = b .before .before .before .before in
+    omega (arith, adding-room _ _ _ _ _ _ _ _ _ _ (b .before .loop .inv) (b .loop-test .taken) (s .pre .0 .2))
+
+add-i : tie.Need-add-i Inv-loop μ-loop
+add-i c = search needs
+
+loop-less : tie.Need-loop-less Inv-loop μ-loop
+loop-less c = search needs
+
+loop-again : tie.Need-loop-again Inv-loop μ-loop
+loop-again c =
+    let b = c .before .before .before .before in
+    let l = b .before .loop in
+    let s = b .before .before .before .before in
+    rw (c .before .before .add-run .ensures)
+    (adding-step _ _ _ _ _ _ _ _ _ _ (l .inv) (b .loop-test .taken) (s .pre .0 .2) _
+    (λ j. ap (λ (h : ℕ). absDiff (s .args .value) (squareSumAt (now (s .args .sums)) (s .args .rowoffset) (s .args .m) (h + j))) (l .inv .here-is)))
+
+same-length : tie.Need-same-length Inv-loop μ-loop
+same-length c = c .before .loop .inv .rowed .long
+
+returns : tie.Need-returns Inv-loop μ-loop
+returns c =
+    let l = c .before .loop in
+    let e : l .i ≡ c .before .before .before .before .args .rows = omega (arith, l .inv .rowoffset) in
+    rw e at (l .inv .rowed .filled)
+
+pub add-square-spec : {M : Type 1} → statement M
+add-square-spec =
+    tie.close
+    (tie.spec
+    Inv-loop
+    μ-loop
+    loop-holds
+    add-run-requires
+    add-here
+    add-from
+    add-i
+    loop-less
+    loop-again
+    same-length
+    returns)

@@ -1,0 +1,101 @@
+// The distances of all older blocks whose corners stand in so many rows and columns of the summed-area table, square by square.
+
+ghost use mathlib.Core.Path.{_≡_};
+ghost use mathlib.Core.List.{_++_};
+ghost use Prim.Native.Nat.{ℕ, _+_, _*_, _≤_, _<_};
+ghost use lib.ListN.{length, getD, drop};
+ghost use Rattle.base.specs.Sum.{sumTo};
+ghost use Rattle.base.specs.Lists.{fillTo};
+ghost use Rattle.base.specs.Rows.{inRows};
+ghost use Rattle.signed.specs.Values.{absDiff};
+ghost use Rattle.pruned_subblocks.specs.Squares.{largestSquareSum, mostSquares, squareSumAt, HasSquare, differenceAt, Compared, IsDistance};
+ghost use Rattle.pruned_spread.specs.Spread.{raised};
+
+// Adds the differences at one square to `columns` places from `from` on.
+fn add_run(
+    sums: &[u32],
+    rowoffset: usize,
+    m: usize,
+    at: usize,
+    value: u32,
+    columns: usize,
+    part: &mut [u32],
+    from: usize,
+)
+    requires { ⌜ (value ≤ largestSquareSum) × (from + columns ≤ length (now part)) ⌝ }
+    requires { ⌜ ((c : ℕ) → c < columns → HasSquare (now sums) rowoffset m (at + c) × (getD (now part) (from + c) 0 ≤ mostSquares * largestSquareSum)) ⌝ }
+    ensures { λ _. ⌜ now (part .exit) ≡ fillTo (now (part .entry)) from (λ c. getD (now (part .entry)) (from + c) 0 + absDiff value (squareSumAt (now (sums .entry)) rowoffset m (at + c))) columns ⌝ }
+{
+    let mut c: usize = 0;
+    while c < columns {
+        part[from + c] = part[from + c]
+            + signed::abs_diff_u32(
+                value,
+                pruned_subblocks::square_sum_at(sums, rowoffset, m, at + c),
+            );
+        c += 1;
+    }
+}
+
+// Adds the differences at one square to all places.
+fn add_square(
+    sums: &[u32],
+    rowoffset: usize,
+    m: usize,
+    at: usize,
+    stride: usize,
+    value: u32,
+    rows: usize,
+    columns: usize,
+    part: &mut [u32],
+)
+    requires { ⌜ (value ≤ largestSquareSum) × (0 < columns) × (rows * columns ≤ length (now part)) × (stride ≤ 1025) ⌝ }
+    requires { ⌜ ((i j : ℕ) → i < rows → j < columns → HasSquare (now sums) rowoffset m (at + i * stride + j) × (getD (now part) (i * columns + j) 0 ≤ mostSquares * largestSquareSum)) ⌝ }
+    ensures { λ _. ⌜ now (part .exit) ≡ inRows (raised (λ i j. absDiff value (squareSumAt (now (sums .entry)) rowoffset m (at + i * stride + j))) columns (now (part .entry))) rows columns ++ drop (rows * columns) (now (part .entry)) ⌝ }
+{
+    let mut i: usize = 0;
+    let mut here = at;
+    let mut from: usize = 0;
+    while i < rows {
+        add_run(sums, rowoffset, m, here, value, columns, part, from);
+        here += stride;
+        from += columns;
+        i += 1;
+    }
+}
+
+// The distances of all older blocks whose corners stand in so many rows and columns from place `at` on.
+pub fn spread(
+    block: &[u32],
+    steps: &[usize],
+    sums: &[u32],
+    rowoffset: usize,
+    m: usize,
+    count: usize,
+    at: usize,
+    stride: usize,
+    rows: usize,
+    columns: usize,
+    part: &mut [u32],
+)
+    requires { ⌜ (0 < rows) × (0 < columns) × (rows * columns ≤ length (now part)) × (stride ≤ 1025) ⌝ }
+    requires { ⌜ ((i j : ℕ) → i < rows → j < columns → Compared (now block) (now steps) (now sums) rowoffset m count (at + i * stride + j) × (getD (now part) (i * columns + j) 0 ≡ 0)) ⌝ }
+    ensures { λ _. ⌜ (now (part .exit) ≡ inRows (λ i j. sumTo (differenceAt (now (block .entry)) (now (steps .entry)) (now (sums .entry)) rowoffset m (at + i * stride + j)) count) rows columns ++ drop (rows * columns) (now (part .entry)))
+        × ((i j : ℕ) → i < rows → j < columns → IsDistance (now (block .entry)) (now (steps .entry)) (now (sums .entry)) rowoffset m count (at + i * stride + j) (getD (now (part .exit)) (i * columns + j) 0)) ⌝ }
+{
+    let mut s: usize = 0;
+    while s < count {
+        add_square(
+            sums,
+            rowoffset,
+            m,
+            at + steps[s],
+            stride,
+            block[s],
+            rows,
+            columns,
+            part,
+        );
+        s += 1;
+    }
+}

@@ -1,0 +1,83 @@
+-- 01, "The four searches": what a search may ask of a block at row y, column x, for window w: which vectors are candidates, and their
+-- distortions.
+--   Ready     the frames have the sizes that the block names, it stands wholly inside the newer one, and its window is at most 16
+--   Past      a row or a column of a candidate's older block, at or behind some other
+--   Target    the block as a search sees it: `target`
+--   measureCandidate   the distortion of a vector, where it is a candidate
+use Prim.Native.Nat.{ℕ, _+_, _≤_}
+use mathlib.Core.Path.{_≡_, refl}
+use mathlib.Core.List.{List}
+use mathlib.Core.Bool.{Bool, true, false, cond}
+use native.Mathlib.Nat.{add-zero}
+use native.Mathlib.Omega.{arith}
+use lib.Dec.{T}
+use lib.IntN.{ℤ, pos, natAbs, _+ℤ_}
+use lib.ListN.{length}
+use Rattle.signed.specs.Int.{up, dn}
+use Rattle.order.specs.declared.Vector.{Vector}
+use Rattle.order.specs.Vectors.{vec}
+use Rattle.frame.specs.Pictures.{Pair, pairOf}
+use Rattle.frame.specs.Candidates.{candidate, candidate-older}
+use Rattle.refusals.specs.Refusals.{Placed}
+use Rattle.distortion.specs.Blocks.{absolute, blockAt, newerBlock, distortionBy, distortion}
+use Rattle.search.specs.declared.SearchBlock.{SearchBlock}
+use Rattle.search.specs.declared.MeasuredCandidate.{MeasuredCandidate}
+use Rattle.search.specs.declared.MeasuredCandidate.the-variants.{Distortion, NotCandidate}
+
+pub record Ready (older newer : List ℕ) (b : SearchBlock) : Type 0 where
+  pub placed : Placed (length older) (length newer) (b .sizes) (b .y) (b .x)
+  pub window : b .w ≤ 16
+
+-- at + d lies at or behind `from`
+pub record Past (d : ℤ) (at from : ℕ) : Type 0 where
+  pub window : natAbs d ≤ 16
+  pub is : up (pos at +ℤ d) + dn d ≡ at + up d
+  pub behind : from ≤ up (pos at +ℤ d)
+  pub small : up (pos at +ℤ d) ≤ 1024
+
+pub record Target : Type 0 where
+  pub candidate : Vector → Bool
+  pub cost : Vector → ℕ
+
+abbrev pub target : Pair → ℕ → ℕ → ℕ → Target
+target p w y x = record { candidate = candidate (p .sizes) w y x; cost = distortion p y x }
+
+-- the target that code searches: two lent frames and a block
+abbrev pub targetOf : List ℕ → List ℕ → SearchBlock → Target
+targetOf older newer b = target (pairOf older newer (b .sizes)) (b .w) (b .y) (b .x)
+
+unfoldable pub measureCandidate : Target → Vector → MeasuredCandidate
+measureCandidate t v = cond (t .candidate v) (Distortion (t .cost v)) NotCandidate
+
+-- what an answer says
+module _ (t : Target) (v : Vector) where
+  pub measure-candidate-none : measureCandidate t v ≡ NotCandidate → t .candidate v ≡ false
+  unfolding measureCandidate
+  measure-candidate-none = go (t .candidate v)
+    where
+      go : (c : Bool) → cond c (Distortion (t .cost v)) NotCandidate ≡ NotCandidate → c ≡ false
+      go true e = let z : _≡_ {A = ℕ} 0 1 = cc in absurd (omega arith)
+      go false e = refl
+
+  pub measure-candidate-some : (d : ℕ) → measureCandidate t v ≡ Distortion d → (t .candidate v ≡ true) × (d ≡ t .cost v)
+  unfolding measureCandidate
+  measure-candidate-some d = go (t .candidate v)
+    where
+      go : (c : Bool) → cond c (Distortion (t .cost v)) NotCandidate ≡ Distortion d → (c ≡ true) × (d ≡ t .cost v)
+      go true e = (refl, (let q : d ≡ t .cost v = cc in q))
+      go false e = let z : _≡_ {A = ℕ} 0 1 = cc in absurd (omega arith)
+
+-- (0,0) compares the block with the older block at the same place
+pub still-cost : (p : Pair) (y x : ℕ) → distortion p y x (vec (pos 0) (pos 0)) ≡ distortionBy absolute (p .sizes .n) (newerBlock p y x) (blockAt (p .older) (p .sizes .width) y x)
+unfolding distortion
+still-cost p y x = rw (add-zero y, add-zero x)
+
+-- where the older block of a candidate stands
+pub candidate-past : (older newer : List ℕ) (b : SearchBlock) (v : Vector) → Ready older newer b → T (candidate (b .sizes) (b .w) (b .y) (b .x) v)
+    → Past (v .dy) (b .y) 0 × Past (v .dx) (b .x) 0
+candidate-past older newer b v r t =
+    let o = candidate-older (b .sizes) (b .w) (b .y) (b .x) v t in
+    let f = r .placed .paired .fitting in (
+      record { window = omega (arith, o .window .down, r .window); is = o .row; behind = omega arith; small = omega (arith, o .down, f .high) },
+      record { window = omega (arith, o .window .across, r .window); is = o .column; behind = omega arith; small = omega (arith, o .across, f .wide) },
+    )
