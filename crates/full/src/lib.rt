@@ -81,11 +81,11 @@ pub fn choose(
     requires { ⌜ ListedCandidates b (now remaining) count × (0 < count) ⌝ }
     ensures { λ r. ⌜ Choice (distortionOf (now (older .entry)) (now (newer .entry)) b) (now (remaining .entry)) count (r .place) (r .distortion) ⌝ }
 {
-    let mut best = pruned_remaining::wide(remaining[0]);
+    let mut best = signed::wide_u16(remaining[0]);
     let mut least = distortion_of(older, newer, order, b, best, 4294967295);
     let mut i: usize = 1;
     while i < count {
-        let k = pruned_remaining::wide(remaining[i]);
+        let k = signed::wide_u16(remaining[i]);
         let d = distortion_of(older, newer, order, b, k, least);
         if d < least {
             best = k;
@@ -113,11 +113,11 @@ fn choose_copied(
     requires { ⌜ ListedCandidates b (now remaining) count × (0 < count) × CopyOf (now newer) b (now block) ⌝ }
     ensures { λ r. ⌜ Choice (distortionOf (now (older .entry)) (now (newer .entry)) b) (now (remaining .entry)) count (r .place) (r .distortion) ⌝ }
 {
-    let mut best = pruned_remaining::wide(remaining[0]);
+    let mut best = signed::wide_u16(remaining[0]);
     let mut least = distortion_of(older, newer, order, b, best, 4294967295);
     let mut i: usize = 1;
     while i < count {
-        let k = pruned_remaining::wide(remaining[i]);
+        let k = signed::wide_u16(remaining[i]);
         let whole = copied_distortion_of(older, newer, order, b, k, block);
         if whole < least {
             best = k;

@@ -92,17 +92,6 @@ fn log_read(log: &[u8], list: usize) -> LogRead
     refused_by(ended)
 }
 
-// A block's three numbers, from a place on. Answers with the next place.
-fn store_three(list: &mut [i32], at: usize, dy: i32, dx: i32, distortion: u32) -> usize
-    requires { ⌜ (at + 3 ≤ length (now list)) × (distortion ≤ largestDistortion) ⌝ }
-    ensures { λ r. ⌜ Put (now (list .entry)) at (dy ∷ dx ∷ pos distortion ∷ []) (now (list .exit)) r ⌝ }
-{
-    list[at] = dy;
-    list[at + 1] = dx;
-    list[at + 2] = distortion as i32;
-    at + 3
-}
-
 // The numbers of a command, if it is a block.
 fn store(list: &mut [i32], at: usize, command: Command) -> usize
     requires { ⌜ (at + length (blockValues command) ≤ length (now list)) × (distortionIn command ≤ largestDistortion) ⌝ }
@@ -110,8 +99,8 @@ fn store(list: &mut [i32], at: usize, command: Command) -> usize
 {
     match command {
         Command::Head(_) => at,
-        Command::Block { dy, dx, distortion } => store_three(list, at, dy, dx, distortion),
-        Command::Still => store_three(list, at, 0, 0, 0),
+        Command::Block { dy, dx, distortion } => put::put_entry(list, at, dy, dx, distortion),
+        Command::Still => put::put_entry(list, at, 0, 0, 0),
         Command::End(_) => at,
         Command::Refused {
             number: _,

@@ -51,7 +51,7 @@ fn fill_few(
 {
     let mut i: usize = 0;
     while i < count {
-        let at = place_of(order, pruned_remaining::wide(remaining[i]), o);
+        let at = place_of(order, signed::wide_u16(remaining[i]), o);
         dist[i] = pruned_subblocks::distance_from(block, steps, sums, rowoffset, m, squares, at);
         i += 1;
     }
@@ -72,7 +72,7 @@ fn pick(
 {
     let mut i: usize = 0;
     while i < count {
-        dist[i] = part[place_of(order, pruned_remaining::wide(remaining[i]), o)];
+        dist[i] = part[place_of(order, signed::wide_u16(remaining[i]), o)];
         i += 1;
     }
 }

@@ -10,13 +10,6 @@ ghost use Rattle.order.specs.Preference.{preference, flat};
 ghost use Rattle.pruned_remaining.specs.Gathered.{candidateAt, roomy, clear, Front, nearestOf, keptWithin, swept};
 use search::SearchBlock;
 
-// A place of the preference table, as it stands in the array.
-pub fn wide(k: u16) -> usize
-    ensures { λ r. ⌜ r ≡ k ⌝ }
-{
-    k as usize
-}
-
 // The vector at place k of the preference table is a candidate.
 fn is_among(order: &[i32; 2178], b: SearchBlock, k: usize) -> bool
     requires { ⌜ (now order ≡ flat preference) × (k < 1089) ⌝ }
@@ -111,7 +104,7 @@ pub fn nearest(remaining: &[u16; 1089], count: usize, dist: &[u32; 1089]) -> usi
         }
         i += 1;
     }
-    wide(remaining[best])
+    signed::wide_u16(remaining[best])
 }
 
 // Drops each candidate whose distance exceeds `limit`; answers how many remain. Each is stored behind those that stay, and counted if it stays too: a

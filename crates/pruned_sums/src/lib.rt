@@ -23,12 +23,6 @@ pub struct Region {
     pub columns: usize,
 }
 
-fn wide(x: u8) -> u32
-    ensures { λ r. ⌜ r ≡ x ⌝ }
-{
-    x as u32
-}
-
 // The first n places are 0.
 fn clear(table: &mut [u32], n: usize)
     requires { ⌜ n ≤ length (now table) ⌝ }
@@ -52,7 +46,7 @@ fn fill_row(frame: &[u8], from: usize, columns: usize, table: &mut [u32], above:
     let mut c: usize = 0;
     while c < columns {
         table[here + c] = table[above + c] + run;
-        run += wide(frame[from + c]);
+        run += signed::wide_u8(frame[from + c]);
         c += 1;
     }
     table[here + c] = table[above + c] + run;

@@ -7,6 +7,20 @@ ghost use lib.Dec.{leb};
 ghost use lib.IntN.{natAbs, negℤ};
 ghost use Rattle.signed.specs.Values.{absDiff, shiftedBy, movedBy, bias, unbias, signedByte, byteOf};
 
+// A byte as a number.
+pub fn wide_u8(b: u8) -> u32
+    ensures { λ r. ⌜ (r ≡ b) × (r < 256) ⌝ }
+{
+    b as u32
+}
+
+// A number of 16 bits as a place.
+pub fn wide_u16(k: u16) -> usize
+    ensures { λ r. ⌜ r ≡ k ⌝ }
+{
+    k as usize
+}
+
 // |d|, also of the least i32.
 pub fn magnitude(d: i32) -> u32
     ensures { λ r. ⌜ r ≡ natAbs d ⌝ }

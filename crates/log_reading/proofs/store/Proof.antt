@@ -17,8 +17,8 @@ enum-told c = search needs
 enum-known-command : tie.Need-enum-known-command
 enum-known-command c = search needs
 
-store-three-requires : tie.Need-store-three-requires
-store-three-requires c κs =
+put-entry-requires : tie.Need-put-entry-requires
+put-entry-requires c κs =
     let s = c .before .before .before .before in
     let e = c .before .before .command .given .1 in
     (omega (arith, s .pre .0, ap (λ x. length (blockValues x)) e), omega (arith, s .pre .1, ap distortionIn e))
@@ -26,8 +26,8 @@ store-three-requires c κs =
 enum-told-2 : tie.Need-enum-told-2
 enum-told-2 c = search needs
 
-store-three-requires-2 : tie.Need-store-three-requires-2
-store-three-requires-2 c κs =
+put-entry-requires-2 : tie.Need-put-entry-requires-2
+put-entry-requires-2 c κs =
     let s = c .before .before .before in
     (omega (arith, s .pre .0, ap (λ x. length (blockValues x)) (c .before .enum-told2 .given .1)), omega arith)
 
@@ -48,13 +48,13 @@ returns-2 c =
     let g = c .before .before .before .before .command .given in
     let ey : toZ w32 (ofZ w32 (g .0 .0)) ≡ g .0 .0 = search needs in
     let ex : toZ w32 (ofZ w32 (g .0 .1 .0)) ≡ g .0 .1 .0 = search needs in
-    rw (g .1) (simp (ey, ex) at (c .before .store-three .ensures))
+    rw (g .1) (simp (ey, ex) at (c .before .put-entry .ensures))
 
 same-length-2 : tie.Need-same-length-2
 same-length-2 c = search needs
 
 returns-3 : tie.Need-returns-3
-returns-3 c = rw (c .before .before .before .enum-told2 .given .1) (c .before .store-three2 .ensures)
+returns-3 c = rw (c .before .before .before .enum-told2 .given .1) (c .before .put-entry2 .ensures)
 
 returns-4 : tie.Need-returns-4
 returns-4 c = rw (c .enum-told3 .given .1) (put-none _ _)
@@ -68,9 +68,9 @@ store-spec =
     (tie.spec
     enum-told
     enum-known-command
-    store-three-requires
+    put-entry-requires
     enum-told-2
-    store-three-requires-2
+    put-entry-requires-2
     enum-told-3
     enum-told-4
     returns

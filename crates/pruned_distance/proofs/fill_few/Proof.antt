@@ -30,23 +30,23 @@ candidate b = b .before .before .before .before .before .pre .1 (b .before .loop
 loop-holds : tie.Need-loop-holds Inv-loop μ-loop
 loop-holds c = filling-none _ _ _ (c .before .before .before .pre .0 .1)
 
-mul-wide : tie.Need-mul-wide Inv-loop μ-loop
-mul-wide c = search needs
+mul-wide-u16 : tie.Need-mul-wide-u16 Inv-loop μ-loop
+mul-wide-u16 c = search needs
 
-element-copy-out-wide : tie.Need-element-copy-out-wide Inv-loop μ-loop
-element-copy-out-wide c = search needs
+element-copy-out-wide-u16 : tie.Need-element-copy-out-wide-u16 Inv-loop μ-loop
+element-copy-out-wide-u16 c = search needs
 
-wide-requires : tie.Need-wide-requires Inv-loop μ-loop
-wide-requires c κs = search needs
+wide-u16-requires : tie.Need-wide-u16-requires Inv-loop μ-loop
+wide-u16-requires c κs = search needs
 
 place-of-requires : tie.Need-place-of-requires Inv-loop μ-loop
 place-of-requires c κs =
     let b = c .before .before in
     let h = candidate b in
-    rw (c .wide .ensures) (b .before .before .before .before .before .pre .0 .0, h .0, h .1)
+    rw (c .wide-u16 .ensures) (b .before .before .before .before .before .pre .0 .0, h .0, h .1)
 
 distance-from-requires : tie.Need-distance-from-requires Inv-loop μ-loop
-distance-from-requires c κs = rw (c .place-of .ensures, c .before .wide .ensures) (candidate (c .before .before .before) .2)
+distance-from-requires c κs = rw (c .place-of .ensures, c .before .wide-u16 .ensures) (candidate (c .before .before .before) .2)
 
 mul-dist : tie.Need-mul-dist Inv-loop μ-loop
 mul-dist c = search needs
@@ -63,7 +63,7 @@ loop-less c = search needs
 loop-again : tie.Need-loop-again Inv-loop μ-loop
 loop-again c =
     let l = c .before .before .before .before .before .loop in
-    let e = rw (c .before .place-of .ensures, c .before .before .wide .ensures) at (c .distance-from .ensures .0) in
+    let e = rw (c .before .place-of .ensures, c .before .before .wide-u16 .ensures) at (c .distance-from .ensures .0) in
     filling-more _ (l .inv) (c .before .before .before .before .loop-test .taken) (omega arith) e
 
 returns : tie.Need-returns Inv-loop μ-loop
@@ -79,9 +79,9 @@ fill-few-spec =
     Inv-loop
     μ-loop
     loop-holds
-    mul-wide
-    element-copy-out-wide
-    wide-requires
+    mul-wide-u16
+    element-copy-out-wide-u16
+    wide-u16-requires
     place-of-requires
     distance-from-requires
     mul-dist

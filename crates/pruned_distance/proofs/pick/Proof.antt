@@ -31,26 +31,26 @@ at-place : (c : tie.After-place-of Inv-loop μ-loop) →
 at-place c =
     let a = c .before .before .before .before .before .args in
     let e : c .place-of .result ≡ placeOf (a .o) (preferred (getD (now (a .remaining)) (c .before .before .before .before .loop .i) 0)) =
-    rw (c .before .wide .ensures) at (c .place-of .ensures) in
+    rw (c .before .wide-u16 .ensures) at (c .place-of .ensures) in
     (e, rw e (candidate (c .before .before .before) .2))
 
 loop-holds : tie.Need-loop-holds Inv-loop μ-loop
 loop-holds c = filling-none _ _ _ (c .pre .0 .1)
 
-mul-wide : tie.Need-mul-wide Inv-loop μ-loop
-mul-wide c = search needs
+mul-wide-u16 : tie.Need-mul-wide-u16 Inv-loop μ-loop
+mul-wide-u16 c = search needs
 
-element-copy-out-wide : tie.Need-element-copy-out-wide Inv-loop μ-loop
-element-copy-out-wide c = search needs
+element-copy-out-wide-u16 : tie.Need-element-copy-out-wide-u16 Inv-loop μ-loop
+element-copy-out-wide-u16 c = search needs
 
-wide-requires : tie.Need-wide-requires Inv-loop μ-loop
-wide-requires c κs = search needs
+wide-u16-requires : tie.Need-wide-u16-requires Inv-loop μ-loop
+wide-u16-requires c κs = search needs
 
 place-of-requires : tie.Need-place-of-requires Inv-loop μ-loop
 place-of-requires c κs =
     let b = c .before .before in
     let h = candidate b in
-    rw (c .wide .ensures) (b .before .before .pre .0 .0, h .0, h .1)
+    rw (c .wide-u16 .ensures) (b .before .before .pre .0 .0, h .0, h .1)
 
 mul-dist : tie.Need-mul-dist Inv-loop μ-loop
 mul-dist c = omega (arith, at-place c .1)
@@ -88,9 +88,9 @@ pick-spec =
     Inv-loop
     μ-loop
     loop-holds
-    mul-wide
-    element-copy-out-wide
-    wide-requires
+    mul-wide-u16
+    element-copy-out-wide-u16
+    wide-u16-requires
     place-of-requires
     mul-dist
     element-copy-out-dist

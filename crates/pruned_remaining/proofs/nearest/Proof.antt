@@ -43,20 +43,20 @@ loop-again c =
     (λ w. rw (w .1) (nearest-not (l .inv) (c .before .before .before .loop-test .taken) (w .0 .left)))
     (c .if1 .came)
 
-mul-wide : tie.Need-mul-wide Inv-loop μ-loop
-mul-wide c = search needs
+mul-wide-u16 : tie.Need-mul-wide-u16 Inv-loop μ-loop
+mul-wide-u16 c = search needs
 
-element-copy-out-wide : tie.Need-element-copy-out-wide Inv-loop μ-loop
-element-copy-out-wide c = search needs
+element-copy-out-wide-u16 : tie.Need-element-copy-out-wide-u16 Inv-loop μ-loop
+element-copy-out-wide-u16 c = search needs
 
-wide-requires : tie.Need-wide-requires Inv-loop μ-loop
-wide-requires c κs = search needs
+wide-u16-requires : tie.Need-wide-u16-requires Inv-loop μ-loop
+wide-u16-requires c κs = search needs
 
 returns : tie.Need-returns Inv-loop μ-loop
 returns c =
     let l = c .before .before .before .loop in
     let e : l .i ≡ c .before .before .before .before .args .count = omega arith in
-    c .wide .ensures ∙ nearest-done _ (rw e at (l .inv))
+    c .wide-u16 .ensures ∙ nearest-done _ (rw e at (l .inv))
 
 pub nearest-spec : {M : Type 1} → statement M
 nearest-spec =
@@ -72,7 +72,7 @@ nearest-spec =
     add-i
     loop-less
     loop-again
-    mul-wide
-    element-copy-out-wide
-    wide-requires
+    mul-wide-u16
+    element-copy-out-wide-u16
+    wide-u16-requires
     returns)

@@ -41,14 +41,14 @@ mul-table-2 c = search needs
 slice-write-table : tie.Need-slice-write-table Inv-loop μ-loop
 slice-write-table c = search needs
 
-add-wide : tie.Need-add-wide Inv-loop μ-loop
-add-wide c = search needs
+add-wide-u8 : tie.Need-add-wide-u8 Inv-loop μ-loop
+add-wide-u8 c = search needs
 
-shared-slice-read-wide : tie.Need-shared-slice-read-wide Inv-loop μ-loop
-shared-slice-read-wide c = search needs
+shared-slice-read-wide-u8 : tie.Need-shared-slice-read-wide-u8 Inv-loop μ-loop
+shared-slice-read-wide-u8 c = search needs
 
-wide-requires : tie.Need-wide-requires Inv-loop μ-loop
-wide-requires c κs = search needs
+wide-u8-requires : tie.Need-wide-u8-requires Inv-loop μ-loop
+wide-u8-requires c κs = search needs
 
 add-run : tie.Need-add-run Inv-loop μ-loop
 add-run c =
@@ -65,7 +65,7 @@ loop-again : tie.Need-loop-again Inv-loop μ-loop
 loop-again c =
     let b = c .before .before .before .before in
     let a = b .before .before .before .args in
-    row-step _ _ _ _ _ _ (omega arith) (omega arith) _ _ _ (b .loop .inv) (c .wide .result) (c .wide .ensures) (omega (arith, c .before .shared-slice-known2 .given (a .from + b .loop .c))) (omega arith)
+    row-step _ _ _ _ _ _ (omega arith) (omega arith) _ _ _ (b .loop .inv) (c .wide-u8 .result) (c .wide-u8 .ensures .0) (omega (arith, c .before .shared-slice-known2 .given (a .from + b .loop .c))) (omega arith)
 
 add-table-4 : tie.Need-add-table-4 Inv-loop μ-loop
 add-table-4 c = search needs
@@ -114,9 +114,9 @@ fill-row-spec =
     add-table-3
     mul-table-2
     slice-write-table
-    add-wide
-    shared-slice-read-wide
-    wide-requires
+    add-wide-u8
+    shared-slice-read-wide-u8
+    wide-u8-requires
     add-run
     add-c
     loop-less

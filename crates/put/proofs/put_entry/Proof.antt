@@ -1,4 +1,4 @@
--- `store_three`: three stores, each inside the list.
+-- `put_entry`: three stores, each inside the list.
 use Prim.Native.Nat.{suc, _+_}
 use mathlib.Core.Path.{_≡_, refl}
 use native.Mathlib.Omega.{arith}
@@ -8,8 +8,8 @@ use lib.ListN.{length-set}
 use mir.Facts.{toZ-ofZ}
 use mir.Syntax.{w32}
 use mir.ValLaws.{toZ-pos}
-use Rattle.log_reading.proofs.store_three.Statement.{statement}
-use Rattle.log_reading.proofs.store_three.Tie as tie
+use Rattle.put.proofs.put_entry.Statement.{statement}
+use Rattle.put.proofs.put_entry.Tie as tie
 
 mul-dy : tie.Need-mul-dy
 mul-dy c = search needs
@@ -49,8 +49,8 @@ returns c =
     let e : c .args .at + 2 ≡ suc (suc (c .args .at)) = omega arith in
     record { holds = rw (toZ-ofZ (c .fits .dy), toZ-ofZ (c .fits .dx), toZ-pos w32 (c .args .distortion) (omega arith), e, add-one); place = refl }
 
-pub store-three-spec : {M : Type 1} → statement M
-store-three-spec =
+pub put-entry-spec : {M : Type 1} → statement M
+put-entry-spec =
     tie.close
     (tie.spec
     mul-dy
