@@ -1,7 +1,8 @@
 /* Fields of vectors, N 16, by all four searches: full, pruned and cross with w 16, four-step with w 7, T 0; and the pruned search of the same blocks
  * one by one. Beside the gauge run two full searches in C over the same grid: plain scalar code that leaves a candidate as soon as it
  * cannot win, and SSE2 (psadbw). All take turns, plain C, by far the slowest, every fourth time; the best of the turns counts, in processor time.
- * Prints speeds as multiples of plain C: the larger, the faster. The two C searches, search 1 and search 2 must agree on every block.
+ * Prints speeds as multiples of plain C: the larger, the faster. The two C searches, search 1 and search 2 must agree on every block. With the
+ * word `check` it looks at that alone, in small pictures, and prints no speed.
  *
  * Paper is made here: smoothed noise with fibres. The newer picture is the older one moved by a known vector, and each has sensor noise of its own.
  *
@@ -12,6 +13,7 @@
 #include "common.h"
 #include "gauge.h"
 #include <emmintrin.h>
+#include <stdbool.h>
 #include <stdio.h>
 #include <stdlib.h>
 #include <string.h>
@@ -133,6 +135,7 @@ FULL_SEARCH(sse2_search, sse2_distortion)
 
 enum { PLAIN, SSE2, SINGLE, FULL, PRUNED, FOUR_STEP, CROSS, RUNS };
 
+static bool checking;
 static int width, height;
 static uint8_t older[SIDE * SIDE], newer[SIDE * SIDE];
 static struct best list[RUNS][BLOCKS];
@@ -182,7 +185,7 @@ static double basic_operations(void)
     return sum / (N * N * (double)answer[FULL].counts[4]);
 }
 
-/* A pair in which the paper has moved by (dy, dx): one line of the table. */
+/* A pair in which the paper has moved by (dy, dx): one line of the table, or none when checking. */
 static int pair(const char *name, const int *sheet, int dy, int dx, int blank, int turns)
 {
     double seconds[RUNS];
@@ -207,31 +210,44 @@ static int pair(const char *name, const int *sheet, int dy, int dx, int blank, i
             printf("%s: the searches differ\n", name);
             return 1;
         }
+    if (checking)
+        return 0;
     printf("%-21s %6.1f %6.1f %6.1f %6.1f %6.0f %6.0f %8.2f %8.2f %9.4f\n", name, seconds[PLAIN] / seconds[SSE2], seconds[PLAIN] / seconds[FULL],
            seconds[PLAIN] / seconds[PRUNED], seconds[PLAIN] / seconds[SINGLE], seconds[PLAIN] / seconds[FOUR_STEP], seconds[PLAIN] / seconds[CROSS],
            seconds[SSE2] / seconds[FULL], seconds[FULL] / seconds[PRUNED], basic_operations());
     return 0;
 }
 
-int main(void)
+/* All papers in pictures of one size. */
+static int papers(int w, int h, int turns)
 {
     static int fibres[SHEET * SHEET], tracing[SHEET * SHEET];
-    static const struct {
-        int width, height, turns;
-    } sizes[2] = {{640, 480, 21}, {1024, 1024, 9}};
-    make_sheet(FIBRES, fibres);
-    make_sheet(TRACING, tracing);
-    printf("Speed of fields, N 16, plain C full search = 1; basic operations of search 2, exhaustive search = 1 (document 003: 0.0275)\n");
-    for (int i = 0; i < 2; i++) {
-        width = sizes[i].width;
-        height = sizes[i].height;
-        int turns = sizes[i].turns;
+    static bool made;
+    if (!made) {
+        make_sheet(FIBRES, fibres);
+        make_sheet(TRACING, tracing);
+        made = true;
+    }
+    width = w;
+    height = h;
+    if (!checking) {
         printf("\n%4d x %-4d           psadbw      1      2  2 one      3      4     1 to     2 to     basic\n", width, height);
         printf("                           C   full pruned by one 4-step  cross   psadbw        1       ops\n");
-        if (pair("moved fibres (3,-4)", fibres, 3, -4, width, turns) || pair("moved fibres (9,-11)", fibres, 9, -11, width, turns) ||
-            pair("still fibres", fibres, 0, 0, width, turns) || pair("tracing paper (3,-4)", tracing, 3, -4, width, turns) ||
-            pair("half blank (3,-4)", fibres, 3, -4, width / 2, turns))
-            return 1;
     }
-    return 0;
+    return pair("moved fibres (3,-4)", fibres, 3, -4, width, turns) || pair("moved fibres (9,-11)", fibres, 9, -11, width, turns) ||
+           pair("still fibres", fibres, 0, 0, width, turns) || pair("tracing paper (3,-4)", tracing, 3, -4, width, turns) ||
+           pair("half blank (3,-4)", fibres, 3, -4, width / 2, turns);
+}
+
+int main(int argc, char **argv)
+{
+    checking = argc > 1 && strcmp(argv[1], "check") == 0;
+    if (checking) {
+        if (papers(168, 130, 1))
+            return 1;
+        printf("benches/field: the searches agree\n");
+        return 0;
+    }
+    printf("Speed of fields, N 16, plain C full search = 1; basic operations of search 2, exhaustive search = 1 (document 003: 0.0275)\n");
+    return papers(640, 480, 21) || papers(1024, 1024, 9);
 }

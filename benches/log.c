@@ -1,6 +1,6 @@
 /* Logs of 65,536 bytes, walked and printed: gauge_print_log against plain C for the same rules and the same text, one pass over the bytes. The two
  * take turns; of the turns' ratios of processor time the median counts. Prints it as time, plain C = 1: the smaller, the faster. The texts must be the
- * same.
+ * same. With the word `check` it compares the texts alone and prints no time.
  *
  * Logs are made here, of a frame so large that the bytes end before its blocks do, so each ends in refusal 13: mixed as moved fibres with blank paper
  * between them would give them, of still blocks alone, and of blocks alone. */
@@ -234,13 +234,13 @@ static int ascending(const void *a, const void *b)
     return (*x > *y) - (*x < *y);
 }
 
-/* One kind of log: one line of the table. */
-static int kind(const char *name, int still)
+/* One kind of log: one line of the table, or none when checking. */
+static int kind(const char *name, int still, int turns)
 {
     double ratios[TURNS];
     size_t plain_length = 0, length = 0;
     make_log(still, made);
-    for (int turn = 0; turn < TURNS; turn++) {
+    for (int turn = 0; turn < turns; turn++) {
         double begun = now();
         for (int i = 0; i < REPEATS; i++)
             plain_length = plain_print(made, LENGTH, plain_text, sizeof plain_text);
@@ -253,13 +253,21 @@ static int kind(const char *name, int still)
         printf("%s: the texts differ\n", name);
         return 1;
     }
-    qsort(ratios, TURNS, sizeof ratios[0], ascending);
-    printf("%-14s %6.2f\n", name, ratios[TURNS / 2]);
+    qsort(ratios, (size_t)turns, sizeof ratios[0], ascending);
+    if (turns == TURNS)
+        printf("%-14s %6.2f\n", name, ratios[turns / 2]);
     return 0;
 }
 
-int main(void)
+int main(int argc, char **argv)
 {
-    printf("Time of printing logs of 65,536 bytes, plain C = 1\n");
-    return kind("mixed", 50) + kind("still blocks", 100) + kind("blocks", 0) != 0;
+    bool checking = argc > 1 && strcmp(argv[1], "check") == 0;
+    int turns = checking ? 1 : TURNS;
+    if (!checking)
+        printf("Time of printing logs of 65,536 bytes, plain C = 1\n");
+    if (kind("mixed", 50, turns) + kind("still blocks", 100, turns) + kind("blocks", 0, turns) != 0)
+        return 1;
+    if (checking)
+        printf("benches/log: the texts agree\n");
+    return 0;
 }
