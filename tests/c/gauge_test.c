@@ -401,7 +401,7 @@ static gauge_field_answer field(struct pair p, uint32_t search, size_t w, uint32
     return gauge_field(p.older, p.older_length, p.newer, p.newer_length, request, list, list_length, table, table_length);
 }
 
-static void fielded(const char *what, gauge_field_answer a, int32_t dy, int32_t dx, uint32_t votes, const uint32_t counts[5], uint32_t dropped)
+static void check_field(const char *what, gauge_field_answer a, int32_t dy, int32_t dx, uint32_t votes, const uint32_t counts[5], uint32_t dropped)
 {
     same(what, a.refusal, 0);
     same(what, (uint32_t)a.dy, (uint32_t)dy);
@@ -451,29 +451,29 @@ static void worked_fields(void)
     struct pair b = pair_b(), c = pair_c();
 
     mark_lent();
-    fielded("B, full", field(b, 1, 1, 0, LIST, TABLE), 0, 1, 1, (uint32_t[]){0, 0, 0, 0, 2}, 0);
+    check_field("B, full", field(b, 1, 1, 0, LIST, TABLE), 0, 1, 1, (uint32_t[]){0, 0, 0, 0, 2}, 0);
     listed("B, full, list", b_list, 1);
     table_kept("B, full, table", 0);
     mark_lent();
-    fielded("B, pruned", field(b, 2, 1, 0, LIST, TABLE), 0, 1, 1, (uint32_t[]){0, 0, 2, 2, 1}, 1);
+    check_field("B, pruned", field(b, 2, 1, 0, LIST, TABLE), 0, 1, 1, (uint32_t[]){0, 0, 2, 2, 1}, 1);
     listed("B, pruned, list", b_list, 1);
     table_filled("B, pruned, table", b);
 
     mark_lent();
-    fielded("C, full", field(c, 1, 1, 0, 12, 0), 0, 0, 4, (uint32_t[]){0, 0, 0, 0, 16}, 0);
+    check_field("C, full", field(c, 1, 1, 0, 12, 0), 0, 0, 4, (uint32_t[]){0, 0, 0, 0, 16}, 0);
     listed("C, full, list", c_list, 4);
     table_kept("C, full, table", 0);
     mark_lent();
-    fielded("C, pruned", field(c, 2, 1, 0, 12, 81), 0, 0, 4, (uint32_t[]){0, 0, 16, 16, 16}, 0);
+    check_field("C, pruned", field(c, 2, 1, 0, 12, 81), 0, 0, 4, (uint32_t[]){0, 0, 16, 16, 16}, 0);
     listed("C, pruned, list", c_list, 4);
     table_filled("C, pruned, table", c);
     mark_lent();
-    fielded("C, four-step", field(c, 3, 7, 0, 12, 0), 0, 0, 4, (uint32_t[]){0, 0, 0, 0, 28}, 0);
+    check_field("C, four-step", field(c, 3, 7, 0, 12, 0), 0, 0, 4, (uint32_t[]){0, 0, 0, 0, 28}, 0);
     listed("C, four-step, list", c_list, 4);
     table_kept("C, four-step, table", 0);
     mark_lent();
-    fielded("C, cross, T 0", field(c, 4, 2, 0, 12, 0), 0, 0, 4, (uint32_t[]){0, 0, 0, 0, 16}, 0);
-    fielded("C, cross, T 1", field(c, 4, 2, 1, 12, 0), 0, 0, 4, (uint32_t[]){0, 0, 0, 0, 4}, 0);
+    check_field("C, cross, T 0", field(c, 4, 2, 0, 12, 0), 0, 0, 4, (uint32_t[]){0, 0, 0, 0, 16}, 0);
+    check_field("C, cross, T 1", field(c, 4, 2, 1, 12, 0), 0, 0, 4, (uint32_t[]){0, 0, 0, 0, 4}, 0);
     listed("C, cross, list", c_list, 4);
     table_kept("C, cross, table", 0);
 
@@ -494,7 +494,7 @@ static void worked_fields(void)
     memset(white, 255, 1024 * 1024);
     struct pair large = pair_of(white, black, 1024, 1024, 16);
     mark_lent();
-    fielded("1,024 x 1,024", field(large, 2, 0, 0, LIST, TABLE), 0, 0, 4096, (uint32_t[]){4096, 4096, 4096, 4096, 4096}, 0);
+    check_field("1,024 x 1,024", field(large, 2, 0, 0, LIST, TABLE), 0, 0, 4096, (uint32_t[]){4096, 4096, 4096, 4096, 4096}, 0);
     list_kept("1,024 x 1,024: list", 3 * 4096);
     same("1,024 x 1,024: distortion of the last block", (uint64_t)list[3 * 4096 - 1], 65280);
     table_filled("1,024 x 1,024: table", large);
@@ -636,7 +636,7 @@ static void step_taken(const char *what, gauge_track track)
 {
     mark_lent();
     gauge_stepped s = step(track, pair_b(), 2, 1, 0, 3, 30);
-    fielded(what, s.answer, 0, 1, 1, (uint32_t[]){0, 0, 2, 2, 1}, 1);
+    check_field(what, s.answer, 0, 1, 1, (uint32_t[]){0, 0, 2, 2, 1}, 1);
     stands(what, s.track, at(true, track.y, track.x - 1, track.steps + 1));
     listed(what, (const int32_t[]){0, 1, 0}, 1);
     table_filled(what, pair_b());
@@ -650,7 +650,7 @@ static void stepping(void)
     stands("G, by search 1", step(g, pair_b(), 1, 1, 0, 3, 0).track, at(true, 10, 19, 1));
     gauge_stepped still = step(g, pair_c(), 3, 7, 0, 12, 0);
     stands("C, by four-step", still.track, at(true, 10, 20, 1));
-    fielded("C, by four-step", still.answer, 0, 0, 4, (uint32_t[]){0, 0, 0, 0, 28}, 0);
+    check_field("C, by four-step", still.answer, 0, 0, 4, (uint32_t[]){0, 0, 0, 0, 28}, 0);
     stands("C, by cross", step(g, pair_c(), 4, 2, 9, 12, 0).track, at(true, 10, 20, 1));
     static uint8_t down_older[20], down_newer[20];
     for (int i = 0; i < 20; i++) {
@@ -921,7 +921,7 @@ static void writing_refusals(void)
 }
 
 /* A log that is turned away behind so many commands, by every call alike. `text` is what they and the refusal print. */
-static void turned_away(const char *what, const uint8_t *log, size_t length, size_t commands, uint32_t refusal, size_t place, const char *text)
+static void check_refused_log(const char *what, const uint8_t *log, size_t length, size_t commands, uint32_t refusal, size_t place, const char *text)
 {
     reading_refused(what, log, length, LIST, refusal, place);
     printed(what, log, length, text);
@@ -945,39 +945,39 @@ static const uint8_t *b_with(size_t at, uint8_t byte)
 
 static void log_refusals(void)
 {
-    turned_away("the head cut off", b_log, 7, 0, 13, 0, "refused 13 at 0\n");
-    turned_away("nothing behind the head", b_log, 8, 1, 13, 8, "5 4 4 1 2\nrefused 13 at 8\n");
-    turned_away("the block cut off", b_log, 12, 1, 13, 8, "5 4 4 1 2\nrefused 13 at 8\n");
-    turned_away("no end", b_log, 13, 2, 13, 13, "5 4 4 1 2\n0 1 0\nrefused 13 at 13\n");
-    turned_away("the end cut off", b_log, 17, 2, 13, 13, "5 4 4 1 2\n0 1 0\nrefused 13 at 13\n");
+    check_refused_log("the head cut off", b_log, 7, 0, 13, 0, "refused 13 at 0\n");
+    check_refused_log("nothing behind the head", b_log, 8, 1, 13, 8, "5 4 4 1 2\nrefused 13 at 8\n");
+    check_refused_log("the block cut off", b_log, 12, 1, 13, 8, "5 4 4 1 2\nrefused 13 at 8\n");
+    check_refused_log("no end", b_log, 13, 2, 13, 13, "5 4 4 1 2\n0 1 0\nrefused 13 at 13\n");
+    check_refused_log("the end cut off", b_log, 17, 2, 13, 13, "5 4 4 1 2\n0 1 0\nrefused 13 at 13\n");
     static const uint8_t unknown[] = {0, 5, 6, 128, 255};
     for (size_t i = 0; i < sizeof unknown; i++) {
-        turned_away("unknown first", b_with(0, unknown[i]), 18, 0, 14, 0, "refused 14 at 0\n");
-        turned_away("unknown for a block", b_with(8, unknown[i]), 18, 1, 14, 8, "5 4 4 1 2\nrefused 14 at 8\n");
-        turned_away("unknown for the end", b_with(13, unknown[i]), 18, 2, 14, 13, "5 4 4 1 2\n0 1 0\nrefused 14 at 13\n");
+        check_refused_log("unknown first", b_with(0, unknown[i]), 18, 0, 14, 0, "refused 14 at 0\n");
+        check_refused_log("unknown for a block", b_with(8, unknown[i]), 18, 1, 14, 8, "5 4 4 1 2\nrefused 14 at 8\n");
+        check_refused_log("unknown for the end", b_with(13, unknown[i]), 18, 2, 14, 13, "5 4 4 1 2\n0 1 0\nrefused 14 at 13\n");
     }
-    turned_away("a block first", b_with(0, 2), 18, 0, 14, 0, "refused 14 at 0\n");
-    turned_away("14 before 13", b_with(0, 4), 1, 0, 14, 0, "refused 14 at 0\n");
-    turned_away("a second head", b_with(8, 1), 18, 1, 14, 8, "5 4 4 1 2\nrefused 14 at 8\n");
-    turned_away("the end too early", b_with(8, 4), 18, 1, 14, 8, "5 4 4 1 2\nrefused 14 at 8\n");
-    turned_away("a block too many", b_with(13, 3), 18, 2, 14, 13, "5 4 4 1 2\n0 1 0\nrefused 14 at 13\n");
-    turned_away("width 3", b_with(2, 3), 18, 0, 15, 0, "refused 15 at 0\n");
-    turned_away("height 1,028", b_with(3, 4), 18, 0, 15, 0, "refused 15 at 0\n");
-    turned_away("N 8", b_with(5, 8), 18, 0, 15, 0, "refused 15 at 0\n");
-    turned_away("w 17", b_with(6, 17), 18, 0, 15, 0, "refused 15 at 0\n");
-    turned_away("search 0", b_with(7, 0), 18, 0, 15, 0, "refused 15 at 0\n");
-    turned_away("four-step, w 1", b_with(7, 3), 18, 0, 15, 0, "refused 15 at 0\n");
-    turned_away("13 before 15", b_with(7, 0), 7, 0, 13, 0, "refused 13 at 0\n");
-    turned_away("dx 2", b_with(10, 2), 18, 1, 16, 8, "5 4 4 1 2\nrefused 16 at 8\n");
-    turned_away("dx -1", b_with(10, 255), 18, 1, 16, 8, "5 4 4 1 2\nrefused 16 at 8\n");
-    turned_away("dy 1", b_with(9, 1), 18, 1, 16, 8, "5 4 4 1 2\nrefused 16 at 8\n");
-    turned_away("distortion 4,096", b_with(11, 16), 18, 1, 16, 8, "5 4 4 1 2\nrefused 16 at 8\n");
-    turned_away("a still block as command 2", b_with(10, 0), 18, 1, 16, 8, "5 4 4 1 2\nrefused 16 at 8\n");
-    turned_away("13 before 16", b_with(10, 2), 12, 1, 13, 8, "5 4 4 1 2\nrefused 13 at 8\n");
-    turned_away("end 0", b_with(17, 0), 18, 2, 17, 13, "5 4 4 1 2\n0 1 0\nrefused 17 at 13\n");
-    turned_away("end 16,777,217", b_with(14, 1), 18, 2, 17, 13, "5 4 4 1 2\n0 1 0\nrefused 17 at 13\n");
-    turned_away("a byte behind the end", b_with(18, 0), 19, 3, 18, 18, "5 4 4 1 2\n0 1 0\nend 1\nrefused 18 at 18\n");
-    turned_away("17 before 18", b_with(17, 2), 19, 2, 17, 13, "5 4 4 1 2\n0 1 0\nrefused 17 at 13\n");
+    check_refused_log("a block first", b_with(0, 2), 18, 0, 14, 0, "refused 14 at 0\n");
+    check_refused_log("14 before 13", b_with(0, 4), 1, 0, 14, 0, "refused 14 at 0\n");
+    check_refused_log("a second head", b_with(8, 1), 18, 1, 14, 8, "5 4 4 1 2\nrefused 14 at 8\n");
+    check_refused_log("the end too early", b_with(8, 4), 18, 1, 14, 8, "5 4 4 1 2\nrefused 14 at 8\n");
+    check_refused_log("a block too many", b_with(13, 3), 18, 2, 14, 13, "5 4 4 1 2\n0 1 0\nrefused 14 at 13\n");
+    check_refused_log("width 3", b_with(2, 3), 18, 0, 15, 0, "refused 15 at 0\n");
+    check_refused_log("height 1,028", b_with(3, 4), 18, 0, 15, 0, "refused 15 at 0\n");
+    check_refused_log("N 8", b_with(5, 8), 18, 0, 15, 0, "refused 15 at 0\n");
+    check_refused_log("w 17", b_with(6, 17), 18, 0, 15, 0, "refused 15 at 0\n");
+    check_refused_log("search 0", b_with(7, 0), 18, 0, 15, 0, "refused 15 at 0\n");
+    check_refused_log("four-step, w 1", b_with(7, 3), 18, 0, 15, 0, "refused 15 at 0\n");
+    check_refused_log("13 before 15", b_with(7, 0), 7, 0, 13, 0, "refused 13 at 0\n");
+    check_refused_log("dx 2", b_with(10, 2), 18, 1, 16, 8, "5 4 4 1 2\nrefused 16 at 8\n");
+    check_refused_log("dx -1", b_with(10, 255), 18, 1, 16, 8, "5 4 4 1 2\nrefused 16 at 8\n");
+    check_refused_log("dy 1", b_with(9, 1), 18, 1, 16, 8, "5 4 4 1 2\nrefused 16 at 8\n");
+    check_refused_log("distortion 4,096", b_with(11, 16), 18, 1, 16, 8, "5 4 4 1 2\nrefused 16 at 8\n");
+    check_refused_log("a still block as command 2", b_with(10, 0), 18, 1, 16, 8, "5 4 4 1 2\nrefused 16 at 8\n");
+    check_refused_log("13 before 16", b_with(10, 2), 12, 1, 13, 8, "5 4 4 1 2\nrefused 13 at 8\n");
+    check_refused_log("end 0", b_with(17, 0), 18, 2, 17, 13, "5 4 4 1 2\n0 1 0\nrefused 17 at 13\n");
+    check_refused_log("end 16,777,217", b_with(14, 1), 18, 2, 17, 13, "5 4 4 1 2\n0 1 0\nrefused 17 at 13\n");
+    check_refused_log("a byte behind the end", b_with(18, 0), 19, 3, 18, 18, "5 4 4 1 2\n0 1 0\nend 1\nrefused 18 at 18\n");
+    check_refused_log("17 before 18", b_with(17, 2), 19, 2, 17, 13, "5 4 4 1 2\n0 1 0\nrefused 17 at 13\n");
 
     reading_refused("list one short", b_log, 18, 2, 10, 8);
     reading_refused("no list", b_log, 18, 0, 10, 8);

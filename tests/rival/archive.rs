@@ -198,7 +198,7 @@ fn gauge_request(pair: &Pair, n: usize, search: u32, w: usize, t: u32) -> GaugeR
 
 /// The single-block search.
 pub fn search_block(pair: &Pair, request: &Request) -> Answer {
-    let asked = gauge_request(pair, request.n, request.search, request.w, request.t);
+    let question = gauge_request(pair, request.n, request.search, request.w, request.t);
     // The pointers are never null and each stands with its slice's own length, which is all that the header asks.
     let found = unsafe {
         gauge_search_block(
@@ -206,7 +206,7 @@ pub fn search_block(pair: &Pair, request: &Request) -> Answer {
             pair.older.len(),
             pair.newer.as_ptr(),
             pair.newer.len(),
-            asked,
+            question,
             request.row,
             request.column,
         )
@@ -222,7 +222,7 @@ pub fn search_block(pair: &Pair, request: &Request) -> Answer {
 }
 
 /// The measuring call.
-pub fn measure(pair: &Pair, asked: &Measuring) -> Measured {
+pub fn measure(pair: &Pair, question: &Measuring) -> Measured {
     // As above.
     let measured = unsafe {
         gauge_measure(
@@ -232,11 +232,11 @@ pub fn measure(pair: &Pair, asked: &Measuring) -> Measured {
             pair.newer.len(),
             pair.width,
             pair.height,
-            asked.n,
-            asked.row,
-            asked.column,
-            asked.dy,
-            asked.dx,
+            question.n,
+            question.row,
+            question.column,
+            question.dy,
+            question.dx,
         )
     };
     Measured {
@@ -246,7 +246,7 @@ pub fn measure(pair: &Pair, asked: &Measuring) -> Measured {
 }
 
 /// The row view.
-pub fn row_view(pair: &Pair, asked: &Viewing) -> Viewed {
+pub fn row_view(pair: &Pair, question: &Viewing) -> Viewed {
     // As above.
     let row = unsafe {
         gauge_row_view(
@@ -256,10 +256,10 @@ pub fn row_view(pair: &Pair, asked: &Viewing) -> Viewed {
             pair.newer.len(),
             pair.width,
             pair.height,
-            asked.n,
-            asked.side,
-            asked.row,
-            asked.column,
+            question.n,
+            question.side,
+            question.row,
+            question.column,
         )
     };
     Viewed {

@@ -121,7 +121,7 @@ impl Calls {
             searches.push((4, w, t, [9, 13, 17, 21][w.trailing_zeros() as usize - 1]));
         }
         for (search, w, t, most) in searches {
-            let asked = Request {
+            let question = Request {
                 n,
                 search,
                 w,
@@ -129,10 +129,10 @@ impl Calls {
                 row,
                 column,
             };
-            let found = archive::search_block(pair, &asked);
+            let found = archive::search_block(pair, &question);
             let probes = found.counts[4];
             let fact = found.refusal == 0 && found.distortion >= least && probes <= most;
-            let inputs = format!("{inputs}, {asked}");
+            let inputs = format!("{inputs}, {question}");
             self.bounds.holds(&inputs, fact, &found, &(least, most));
         }
     }

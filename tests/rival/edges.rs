@@ -37,19 +37,19 @@ fn searched(group: &mut Group, pair: &Pair, request: Request, refusal: i64) {
 }
 
 /// Likewise for the measuring call.
-fn measured(group: &mut Group, pair: &Pair, asked: Measuring, refusal: i64) {
-    let answer = archive::measure(pair, &asked);
-    let wanted = rival::measure(pair, &asked);
-    group.same(format_args!("{pair}, {asked}"), answer.refusal, refusal);
-    group.same(format_args!("{pair}, {asked}"), answer, wanted);
+fn measured(group: &mut Group, pair: &Pair, question: Measuring, refusal: i64) {
+    let answer = archive::measure(pair, &question);
+    let wanted = rival::measure(pair, &question);
+    group.same(format_args!("{pair}, {question}"), answer.refusal, refusal);
+    group.same(format_args!("{pair}, {question}"), answer, wanted);
 }
 
 /// Likewise for the row view.
-fn viewed(group: &mut Group, pair: &Pair, asked: Viewing, refusal: i64) {
-    let answer = archive::row_view(pair, &asked);
-    let wanted = rival::row_view(pair, &asked);
-    group.same(format_args!("{pair}, {asked}"), answer.refusal, refusal);
-    group.same(format_args!("{pair}, {asked}"), answer, wanted);
+fn viewed(group: &mut Group, pair: &Pair, question: Viewing, refusal: i64) {
+    let answer = archive::row_view(pair, &question);
+    let wanted = rival::row_view(pair, &question);
+    group.same(format_args!("{pair}, {question}"), answer.refusal, refusal);
+    group.same(format_args!("{pair}, {question}"), answer, wanted);
 }
 
 /// All three calls at one place, in all four searches, must answer with this refusal.
@@ -65,22 +65,22 @@ fn all_calls(group: &mut Group, pair: &Pair, n: usize, row: usize, column: usize
         };
         searched(group, pair, request, refusal);
     }
-    let asked = Measuring {
+    let question = Measuring {
         n,
         row,
         column,
         dy: 0,
         dx: 0,
     };
-    measured(group, pair, asked, refusal);
+    measured(group, pair, question, refusal);
     for side in [0, 1] {
-        let asked = Viewing {
+        let question = Viewing {
             n,
             side,
             row,
             column,
         };
-        viewed(group, pair, asked, refusal);
+        viewed(group, pair, question, refusal);
     }
 }
 
@@ -239,24 +239,24 @@ fn block_places() -> u64 {
                         };
                         searched(&mut group, &pair, request, refusal);
                     }
-                    let asked = Measuring {
+                    let question = Measuring {
                         n,
                         row,
                         column,
                         dy: 0,
                         dx: 0,
                     };
-                    measured(&mut group, &pair, asked, refusal);
+                    measured(&mut group, &pair, question, refusal);
                     let inside = row < height && column <= last_column;
                     for side in [0, 1] {
-                        let asked = Viewing {
+                        let question = Viewing {
                             n,
                             side,
                             row,
                             column,
                         };
                         let refusal = if inside { 0 } else { 7 };
-                        viewed(&mut group, &pair, asked, refusal);
+                        viewed(&mut group, &pair, question, refusal);
                     }
                 }
             }
@@ -289,25 +289,25 @@ fn vectors_and_sides() -> u64 {
                     && (-16..=16).contains(&dx)
                     && (0..=(height - n) as i64).contains(&top)
                     && (0..=(width - n) as i64).contains(&left);
-                let asked = Measuring {
+                let question = Measuring {
                     n,
                     row,
                     column,
                     dy,
                     dx,
                 };
-                measured(&mut group, &pair, asked, if allowed { 0 } else { 8 });
+                measured(&mut group, &pair, question, if allowed { 0 } else { 8 });
             }
         }
         for side in [0, 1, 2, 3, 255, 256, 257, 65536, 1 << 31, u32::MAX] {
-            let asked = Viewing {
+            let question = Viewing {
                 n,
                 side,
                 row,
                 column,
             };
             let refusal = if side <= 1 { 0 } else { 12 };
-            viewed(&mut group, &pair, asked, refusal);
+            viewed(&mut group, &pair, question, refusal);
         }
     }
     group.end()
@@ -359,14 +359,14 @@ fn order() -> u64 {
         let broken = |rule| rules.contains(&rule);
         let pair = broken_pair(&rules);
         for far in [-17, 17, i32::MIN, i32::MAX] {
-            let asked = Measuring {
+            let question = Measuring {
                 n: if broken(3) { 16 } else { 4 },
                 row: if broken(7) { usize::MAX } else { 4 },
                 column: 4,
                 dy: if broken(8) { far } else { -4 },
                 dx: 0,
             };
-            measured(&mut group, &pair, asked, first);
+            measured(&mut group, &pair, question, first);
         }
     }
     for rules in choices(&[1, 2, 3, 12, 7]) {
@@ -374,13 +374,13 @@ fn order() -> u64 {
         let broken = |rule| rules.contains(&rule);
         let pair = broken_pair(&rules);
         for side in [0, 1] {
-            let asked = Viewing {
+            let question = Viewing {
                 n: if broken(3) { 0 } else { 8 },
                 side: if broken(12) { side + 2 } else { side },
                 row: 7,
                 column: if broken(7) { 1 } else { 0 },
             };
-            viewed(&mut group, &pair, asked, first);
+            viewed(&mut group, &pair, question, first);
         }
     }
     group.end()
@@ -449,27 +449,27 @@ fn table() -> u64 {
                     }
                 }
                 for (dy, dx) in [(0, 0), (-1, 0), (0, 1), (17, 0), (0, -17), (i32::MIN, 0)] {
-                    let asked = Measuring {
+                    let question = Measuring {
                         n,
                         row,
                         column,
                         dy,
                         dx,
                     };
-                    let answer = archive::measure(&pair, &asked);
-                    let wanted = rival::measure(&pair, &asked);
-                    others.same(format_args!("{pair}, {asked}"), answer, wanted);
+                    let answer = archive::measure(&pair, &question);
+                    let wanted = rival::measure(&pair, &question);
+                    others.same(format_args!("{pair}, {question}"), answer, wanted);
                 }
                 for side in [0, 1, 2] {
-                    let asked = Viewing {
+                    let question = Viewing {
                         n,
                         side,
                         row,
                         column,
                     };
-                    let answer = archive::row_view(&pair, &asked);
-                    let wanted = rival::row_view(&pair, &asked);
-                    others.same(format_args!("{pair}, {asked}"), answer, wanted);
+                    let answer = archive::row_view(&pair, &question);
+                    let wanted = rival::row_view(&pair, &question);
+                    others.same(format_args!("{pair}, {question}"), answer, wanted);
                 }
             }
         }

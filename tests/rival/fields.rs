@@ -83,7 +83,7 @@ pub fn few_blocks(chance: &mut Chance, kind: Kind, n: usize, w: usize) -> Pair {
 }
 
 /// Asks both sides and holds answer, list and table against each other.
-fn asked(group: &mut Group, seed: u64, pair: &Pair, request: &FieldRequest, lent: &Lent) {
+fn hold_field(group: &mut Group, seed: u64, pair: &Pair, request: &FieldRequest, lent: &Lent) {
     let (mut here, mut there) = (lent.clone(), lent.clone());
     let answer = archive::field(pair, request, &mut here);
     let wanted = reckoning::field(pair, request, &mut there);
@@ -104,7 +104,7 @@ fn by_search(search: u32, name: &str, rounds: u64) -> u64 {
         let request = good_request(chance, n, search);
         let pair = few_blocks(chance, kind, n, request.w);
         let lent = lend_for(chance, &pair, &request);
-        asked(&mut group, seed, &pair, &request, &lent);
+        hold_field(&mut group, seed, &pair, &request, &lent);
     }
     group.end()
 }
@@ -121,7 +121,7 @@ fn spoilt() -> u64 {
         let mut pair = few_blocks(chance, Kind::Noisy, n, 2);
         spoil(chance, &mut pair, &mut request);
         let lent = lend_for(chance, &pair, &request);
-        asked(&mut group, seed, &pair, &request, &lent);
+        hold_field(&mut group, seed, &pair, &request, &lent);
     }
     group.end()
 }
@@ -152,7 +152,7 @@ fn edges() -> u64 {
                     (0, table),
                 ] {
                     let lent = lend(chance, list_length, table_length);
-                    asked(&mut group, seed, &pair, &request, &lent);
+                    hold_field(&mut group, seed, &pair, &request, &lent);
                 }
             }
         }
@@ -183,7 +183,7 @@ fn large_frames() -> u64 {
             };
             let blocks = (width / n) * (height / n);
             let lent = lend(chance, 3 * blocks, (width + 1) * (height + 1));
-            asked(&mut group, seed, &pair, &request, &lent);
+            hold_field(&mut group, seed, &pair, &request, &lent);
         }
     }
     group.end()

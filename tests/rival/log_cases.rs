@@ -208,12 +208,12 @@ impl Logs {
     fn one_call(&mut self, case: &Case, (here, there): (Cursor, Cursor)) -> (Walked, Walked) {
         let answer = archive::walk(case.log, here);
         let wanted = logs::walk(case.log, there);
-        let told = |walked: Walked| Walked {
+        let command_of = |walked: Walked| Walked {
             next: walked.next.meaning(),
             ..walked
         };
         let inputs = format_args!("{case}, {here:?}");
-        self.walking.same(inputs, told(answer), told(wanted));
+        self.walking.same(inputs, command_of(answer), command_of(wanted));
         self.met.walking[wanted.refusal as usize] += 1;
         if wanted.refusal == 16 {
             let values = block_values(&case.log[there.at..]);
@@ -696,11 +696,11 @@ fn walked(group: &mut Group, log: &[u8], cursor: Cursor, refusal: i64, place: i6
     let (answer, wanted) = (archive::walk(log, cursor), logs::walk(log, cursor));
     group.same(inputs, (answer.refusal, answer.place), (refusal, place));
     group.same(inputs, (wanted.refusal, wanted.place), (refusal, place));
-    let told = |walked: Walked| Walked {
+    let command_of = |walked: Walked| Walked {
         next: walked.next.meaning(),
         ..walked
     };
-    group.same(inputs, told(answer), told(wanted));
+    group.same(inputs, command_of(answer), command_of(wanted));
 }
 
 /// 8 × 4 with N 4 and w 4: two blocks.

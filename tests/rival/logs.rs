@@ -111,7 +111,7 @@ fn head_values(command: &[u8]) -> Head {
 }
 
 /// A refused call of the walker, after which it is over.
-fn turned_away(refusal: i64, place: i64) -> Walked {
+fn refused_walk(refusal: i64, place: i64) -> Walked {
     Walked {
         refusal,
         place,
@@ -130,20 +130,20 @@ pub fn walk(log: &[u8], cursor: Cursor) -> Walked {
 
     // "34 walker called after a refusal [...] or one built by hand whose place is past the log".
     if cursor.phase > 2 || at > length {
-        return turned_away(34, 0);
+        return refused_walk(34, 0);
     }
     // "The call after the end command answers 18 if bytes follow it, else 34."
     if cursor.phase == 2 {
         return if at < length {
-            turned_away(18, at)
+            refused_walk(18, at)
         } else {
-            turned_away(34, 0)
+            refused_walk(34, 0)
         };
     }
     // "Whose head numbers (once a head is read) 15 would turn away, or whose blocks exceed the grid."
     let head_read = cursor.phase == 1;
     if head_read && (refused_head(&head) != 0 || blocks > blocks_of(&head)) {
-        return turned_away(34, 0);
+        return refused_walk(34, 0);
     }
 
     // "Due are: a head first and only there, then blocks until the grid is full, then the end."
@@ -159,10 +159,10 @@ pub fn walk(log: &[u8], cursor: Cursor) -> Walked {
     // The place is the command's offset (the log's length if none begins [...])."
     let rest = &log[cursor.at..];
     let Some(&command) = rest.first() else {
-        return turned_away(13, length);
+        return refused_walk(13, length);
     };
     if !due.contains(&command) {
-        return turned_away(14, at);
+        return refused_walk(14, at);
     }
     let size = match command {
         1 => 8,
@@ -170,7 +170,7 @@ pub fn walk(log: &[u8], cursor: Cursor) -> Walked {
         _ => 5,
     };
     let Some(bytes) = rest.get(..size) else {
-        return turned_away(13, at);
+        return refused_walk(13, at);
     };
 
     let mut handed_out = Walked {
@@ -188,7 +188,7 @@ pub fn walk(log: &[u8], cursor: Cursor) -> Walked {
             handed_out.next.head = handed_out.head;
             handed_out.next.blocks = 0;
             if refused_head(&handed_out.head) != 0 {
-                return turned_away(15, at);
+                return refused_walk(15, at);
             }
         }
         2 => {
@@ -196,7 +196,7 @@ pub fn walk(log: &[u8], cursor: Cursor) -> Walked {
             [handed_out.dy, handed_out.dx, handed_out.distortion] = values;
             handed_out.next.blocks += 1;
             if !faults(&head, blocks, values, true).is_empty() {
-                return turned_away(16, at);
+                return refused_walk(16, at);
             }
         }
         3 => handed_out.next.blocks += 1,
@@ -204,7 +204,7 @@ pub fn walk(log: &[u8], cursor: Cursor) -> Walked {
             handed_out.blocks = number(&bytes[1..]);
             handed_out.next.phase = 2;
             if handed_out.blocks != plain(blocks) {
-                return turned_away(17, at);
+                return refused_walk(17, at);
             }
         }
     }

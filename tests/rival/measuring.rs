@@ -32,18 +32,18 @@ fn part(chance: &mut Chance) -> i32 {
 
 /// "Hands back N pels as the very part of that frame, starting at that place": the part that the archive names holds what stands in
 /// that row of that frame from that column on. A refused call hands back an empty part.
-fn names_the_row(pair: &Pair, asked: &Viewing) -> bool {
-    let viewed = archive::row_view(pair, asked);
+fn names_the_row(pair: &Pair, question: &Viewing) -> bool {
+    let viewed = archive::row_view(pair, question);
     if viewed.refusal != 0 {
         return viewed.length == 0;
     }
-    let frame = if asked.side == 0 {
+    let frame = if question.side == 0 {
         &pair.older
     } else {
         &pair.newer
     };
-    let row = frame.chunks(pair.width).nth(asked.row);
-    let wanted = row.and_then(|row| row.get(asked.column..)?.get(..asked.n));
+    let row = frame.chunks(pair.width).nth(question.row);
+    let wanted = row.and_then(|row| row.get(question.column..)?.get(..question.n));
     let part = frame.get(viewed.place as usize..);
     let part = part.and_then(|rest| rest.get(..viewed.length as usize));
     part.is_some() && part == wanted
@@ -63,29 +63,29 @@ pub fn run() -> u64 {
         let height = n + chance.between(0, reach) as usize;
         let pair = made_up(chance, kind, width, height, 16);
         for _ in 0..150 {
-            let asked = Measuring {
+            let question = Measuring {
                 n,
                 row: place(chance, height, n),
                 column: place(chance, width, n),
                 dy: part(chance),
                 dx: part(chance),
             };
-            let answer = archive::measure(&pair, &asked);
-            let wanted = rival::measure(&pair, &asked);
-            measuring.same(format_args!("{pair}, {asked}, seed {seed}"), answer, wanted);
+            let answer = archive::measure(&pair, &question);
+            let wanted = rival::measure(&pair, &question);
+            measuring.same(format_args!("{pair}, {question}, seed {seed}"), answer, wanted);
         }
         for _ in 0..50 {
-            let asked = Viewing {
+            let question = Viewing {
                 n,
                 side: chance.one_of(&[0, 0, 0, 1, 1, 1, 2, u32::MAX]),
                 row: place(chance, height, 1),
                 column: place(chance, width, n),
             };
-            let answer = archive::row_view(&pair, &asked);
-            let wanted = rival::row_view(&pair, &asked);
-            let inputs = format!("{pair}, {asked}, seed {seed}");
+            let answer = archive::row_view(&pair, &question);
+            let wanted = rival::row_view(&pair, &question);
+            let inputs = format!("{pair}, {question}, seed {seed}");
             viewing.same(&inputs, answer, wanted);
-            let named = names_the_row(&pair, &asked);
+            let named = names_the_row(&pair, &question);
             parts.holds(&inputs, named, &answer, &"that part of the frame");
         }
     }

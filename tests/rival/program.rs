@@ -109,7 +109,7 @@ impl Cases<'_> {
     }
 
     /// One case: the text and the end of a run against the archive's text for these bytes.
-    fn told(&mut self, what: &str, log: &[u8], (text, end): (Vec<u8>, End)) {
+    fn agrees(&mut self, what: &str, log: &[u8], (text, end): (Vec<u8>, End)) {
         let wanted = text_of(log);
         let inputs = format!("{what}, {} bytes", log.len());
         let both = (&shown(&text), end);
@@ -135,7 +135,7 @@ impl Cases<'_> {
             pieces,
             Duration::from_micros(pause),
         );
-        self.told(what, log, ran);
+        self.agrees(what, log, ran);
     }
 
     /// A log at once.
@@ -147,7 +147,7 @@ impl Cases<'_> {
     fn lent(&mut self, what: &str, input: impl Into<Stdio>, log: &[u8]) {
         let mut command = Command::new(self.program);
         let ran = run(command.stdin(input), vec![], Duration::ZERO);
-        self.told(what, log, ran);
+        self.agrees(what, log, ran);
     }
 
     /// The program as a shell starts it, with these words behind its name.
@@ -232,7 +232,7 @@ fn dribbles(program: &str) -> u64 {
 fn fails(program: &str) -> u64 {
     let mut cases = Cases::new(program, "input that fails");
     let ran = run(&mut cases.shell("", "<&-"), vec![], Duration::ZERO);
-    cases.told("closed", &[], ran);
+    cases.agrees("closed", &[], ran);
     let folder = File::open("/").expect("a folder opens");
     cases.lent("a folder", folder, &[]);
     let writing = OpenOptions::new().write(true).open("/dev/null");

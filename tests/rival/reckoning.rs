@@ -71,7 +71,7 @@ fn filled(pair: &Pair, request: &FieldRequest, lent: &mut Lent) -> FieldAnswer {
     let mut answer = FieldAnswer::default();
     let mut vectors = Vec::new();
     for (k, (row, column)) in grid(pair, request.n).into_iter().enumerate() {
-        let asked = Request {
+        let question = Request {
             n: request.n,
             search: request.search,
             w: request.w,
@@ -79,7 +79,7 @@ fn filled(pair: &Pair, request: &FieldRequest, lent: &mut Lent) -> FieldAnswer {
             row,
             column,
         };
-        let found = search_block(pair, &asked);
+        let found = search_block(pair, &question);
         lent.list[3 * k] = found.dy as i32;
         lent.list[3 * k + 1] = found.dx as i32;
         lent.list[3 * k + 2] = found.distortion as i32;

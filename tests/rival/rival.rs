@@ -425,14 +425,14 @@ pub fn search_block(pair: &Pair, request: &Request) -> Answer {
 }
 
 /// The measuring call: refusals 1 2 3 7 8, "8 measuring one vector: not a candidate of window 16".
-pub fn measure(pair: &Pair, asked: &Measuring) -> Measured {
-    let mut refusal = refused_pair(pair, asked.n);
+pub fn measure(pair: &Pair, question: &Measuring) -> Measured {
+    let mut refusal = refused_pair(pair, question.n);
     if refusal == 0 {
-        refusal = refused_place(pair, asked.n, asked.row, asked.column);
+        refusal = refused_place(pair, question.n, question.row, question.column);
     }
-    let vector = (asked.dy as i64, asked.dx as i64);
+    let vector = (question.dy as i64, question.dx as i64);
     if refusal == 0 {
-        let block = Block::new(pair, asked.n, asked.row, asked.column);
+        let block = Block::new(pair, question.n, question.row, question.column);
         if block.is_candidate(16, vector) {
             return Measured {
                 refusal: 0,
@@ -449,21 +449,21 @@ pub fn measure(pair: &Pair, asked: &Measuring) -> Measured {
 
 /// The row view and its companion: refusals 1 2 3 12 7, "12 side not 0 or 1, before 7" and "row view: the N pels not inside one
 /// row of the frame asked for".
-pub fn row_view(pair: &Pair, asked: &Viewing) -> Viewed {
+pub fn row_view(pair: &Pair, question: &Viewing) -> Viewed {
     let refused = |refusal| Viewed {
         refusal,
         place: 0,
         length: 0,
     };
-    let first = refused_pair(pair, asked.n);
+    let first = refused_pair(pair, question.n);
     if first != 0 {
         return refused(first);
     }
-    if asked.side > 1 {
+    if question.side > 1 {
         return refused(12);
     }
-    let (width, height, n) = (plain(pair.width), plain(pair.height), plain(asked.n));
-    let (row, column) = (plain(asked.row), plain(asked.column));
+    let (width, height, n) = (plain(pair.width), plain(pair.height), plain(question.n));
+    let (row, column) = (plain(question.row), plain(question.column));
     if row >= height || column > width - n {
         return refused(7);
     }

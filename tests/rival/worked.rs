@@ -20,15 +20,15 @@ fn searched(group: &mut Group, what: &str, pair: &Pair, request: Request, wanted
 }
 
 /// Likewise for the measuring call.
-fn measured(group: &mut Group, what: &str, pair: &Pair, asked: Measuring, distortion: i64) {
+fn measured(group: &mut Group, what: &str, pair: &Pair, question: Measuring, distortion: i64) {
     let wanted = Measured {
         refusal: 0,
         distortion,
     };
-    let inputs = format!("pair {what}: {pair}, {asked}");
-    group.same(&inputs, archive::measure(pair, &asked), wanted);
-    let inputs = format!("the rival's own answer to pair {what}: {pair}, {asked}");
-    group.same(&inputs, rival::measure(pair, &asked), wanted);
+    let inputs = format!("pair {what}: {pair}, {question}");
+    group.same(&inputs, archive::measure(pair, &question), wanted);
+    let inputs = format!("the rival's own answer to pair {what}: {pair}, {question}");
+    group.same(&inputs, rival::measure(pair, &question), wanted);
 }
 
 /// A request for a block of N 4; search, w, T and place follow.
