@@ -13,9 +13,9 @@ ghost use Rattle.pruned_region.specs.Reach.{wholeFrame};
 ghost use Rattle.field.specs.Field.{listSize, fieldRefusal, searchAt, refusedField, filledTable, fieldResult, acceptedField, field};
 ghost use Rattle.field.specs.Filling.{HasRoom, Summable, Prepared, Sound, totalOver, joined, Bounded, BlocksFilled};
 use order::Vector;
-use pruned_sums::Region;
+use frame::Region;
 use refusals::Request;
-use search::SearchBlock;
+use frame::SearchBlock;
 use search::SearchResult;
 
 // What a field call answers: the reading with its votes, and the counts and the number dropped, summed over the blocks.

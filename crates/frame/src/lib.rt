@@ -20,6 +20,22 @@ pub struct Sizes {
     pub n: usize,
 }
 
+// A block of the newer frame, at row y, column x, to be searched within window w.
+pub struct SearchBlock {
+    pub sizes: Sizes,
+    pub w: usize,
+    pub y: usize,
+    pub x: usize,
+}
+
+// A part of a frame: so many rows from row `top` on, so many columns from column `left` on.
+pub struct Region {
+    pub top: usize,
+    pub left: usize,
+    pub rows: usize,
+    pub columns: usize,
+}
+
 // ---- the grid
 
 // How many blocks the grid has.

@@ -10,7 +10,7 @@ use Rattle.base.specs.Index.{frame-small}
 use Rattle.order.specs.Preference.{preferred}
 use Rattle.frame.specs.Candidates.{olderRow, olderColumn, candidate-older}
 use Rattle.distortion.specs.Blocks.{absolute, distortion, rowsFrom, rowsApart, Comparable, begins, block-inside, block-rows, copy-rows}
-use Rattle.search.specs.declared.SearchBlock.{SearchBlock}
+use Rattle.frame.specs.declared.SearchBlock.{SearchBlock}
 use Rattle.search.specs.Target.{Ready, candidate-past}
 use Rattle.pruned_remaining.specs.Gathered.{candidateAt}
 use Rattle.full.specs.Full.{beginsAt, Stands, CopyOf, distortionOf}

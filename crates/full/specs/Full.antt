@@ -14,7 +14,7 @@ use Rattle.order.specs.Preference.{preferred}
 use Rattle.frame.specs.Pictures.{Pair, pairOf}
 use Rattle.frame.specs.Candidates.{olderRow, olderColumn}
 use Rattle.distortion.specs.Blocks.{absolute, blockCopy, distortion, rowsUpTo}
-use Rattle.search.specs.declared.SearchBlock.{SearchBlock}
+use Rattle.frame.specs.declared.SearchBlock.{SearchBlock}
 use Rattle.search.specs.declared.SearchResult.{SearchResult}
 use Rattle.search.specs.Target.{Past}
 use Rattle.search.specs.SearchResult.{searchResult, onlyAtOne}

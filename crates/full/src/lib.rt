@@ -9,7 +9,7 @@ ghost use Rattle.distortion.specs.Blocks.{UpTo};
 ghost use Rattle.search.specs.Target.{Ready};
 ghost use Rattle.pruned_remaining.specs.Gathered.{candidateAt, ListedCandidates};
 ghost use Rattle.full.specs.Full.{beginsAt, Stands, CopyOf, distortionOf, distortionUpTo, Choice, fullSearch};
-use search::SearchBlock;
+use frame::SearchBlock;
 use search::SearchResult;
 
 // A candidate's place in the preference table, and its distortion.

@@ -20,7 +20,7 @@ use Rattle.order.specs.Vectors.{vec, Within, same?}
 use Rattle.frame.specs.Pictures.{Pair}
 use Rattle.frame.specs.Candidates.{inWindow, candidate, candidate-older}
 use Rattle.distortion.specs.Blocks.{absolute, blockAt, newerBlock, distortionBy}
-use Rattle.search.specs.declared.SearchBlock.{SearchBlock}
+use Rattle.frame.specs.declared.SearchBlock.{SearchBlock}
 use Rattle.search.specs.declared.MeasuredCandidate.the-variants.{Distortion, NotCandidate}
 use Rattle.search.specs.Target.{Target, target, measureCandidate, measure-candidate-none, measure-candidate-some, still-cost}
 use Rattle.probe.specs.declared.BestSoFar.{BestSoFar}

@@ -16,7 +16,7 @@ use lib.ListN.{length, getD}
 use Rattle.signed.specs.Values.{unbias}
 use Rattle.order.specs.declared.Vector.{Vector}
 use Rattle.order.specs.Vectors.{vec, Within}
-use Rattle.search.specs.declared.SearchBlock.{SearchBlock}
+use Rattle.frame.specs.declared.SearchBlock.{SearchBlock}
 use Rattle.search.specs.declared.SearchResult.{SearchResult}
 use Rattle.search.specs.Target.{Target, Ready}
 use Rattle.search.specs.SearchResult.{searchResult, onlyAtOne}

@@ -11,7 +11,7 @@ ghost use Rattle.search.specs.Target.{Ready, targetOf};
 ghost use Rattle.probe.specs.Probe.{plus, probePoint, probe, atOrigin, around, times, widened, isIn, fresh};
 ghost use Rattle.probe.specs.BestSoFar.{point, seenOf, pairs, probeNew, Pattern, Ongoing, Holds, resultOf};
 use search::MeasuredCandidate;
-use search::SearchBlock;
+use frame::SearchBlock;
 use search::SearchResult;
 use signed::Shifted;
 

@@ -10,7 +10,7 @@ use Rattle.order.specs.Preference.{preferred}
 use Rattle.frame.specs.Pictures.{Pair, largestN}
 use Rattle.refusals.specs.Refusals.{blockSizeOk, block-size-elim}
 use Rattle.distortion.specs.Blocks.{absolute, distortion, newerBlock, olderBlock}
-use Rattle.search.specs.declared.SearchBlock.{SearchBlock}
+use Rattle.frame.specs.declared.SearchBlock.{SearchBlock}
 use Rattle.search.specs.Target.{Ready}
 use Rattle.pruned_sums.specs.Filling.{blockTable, Fillable}
 use Rattle.pruned_region.proofs.Windows.{ready-standing, ready-size}

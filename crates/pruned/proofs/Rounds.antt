@@ -11,7 +11,7 @@ use Rattle.base.specs.Least.{_∈_, leastOf}
 use Rattle.base.specs.Picks.{pick, pick-few}
 use Rattle.order.specs.Preference.{preferred}
 use Rattle.distortion.specs.Blocks.{absolute}
-use Rattle.search.specs.declared.SearchBlock.{SearchBlock}
+use Rattle.frame.specs.declared.SearchBlock.{SearchBlock}
 use Rattle.search.specs.declared.SearchResult.{SearchResult}
 use Rattle.search.specs.SearchResult.{searchResult}
 use Rattle.pruned_rule.specs.Prune.{Pruning, allRemaining, lower, sift, rounds, prune, prunedBest, counts, halvings, resolutions}

@@ -16,11 +16,11 @@ use Rattle.base.specs.Lists.{fillTo}
 use Rattle.base.specs.Least.{leastOf}
 use Rattle.order.specs.Preference.{preferred}
 use Rattle.distortion.specs.Blocks.{blockAt}
-use Rattle.search.specs.declared.SearchBlock.{SearchBlock}
+use Rattle.frame.specs.declared.SearchBlock.{SearchBlock}
 use Rattle.search.specs.declared.SearchResult.{SearchResult}
 use Rattle.search.specs.SearchResult.{searchResult}
 use Rattle.search.specs.Target.{Ready}
-use Rattle.pruned_sums.specs.declared.Region.{Region}
+use Rattle.frame.specs.declared.Region.{Region}
 use Rattle.pruned_sums.specs.Area.{SumsOf}
 use Rattle.pruned_rule.specs.Prune.{resolutions}
 use Rattle.pruned_remaining.specs.Gathered.{nearestOf, keptWithin, swept}

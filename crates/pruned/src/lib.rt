@@ -15,8 +15,8 @@ ghost use Rattle.full.specs.Full.{distortionOf};
 ghost use Rattle.pruned_distance.specs.Remaining.{distanceOf, Tested};
 ghost use Rattle.pruned.specs.Answer.{stillDistortion, prunedSearch};
 ghost use Rattle.pruned.specs.Memory.{Lent, firstSlot, Begun, recounted, testsCounted, bounded, Leveled, finished};
-use pruned_sums::Region;
-use search::SearchBlock;
+use frame::Region;
+use frame::SearchBlock;
 use search::SearchResult;
 
 // The search between two resolutions: how many candidates remain, E, and how many were tested at each resolution so far; the next

@@ -16,8 +16,8 @@ use Rattle.frame.specs.Pictures.{pel, largestN}
 use Rattle.frame.specs.Candidates.{olderRow, olderColumn, candidate-older}
 use Rattle.distortion.specs.Blocks.{Block, absolute, blockAt}
 use Rattle.pruned_rule.specs.Distance.{distanceBy}
-use Rattle.search.specs.declared.SearchBlock.{SearchBlock}
-use Rattle.pruned_sums.specs.declared.Region.{Region}
+use Rattle.frame.specs.declared.SearchBlock.{SearchBlock}
+use Rattle.frame.specs.declared.Region.{Region}
 use Rattle.pruned_distance.specs.declared.Origin.{Origin}
 use Rattle.pruned_region.specs.Reach.{Standing, cornerRegion}
 use Rattle.pruned_region.proofs.Windows.{ready-standing, ready-size}

@@ -11,10 +11,10 @@ use Rattle.order.specs.Preference.{preferred}
 use Rattle.frame.specs.Candidates.{olderRow, olderColumn}
 use Rattle.distortion.specs.Blocks.{absolute, blockAt}
 use Rattle.pruned_rule.specs.Distance.{distanceBy}
-use Rattle.search.specs.declared.SearchBlock.{SearchBlock}
+use Rattle.frame.specs.declared.SearchBlock.{SearchBlock}
 use Rattle.search.specs.Target.{Ready, Past}
 use Rattle.pruned_remaining.specs.Gathered.{ListedCandidates}
-use Rattle.pruned_sums.specs.declared.Region.{Region}
+use Rattle.frame.specs.declared.Region.{Region}
 use Rattle.pruned_sums.specs.Area.{SumsOf}
 use Rattle.pruned_region.specs.Reach.{Covers}
 use Rattle.pruned_distance.specs.declared.Origin.{Origin}

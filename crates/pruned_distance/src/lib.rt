@@ -9,8 +9,8 @@ ghost use Rattle.order.specs.Preference.{preference, preferred, flat};
 ghost use Rattle.distortion.specs.Blocks.{blockAt};
 ghost use Rattle.pruned_subblocks.specs.Squares.{BlockSums, Cut, differenceAt, Compared};
 ghost use Rattle.pruned_distance.specs.Remaining.{Reached, placeOf, distanceOf, Tested};
-use pruned_sums::Region;
-use search::SearchBlock;
+use frame::Region;
+use frame::SearchBlock;
 
 // Where the older blocks of a block's candidates stand: the block is at row y, column x, and places count from row `top` and column `left`
 // of the older frame, in rows of `stride`.

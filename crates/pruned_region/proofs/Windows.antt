@@ -6,7 +6,7 @@ use native.Mathlib.Omega.{arith}
 use lib.ListN.{length}
 use Rattle.refusals.specs.Refusals.{block-size-elim}
 use Rattle.frame.specs.Pictures.{largestN}
-use Rattle.search.specs.declared.SearchBlock.{SearchBlock}
+use Rattle.frame.specs.declared.SearchBlock.{SearchBlock}
 use Rattle.search.specs.Target.{Ready}
 use Rattle.pruned_sums.specs.Filling.{windowTable, Fillable}
 use Rattle.pruned_region.specs.Reach.{Standing, searchWindow, wholeFrame, Covers}

@@ -7,8 +7,8 @@
 --   Covers       a part of the older frame that holds the older block of every candidate
 use Prim.Native.Nat.{ℕ, _+_, _-_, _≤_, min}
 use Rattle.frame.specs.declared.Sizes.{Sizes}
-use Rattle.search.specs.declared.SearchBlock.{SearchBlock}
-use Rattle.pruned_sums.specs.declared.Region.{Region}
+use Rattle.frame.specs.declared.SearchBlock.{SearchBlock}
+use Rattle.frame.specs.declared.Region.{Region}
 
 pub record Standing (b : SearchBlock) : Type 0 where
   pub down : b .y + b .sizes .n ≤ b .sizes .height

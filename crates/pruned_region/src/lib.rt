@@ -3,8 +3,8 @@
 ghost use mathlib.Core.Path.{_≡_};
 ghost use Prim.Native.Nat.{_-_, min};
 ghost use Rattle.pruned_region.specs.Reach.{Standing, cornerRegion, searchWindow};
-use pruned_sums::Region;
-use search::SearchBlock;
+use frame::Region;
+use frame::SearchBlock;
 
 // at - w, or 0.
 fn minus_or_zero(at: usize, w: usize) -> usize

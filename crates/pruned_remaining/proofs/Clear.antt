@@ -13,7 +13,7 @@ use Rattle.order.specs.Preference.{preferred}
 use Rattle.order.proofs.Order.{inside}
 use Rattle.frame.specs.declared.Sizes.{Sizes}
 use Rattle.frame.specs.Candidates.{candidate, candidate-at}
-use Rattle.search.specs.declared.SearchBlock.{SearchBlock}
+use Rattle.frame.specs.declared.SearchBlock.{SearchBlock}
 use Rattle.pruned_remaining.specs.Gathered.{candidateAt, roomy, clear}
 
 -- 16 pels from each side every vector of window 16 is a candidate

@@ -14,7 +14,7 @@ use Rattle.base.specs.Tests.{true-T}
 use Rattle.base.specs.Lists.{length-over, listTo, fillTo, length-listTo, length-fill, fill-in}
 use Rattle.base.specs.Least.{_∈_, leastOf, leastFrom, leastOf-more, getD-mem}
 use Rattle.base.specs.Picks.{pick, picked, pick-few}
-use Rattle.search.specs.declared.SearchBlock.{SearchBlock}
+use Rattle.frame.specs.declared.SearchBlock.{SearchBlock}
 use Rattle.pruned_rule.specs.Sift.{kept}
 use Rattle.pruned_rule.proofs.Loops.{kept-take}
 use Rattle.pruned_remaining.specs.Gathered.{candidateAt, Front, ListedCandidates, nearestOf, keptWithin, swept}

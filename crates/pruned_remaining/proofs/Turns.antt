@@ -13,7 +13,7 @@ use lib.Seq.{take-all, take-set-le, take-suc-set, drop-set-lt, getD-set-other}
 use Rattle.base.specs.Lists.{listTo, length-listTo, getD-listTo, front-more}
 use Rattle.base.specs.Least.{leastOf, least-next-less, least-next-not, least-of-one}
 use Rattle.base.specs.Picks.{pick, pick-none, pick-yes, pick-no}
-use Rattle.search.specs.declared.SearchBlock.{SearchBlock}
+use Rattle.frame.specs.declared.SearchBlock.{SearchBlock}
 use Rattle.pruned_remaining.specs.Gathered.{candidateAt, Front, nearestOf, keptWithin, swept}
 
 -- ---- places in front of what was there: none yet, and one more

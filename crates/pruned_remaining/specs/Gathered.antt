@@ -17,7 +17,7 @@ use Rattle.base.specs.Lists.{listTo}
 use Rattle.base.specs.Least.{leastOf}
 use Rattle.order.specs.Preference.{preferred}
 use Rattle.frame.specs.Candidates.{candidate}
-use Rattle.search.specs.declared.SearchBlock.{SearchBlock}
+use Rattle.frame.specs.declared.SearchBlock.{SearchBlock}
 
 abbrev pub candidateAt : SearchBlock → ℕ → Bool
 candidateAt b k = candidate (b .sizes) (b .w) (b .y) (b .x) (preferred k)

@@ -8,7 +8,7 @@ ghost use Rattle.base.specs.Lists.{listTo};
 ghost use Rattle.base.specs.Picks.{pick};
 ghost use Rattle.order.specs.Preference.{preference, flat};
 ghost use Rattle.pruned_remaining.specs.Gathered.{candidateAt, roomy, clear, Front, nearestOf, keptWithin, swept};
-use search::SearchBlock;
+use frame::SearchBlock;
 
 // The vector at place k of the preference table is a candidate.
 fn is_among(order: &[i32; 2178], b: SearchBlock, k: usize) -> bool

@@ -18,8 +18,8 @@ use Rattle.base.specs.Rows.{inRows}
 use Rattle.signed.specs.Values.{absDiff}
 use Rattle.distortion.specs.Blocks.{Block, absolute, blockAt}
 use Rattle.pruned_rule.specs.Distance.{squareSum, distanceBy}
-use Rattle.search.specs.declared.SearchBlock.{SearchBlock}
-use Rattle.pruned_sums.specs.declared.Region.{Region}
+use Rattle.frame.specs.declared.SearchBlock.{SearchBlock}
+use Rattle.frame.specs.declared.Region.{Region}
 use Rattle.pruned_sums.specs.Area.{SumsOf}
 use Rattle.frame.specs.Pictures.{largestN}
 use Rattle.pruned_sums.specs.Square.{squareAt}

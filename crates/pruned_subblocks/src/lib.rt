@@ -11,8 +11,8 @@ ghost use Rattle.distortion.specs.Blocks.{blockAt};
 ghost use Rattle.pruned_rule.specs.Distance.{squareSum};
 ghost use Rattle.pruned_sums.specs.Area.{SumsOf};
 ghost use Rattle.pruned_subblocks.specs.Squares.{largestSquareSum, squareSumAt, HasSquare, IsSquare, blockRegion, BlockSums, squareSums, squareSteps, differenceAt, Compared, IsDistance};
-use pruned_sums::Region;
-use search::SearchBlock;
+use frame::Region;
+use frame::SearchBlock;
 
 // How many squares of at least 2 × 2 pels a block has.
 pub const MOST_SQUARES: usize = (frame::LARGEST_N / 2) * (frame::LARGEST_N / 2);

@@ -9,7 +9,7 @@ use Rattle.base.specs.Sum.{sumTo, sumTo-ext, sumTo-more, sumOver-bound}
 use Rattle.base.specs.Index.{row-next, row-fits}
 use Rattle.base.specs.Lists.{listTo, concatTo, fillTo, length-listTo, listTo-ext, concatTo-more, length-fill, drop-over, fill-join, fill-zero}
 use Rattle.distortion.specs.Blocks.{blockAt}
-use Rattle.pruned_sums.specs.declared.Region.{Region}
+use Rattle.frame.specs.declared.Region.{Region}
 use Rattle.pruned_sums.specs.Area.{area, sumsRow, sumsTo, summed, length-sums, sums-at}
 use Rattle.pruned_sums.specs.Filling.{nextRow, Fillable}
 

@@ -7,7 +7,7 @@ use mathlib.Core.List.{List}
 use lib.ListN.{length, getD}
 use Rattle.base.specs.Sum.{sumTo}
 use Rattle.frame.specs.Pictures.{largestN}
-use Rattle.pruned_sums.specs.declared.Region.{Region}
+use Rattle.frame.specs.declared.Region.{Region}
 
 abbrev pub blockTable : ℕ
 blockTable = (largestN + 1) * (largestN + 1)

@@ -9,19 +9,12 @@ ghost use Rattle.distortion.specs.Blocks.{blockAt};
 ghost use Rattle.pruned_sums.specs.Area.{summed};
 ghost use Rattle.pruned_sums.specs.Square.{squareAt, Square};
 ghost use Rattle.pruned_sums.specs.Filling.{nextRow, Fillable};
+use frame::Region;
 
 // The lengths of the summed-area tables of a block of the largest N, and of its search window.
 pub const BLOCK_TABLE: usize = (frame::LARGEST_N + 1) * (frame::LARGEST_N + 1);
 
 pub const WINDOW_TABLE: usize = (frame::LARGEST_N + 32 + 1) * (frame::LARGEST_N + 32 + 1);
-
-// A part of a frame: so many rows from row `top` on, so many columns from column `left` on.
-pub struct Region {
-    pub top: usize,
-    pub left: usize,
-    pub rows: usize,
-    pub columns: usize,
-}
 
 // The first n places are 0.
 fn clear(table: &mut [u32], n: usize)

@@ -20,7 +20,7 @@ use Rattle.frame.specs.Pictures.{Pair, pairOf}
 use Rattle.frame.specs.Candidates.{candidate, candidate-older}
 use Rattle.refusals.specs.Refusals.{Placed}
 use Rattle.distortion.specs.Blocks.{absolute, blockAt, newerBlock, distortionBy, distortion}
-use Rattle.search.specs.declared.SearchBlock.{SearchBlock}
+use Rattle.frame.specs.declared.SearchBlock.{SearchBlock}
 use Rattle.search.specs.declared.MeasuredCandidate.{MeasuredCandidate}
 use Rattle.search.specs.declared.MeasuredCandidate.the-variants.{Distortion, NotCandidate}
 

@@ -1,4 +1,4 @@
-// What the four searches of document 01 share: the block that is searchBy, the distortion of a candidate, and the answer.
+// What the four searches of document 01 share: the distortion of a candidate, and the answer.
 
 ghost use mathlib.Core.Path.{_≡_};
 ghost use Prim.Native.Nat.{_-_, _≤_};
@@ -7,15 +7,7 @@ ghost use Rattle.signed.specs.Int.{up};
 ghost use Rattle.order.specs.Vectors.{vec};
 ghost use Rattle.search.specs.Target.{Ready, Past, targetOf, measureCandidate};
 use frame::Older;
-use frame::Sizes;
-
-// A block of the newer frame, at row y, column x, to be searchBy within window w.
-pub struct SearchBlock {
-    pub sizes: Sizes,
-    pub w: usize,
-    pub y: usize,
-    pub x: usize,
-}
+use frame::SearchBlock;
 
 // What a search answers: a vector, its distortion, five counts for m = 16, 8, 4, 2, 1, and the number dropped.
 #[repr(C)]
