@@ -7,8 +7,8 @@ ghost use Rattle.search.specs.SearchResult.{refusedSearch};
 ghost use Rattle.search.specs.Target.{Ready};
 ghost use Rattle.pruned.specs.Answer.{prunedSearch};
 ghost use Rattle.block.specs.Block.{searchRefusal, searchBlock};
-use refusals::Request;
 use frame::SearchBlock;
+use refusals::Request;
 use search::SearchResult;
 
 // The first of 1 2 3 4 5 6 7 that applies, or 0.

@@ -7,8 +7,8 @@ ghost use Rattle.refusals.specs.Cross.{crossWindow};
 ghost use Rattle.search.specs.Target.{Ready, targetOf};
 ghost use Rattle.probe.specs.BestSoFar.{point, seenOf, Ongoing, Holds, resultOf};
 ghost use Rattle.cross.specs.Cross.{pass, passes, onDiagonal, ended, finished, cross};
-use probe::BestSoFar;
 use frame::SearchBlock;
+use probe::BestSoFar;
 use search::SearchResult;
 
 // The tables of offset pairs, dy and dx: the ends of a St. Andrew's cross (X) and of a Greek cross (+), and step 6's points.

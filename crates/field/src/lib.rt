@@ -12,10 +12,10 @@ ghost use Rattle.refusals.specs.Refusals.{sizesOf};
 ghost use Rattle.pruned_region.specs.Reach.{wholeFrame};
 ghost use Rattle.field.specs.Field.{listSize, fieldRefusal, searchAt, refusedField, filledTable, fieldResult, acceptedField, field};
 ghost use Rattle.field.specs.Filling.{HasRoom, Summable, Prepared, Sound, totalOver, joined, Bounded, BlocksFilled};
-use order::Vector;
 use frame::Region;
-use refusals::Request;
 use frame::SearchBlock;
+use order::Vector;
+use refusals::Request;
 use search::SearchResult;
 
 // What a field call answers: the reading with its votes, and the counts and the number dropped, summed over the blocks.

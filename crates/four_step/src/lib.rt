@@ -7,8 +7,8 @@ ghost use Rattle.search.specs.Target.{Ready, targetOf};
 ghost use Rattle.order.specs.Vectors.{same?};
 ghost use Rattle.probe.specs.BestSoFar.{point, seenOf, Ongoing, Holds, resultOf};
 ghost use Rattle.four_step.specs.FourStep.{step1, step23, step4, from3, from2, fourStep};
-use probe::BestSoFar;
 use frame::SearchBlock;
+use probe::BestSoFar;
 use search::SearchResult;
 
 // The tables of offset pairs, dy and dx: centre, then the eight around it, row by row, at distance 2; the eight at distance 1.

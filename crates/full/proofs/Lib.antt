@@ -1,3 +1,2 @@
 pub mod Older
-pub mod Turns
 pub mod Laws

@@ -10,8 +10,8 @@ ghost use Rattle.order.specs.Vectors.{vec, same?};
 ghost use Rattle.search.specs.Target.{Ready, targetOf};
 ghost use Rattle.probe.specs.Probe.{plus, probePoint, probe, atOrigin, around, times, widened, isIn, fresh};
 ghost use Rattle.probe.specs.BestSoFar.{point, seenOf, pairs, probeNew, Pattern, Ongoing, Holds, resultOf};
-use search::MeasuredCandidate;
 use frame::SearchBlock;
+use search::MeasuredCandidate;
 use search::SearchResult;
 use signed::Shifted;
 

@@ -19,8 +19,8 @@ use Rattle.pruned_rule.proofs.Counts.{Counted, counted-length, all-remaining-co
 use Rattle.pruned_rule.proofs.Pruned.{Attained, Safe, Holds, holds-some, all-remaining-holds, lower-holds, sift-holds}
 use Rattle.pruned_rule.proofs.Search.{halvings-more, halvings-none, rounds-more, rounds-none}
 use Rattle.pruned.specs.declared.PruneState.{PruneState}
-use Rattle.pruned_remaining.specs.Gathered.{candidateAt, Front, ListedCandidates}
-use Rattle.pruned_remaining.proofs.Listing.{front-take, gathered-long, listed-front}
+use Rattle.candidates.specs.Gathered.{candidateAt, Front, ListedCandidates}
+use Rattle.candidates.proofs.Listing.{front-take, gathered-long, listed-front}
 use Rattle.pruned.specs.Memory.{Begun, finished}
 use Rattle.pruned.proofs.State.{InMemory}
 

@@ -16,8 +16,10 @@ use Rattle.distortion.specs.Blocks.{absolute}
 use Rattle.pruned_rule.specs.Sift.{kept}
 use Rattle.pruned_rule.specs.Prune.{Pruning, lower, sift}
 use Rattle.pruned.specs.declared.PruneState.{PruneState}
-use Rattle.pruned_remaining.specs.Gathered.{Front, nearestOf, keptWithin, swept}
-use Rattle.pruned_remaining.proofs.Listing.{front-take, front-long, within-few, swept-long, Stored, filled-is, nearest-filled, within-filled}
+use Rattle.candidates.specs.Gathered.{Front}
+use Rattle.pruned_remaining.specs.Kept.{nearestOf, keptWithin, swept}
+use Rattle.candidates.proofs.Listing.{front-take, front-long}
+use Rattle.pruned_remaining.proofs.Listing.{within-few, swept-long, Stored, filled-is, nearest-filled, within-filled}
 use Rattle.pruned.specs.Memory.{testsCounted, recounted, bounded, Leveled}
 
 -- the search stands at s, with z of the five counts unused; E is kept as long as more than one candidate remains

@@ -23,7 +23,7 @@ use Rattle.search.specs.Target.{Ready}
 use Rattle.frame.specs.declared.Region.{Region}
 use Rattle.pruned_sums.specs.Area.{SumsOf}
 use Rattle.pruned_rule.specs.Prune.{resolutions}
-use Rattle.pruned_remaining.specs.Gathered.{nearestOf, keptWithin, swept}
+use Rattle.pruned_remaining.specs.Kept.{nearestOf, keptWithin, swept}
 use Rattle.pruned_region.specs.Reach.{Covers}
 use Rattle.pruned.specs.declared.PruneState.{PruneState}
 

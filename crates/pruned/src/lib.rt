@@ -9,9 +9,10 @@ ghost use Rattle.order.specs.Preference.{preference, flat};
 ghost use Rattle.frame.specs.Pictures.{pairOf};
 ghost use Rattle.refusals.specs.Refusals.{blockSizeOk};
 ghost use Rattle.search.specs.Target.{Ready};
-ghost use Rattle.pruned_remaining.specs.Gathered.{Front, ListedCandidates, nearestOf, keptWithin, swept};
+ghost use Rattle.candidates.specs.Gathered.{Front, ListedCandidates};
+ghost use Rattle.pruned_remaining.specs.Kept.{nearestOf, keptWithin, swept};
 ghost use Rattle.pruned_subblocks.specs.Squares.{BlockSums};
-ghost use Rattle.full.specs.Full.{distortionOf};
+ghost use Rattle.candidates.specs.Chosen.{distortionOf};
 ghost use Rattle.pruned_distance.specs.Remaining.{distanceOf, Tested};
 ghost use Rattle.pruned.specs.Answer.{stillDistortion, prunedSearch};
 ghost use Rattle.pruned.specs.Memory.{Lent, firstSlot, Begun, recounted, testsCounted, bounded, Leveled, finished};
@@ -47,7 +48,7 @@ fn begin(
     requires { ⌜ Ready (now older) (now newer) b × (now order ≡ flat preference) ⌝ }
     ensures { λ r. ⌜ Begun (stillDistortion (pairOf (now (older .entry)) (now (newer .entry)) (b .sizes)) (b .y) (b .x)) (b .sizes .n) total r ⌝ }
 {
-    let bound = full::distortion_of(older, newer, order, b, 0, 4294967295);
+    let bound = candidates::distortion_of(older, newer, order, b, 0, 4294967295);
     let s = b.sizes;
     let slot = first_slot(s.n);
     PruneState {
@@ -75,7 +76,7 @@ fn lowered(
     let count = r.count;
     let k = pruned_remaining::nearest(remaining, count, dist);
     let bound = r.bound;
-    let e = full::distortion_of(older, newer, order, b, k, bound);
+    let e = candidates::distortion_of(older, newer, order, b, k, bound);
     let slot = r.slot;
     let counts = r.counts;
     if e < bound {
@@ -180,7 +181,7 @@ fn finish(
     let slot = r.slot;
     let mut counts = r.counts;
     counts[slot] = count as u32;
-    let best = full::choose(older, newer, order, b, remaining, count);
+    let best = candidates::choose(older, newer, order, b, remaining, count);
     let v = order::vector_at(order, best.place);
     SearchResult {
         refusal: 0,
@@ -215,7 +216,7 @@ pub fn search(
         pruned_subblocks::block_region(b),
         &mut blocksums,
     );
-    let total = pruned_remaining::gather(order, b, &mut remaining);
+    let total = candidates::gather(order, b, &mut remaining);
     let first = begin(older, newer, order, b, total);
     pruned_distance::fill_distances(
         older,

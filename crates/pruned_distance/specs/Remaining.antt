@@ -13,7 +13,7 @@ use Rattle.distortion.specs.Blocks.{absolute, blockAt}
 use Rattle.pruned_rule.specs.Distance.{distanceBy}
 use Rattle.frame.specs.declared.SearchBlock.{SearchBlock}
 use Rattle.search.specs.Target.{Ready, Past}
-use Rattle.pruned_remaining.specs.Gathered.{ListedCandidates}
+use Rattle.candidates.specs.Gathered.{ListedCandidates}
 use Rattle.frame.specs.declared.Region.{Region}
 use Rattle.pruned_sums.specs.Area.{SumsOf}
 use Rattle.pruned_region.specs.Reach.{Covers}

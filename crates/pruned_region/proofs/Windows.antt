@@ -1,5 +1,5 @@
 -- The search window holds every candidate's older block, as all of the frame does; and its summed-area table has at most 49 × 49 places.
-use Prim.Native.Nat.{ℕ, _+_, _*_, _≤_}
+use Prim.Native.Nat.{ℕ, _+_, _*_, _≤_, _<_}
 use mathlib.Core.List.{List}
 use native.Mathlib.Nat.{le-trans, mul-le-mul, mul-le-mul-right}
 use native.Mathlib.Omega.{arith}
@@ -7,9 +7,10 @@ use lib.ListN.{length}
 use Rattle.refusals.specs.Refusals.{block-size-elim}
 use Rattle.frame.specs.Pictures.{largestN}
 use Rattle.frame.specs.declared.SearchBlock.{SearchBlock}
+use Rattle.frame.specs.declared.Region.{Region}
 use Rattle.search.specs.Target.{Ready}
 use Rattle.pruned_sums.specs.Filling.{windowTable, Fillable}
-use Rattle.pruned_region.specs.Reach.{Standing, searchWindow, wholeFrame, Covers}
+use Rattle.pruned_region.specs.Reach.{Standing, cornerRegion, searchWindow, wholeFrame, Covers}
 
 pub covers-frame : (b : SearchBlock) → Covers b (wholeFrame (b .sizes))
 covers-frame b = record {
@@ -21,8 +22,24 @@ covers-frame b = record {
   behind = λ c h k. omega arith;
 }
 
+-- so many rows and columns, of at most 2 w + 1
+pub record Corners (r : Region) : Type 0 where
+  pub rows : 0 < r .rows
+  pub columns : 0 < r .columns
+  pub few-rows : r .rows ≤ 33
+  pub few-columns : r .columns ≤ 33
+
+pub corners : (b : SearchBlock) → Standing b → Corners (cornerRegion b)
+unfolding cornerRegion
+corners b s = record {
+  rows = omega (arith, s .down);
+  columns = omega (arith, s .across);
+  few-rows = omega (arith, s .down, s .window);
+  few-columns = omega (arith, s .across, s .window);
+}
+
 pub covers-window : (b : SearchBlock) → Standing b → Covers b (searchWindow b)
-unfolding searchWindow
+unfolding searchWindow cornerRegion
 covers-window b s = record {
   high = omega (arith, s .down);
   wide = omega (arith, s .across);
@@ -35,7 +52,7 @@ covers-window b s = record {
 -- room for N + 2 w rows and columns
 pub window-fillable : (older : List ℕ) (b : SearchBlock) → Standing b → b .sizes .n ≤ largestN → b .sizes .height * b .sizes .width ≤ length older
     → Fillable older (b .sizes .width) (searchWindow b) windowTable
-unfolding searchWindow
+unfolding searchWindow cornerRegion
 window-fillable older b s n h =
     let v = covers-window b s in
     record {
@@ -46,7 +63,7 @@ window-fillable older b s n h =
       table = mul-le-mul {n₂ = largestN + 32 + 1} {m₂ = largestN + 32 + 1} (omega (arith, s .window, n)) (omega (arith, s .window, n));
     }
 
--- a block that is ready to be searchBy
+-- a block that is ready to be searched
 module _ (older newer : List ℕ) (b : SearchBlock) (r : Ready older newer b) where
   pub ready-standing : Standing b
   ready-standing =

@@ -1,10 +1,10 @@
 -- 01, "Pictures, blocks, vectors": a vector "is a candidate for window w if both parts lie in -w..w and the older block is wholly inside its
 -- frame." Where in the older frame these blocks are.
---   Standing     a block wholly inside a frame, with a window of at most 16
---   cornerRegion      the rows and columns in which the corners of the candidates' older blocks stand
---   searchWindow     the search window: the rows and columns of these blocks themselves
---   wholeFrame   all of a frame
---   Covers       a part of the older frame that holds the older block of every candidate
+--   Standing       a block wholly inside a frame, with a window of at most 16
+--   cornerRegion   the rows and columns in which the corners of the candidates' older blocks stand
+--   searchWindow   the search window: the rows and columns of these blocks themselves, N - 1 more
+--   wholeFrame     all of a frame
+--   Covers         a part of the older frame that holds the older block of every candidate
 use Prim.Native.Nat.{ℕ, _+_, _-_, _≤_, min}
 use Rattle.frame.specs.declared.Sizes.{Sizes}
 use Rattle.frame.specs.declared.SearchBlock.{SearchBlock}
@@ -29,13 +29,8 @@ cornerRegion b =
 
 unfoldable pub searchWindow : SearchBlock → Region
 searchWindow b =
-    let s = b .sizes in
-    record {
-      top = b .y - b .w;
-      left = b .x - b .w;
-      rows = min (b .y + b .w + s .n) (s .height) - (b .y - b .w);
-      columns = min (b .x + b .w + s .n) (s .width) - (b .x - b .w);
-    }
+    let r = cornerRegion b in
+    record { top = r .top; left = r .left; rows = r .rows + b .sizes .n - 1; columns = r .columns + b .sizes .n - 1 }
 
 abbrev pub wholeFrame : Sizes → Region
 wholeFrame s = record { top = 0; left = 0; rows = s .height; columns = s .width }

@@ -39,21 +39,17 @@ pub fn corner_region(b: SearchBlock) -> Region
     }
 }
 
-// The search window: the part of the older frame that holds the candidates' older blocks.
+// The search window, the part of the older frame that holds the candidates' older blocks: N - 1 rows and columns more than their corners stand in.
 pub fn search_window(b: SearchBlock) -> Region
     requires { ⌜ Standing b ⌝ }
     ensures { λ r. ⌜ r ≡ searchWindow b ⌝ }
 {
     let s = b.sizes;
-    let y = b.y;
-    let x = b.x;
-    let w = b.w;
-    let top = minus_or_zero(y, w);
-    let left = minus_or_zero(x, w);
+    let r = corner_region(b);
     Region {
-        top,
-        left,
-        rows: lesser(y + w + s.n, s.height) - top,
-        columns: lesser(x + w + s.n, s.width) - left,
+        top: r.top,
+        left: r.left,
+        rows: r.rows + s.n - 1,
+        columns: r.columns + s.n - 1,
     }
 }

@@ -1,3 +1,2 @@
-pub mod Clear
 pub mod Turns
 pub mod Listing

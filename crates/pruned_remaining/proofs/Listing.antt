@@ -1,5 +1,4 @@
--- What stands in front of the array: candidates, picked from the preference table; and where the distances are f of the candidates, the nearest is
--- the first least by f, and those that stay are those whose f is within the limit.
+-- Where the distances are f of the candidates, the nearest is the first least by f, and those that stay are those whose f is within the limit.
 use Prim.Native.Nat.{ℕ, zero, suc, _≤_, _<_}
 use mathlib.Core.Path.{_≡_, refl, sym, ap, _∙_}
 use mathlib.Core.Bool.{Bool, true, false, cond}
@@ -8,47 +7,13 @@ use native.Mathlib.Nat.{le-refl, zero-add, not-suc-le-zero}
 use native.Mathlib.Numerals.{add-one}
 use native.Mathlib.Omega.{arith}
 use lib.Dec.{leb, ltb}
-use lib.ListN.{length, getD, take, drop, length-append, length-set}
-use lib.Seq.{getD-take, take-at, take-suc}
-use Rattle.base.specs.Tests.{true-T}
-use Rattle.base.specs.Lists.{length-over, listTo, fillTo, length-listTo, length-fill, fill-in}
-use Rattle.base.specs.Least.{_∈_, leastOf, leastFrom, leastOf-more, getD-mem}
-use Rattle.base.specs.Picks.{pick, picked, pick-few}
-use Rattle.frame.specs.declared.SearchBlock.{SearchBlock}
+use lib.ListN.{length, getD, take, length-append, length-set}
+use lib.Seq.{take-suc}
+use Rattle.base.specs.Lists.{listTo, fillTo, length-listTo, length-fill, fill-in}
+use Rattle.base.specs.Least.{leastOf, leastFrom, leastOf-more}
 use Rattle.pruned_rule.specs.Sift.{kept}
 use Rattle.pruned_rule.proofs.Loops.{kept-take}
-use Rattle.pruned_remaining.specs.Gathered.{candidateAt, Front, ListedCandidates, nearestOf, keptWithin, swept}
-
-module _ {ks before after : List ℕ} {r : ℕ} (f : Front ks before after r) where
-  pub front-take : take r after ≡ ks
-  front-take = rw (f .list) (take-at ks (drop r before) r (sym (f .many)))
-
-  pub front-long : r ≤ length before → length after ≡ length before
-  front-long h = rw (f .list) (length-over ks before r (sym (f .many)) h)
-
--- ---- all candidates
-
--- places that stand in front of remaining are candidates where all of ks are
-pub listed-front : (b : SearchBlock) (remaining ks : List ℕ) (count : ℕ) → length remaining ≡ 1089 → length ks ≡ count → take count remaining ≡ ks → count ≤ 1089
-    → ((k : ℕ) → k ∈ ks → k ∈ pick (candidateAt b) 1089) → ListedCandidates b remaining count
-listed-front b remaining ks count long many front few from = record {
-  long = long;
-  few = few;
-  each = λ i h.
-      let e : getD remaining i 0 ≡ getD ks i 0 = sym (getD-take count remaining i 0 h) ∙ ap (λ (l : List ℕ). getD l i 0) front in
-      let q = picked (candidateAt b) 1089 (from _ (getD-mem ks i (omega arith))) in
-      rw e (q .0, true-T (candidateAt b (getD ks i 0)) (q .1));
-}
-
-module _ (b : SearchBlock) {before remaining : List ℕ} {all : ℕ} (a : Front (pick (candidateAt b) 1089) before remaining all) where
-  pub gathered-few : all ≤ 1089
-  gathered-few = omega (arith, a .many, pick-few (candidateAt b) 1089)
-
-  pub gathered-long : length before ≡ 1089 → length remaining ≡ 1089
-  gathered-long h = front-long a (omega (arith, gathered-few)) ∙ h
-
-  pub gathered-listed : length before ≡ 1089 → ListedCandidates b remaining all
-  gathered-listed h = listed-front b remaining (pick (candidateAt b) 1089) all (gathered-long h) (sym (a .many)) (front-take a) gathered-few (λ k i. i)
+use Rattle.pruned_remaining.specs.Kept.{nearestOf, keptWithin, swept}
 
 pub within-few : (limit : ℕ) (remaining dist : List ℕ) (n : ℕ) → length (keptWithin limit remaining dist n) ≤ n
 unfolding keptWithin

@@ -1,59 +1,19 @@
--- One turn of each loop over the remaining candidates, on plain lists: one more is gathered, looked at, kept or dropped.
+-- One turn of each loop over the remaining candidates, on plain lists: one more is compared, kept or dropped.
 use Prim.Native.Nat.{ℕ, zero, suc, _+_, _≤_, _<_, zero-le}
 use mathlib.Core.Path.{_≡_, refl, sym, ap, _∙_}
-use mathlib.Core.Bool.{Bool, true, false, cond}
-use mathlib.Core.List.{List, [], _∷_, _++_, append-nil}
+use mathlib.Core.Bool.{cond}
+use mathlib.Core.List.{List, [], _∷_, append-nil}
 use native.Mathlib.Nat.{le-refl}
 use native.Mathlib.Numerals.{add-one}
 use native.Mathlib.Omega.{arith}
 use borrow.Author.Tests.{le-leb, lt-leb}
 use lib.Dec.{leb}
-use lib.ListN.{length, getD, take, drop, set, length-append, length-set, take-append-drop, drop-of-length-le}
+use lib.ListN.{length, getD, take, drop, set, length-append, length-set, take-append-drop}
 use lib.Seq.{take-all, take-set-le, take-suc-set, drop-set-lt, getD-set-other}
-use Rattle.base.specs.Lists.{listTo, length-listTo, getD-listTo, front-more}
+use Rattle.base.specs.Lists.{listTo, length-listTo, getD-listTo}
 use Rattle.base.specs.Least.{leastOf, least-next-less, least-next-not, least-of-one}
-use Rattle.base.specs.Picks.{pick, pick-none, pick-yes, pick-no}
-use Rattle.frame.specs.declared.SearchBlock.{SearchBlock}
-use Rattle.pruned_remaining.specs.Gathered.{candidateAt, Front, nearestOf, keptWithin, swept}
-
--- ---- places in front of what was there: none yet, and one more
-pub front-none : (old : List ℕ) → Front [] old old 0
-front-none old = record { many = refl; list = refl }
-
-front-next : {ks old remaining : List ℕ} {count : ℕ} (k : ℕ) → Front ks old remaining count → count < length old → Front (ks ++ (k ∷ [])) old (set remaining count k) (count + 1)
-front-next {ks} {old} {remaining} {count} k f h = record {
-  many = omega (arith, f .many, length-append ks (k ∷ []));
-  list = rw (f .list) (front-more ks old count k (sym (f .many)) h);
-}
-
--- ---- all candidates: those below k that pass stand in front
-pub record Gathering (p : ℕ → Bool) (old : List ℕ) (k count : ℕ) (remaining : List ℕ) : Type 0 where
-  pub below : k ≤ 1089
-  pub behind : count ≤ k
-  pub long : length old ≡ 1089
-  pub front : Front (pick p k) old remaining count
-
-pub gathering-none : (p : ℕ → Bool) (old : List ℕ) → length old ≡ 1089 → Gathering p old 0 0 old
-gathering-none p old h = record { below = zero-le; behind = zero-le; long = h; front = rw (pick-none p) (front-none old) }
-
-module _ (p : ℕ → Bool) {old remaining : List ℕ} {k count : ℕ} (g : Gathering p old k count remaining) (h : k < 1089) where
-  pub gathering-in : p k ≡ true → Gathering p old (k + 1) (count + 1) (set remaining count k)
-  gathering-in e = record { below = omega arith; behind = omega arith; long = g .long; front = rw (pick-yes p k e) (front-next k (g .front) (omega arith)) }
-
-  pub gathering-out : p k ≡ false → Gathering p old (k + 1) count remaining
-  gathering-out e = record { below = omega arith; behind = omega arith; long = g .long; front = rw (pick-no p k e) (g .front) }
-
--- all pass: the places are 0, 1, 2, ..
-pick-every : (p : ℕ → Bool) (n : ℕ) → ((k : ℕ) → k < n → p k ≡ true) → pick p n ≡ listTo (λ k. k) n
-unfolding pick listTo
-pick-every p zero each = refl
-pick-every p (suc n) each = rw (each n (omega arith), pick-every p n (λ k h. each k (omega arith)))
-
-pub gathered-every : (b : SearchBlock) (old remaining : List ℕ) → length old ≡ 1089 → ((k : ℕ) → k < 1089 → candidateAt b k ≡ true) → remaining ≡ listTo (λ k. k) 1089
-    → Front (pick (candidateAt b) 1089) old remaining 1089
-gathered-every b old remaining long each e =
-    rw (pick-every (candidateAt b) 1089 each)
-    (record { many = sym (length-listTo (λ k. k) 1089); list = e ∙ rw (drop-of-length-le old {i = 1089} (omega arith)) (sym (append-nil _)) })
+use Rattle.candidates.specs.Gathered.{Front}
+use Rattle.pruned_remaining.specs.Kept.{nearestOf, keptWithin, swept}
 
 -- ---- the least distance: the place found is the first least so far
 pub record Nearest (dist : List ℕ) (count i best : ℕ) : Type 0 where
@@ -62,8 +22,8 @@ pub record Nearest (dist : List ℕ) (count i best : ℕ) : Type 0 where
   pub behind : best < i
   pub least : best ≡ leastOf (λ j. getD dist j 0) (take i (listTo (λ j. j) count))
 
-pub nearest-one : (dist : List ℕ) (count : ℕ) → 0 < count → Nearest dist count 1 0
-nearest-one dist count h = record {
+pub nearest-first : (dist : List ℕ) (count : ℕ) → 0 < count → Nearest dist count 1 0
+nearest-first dist count h = record {
   some = omega arith;
   inside = omega arith;
   behind = omega arith;
@@ -77,25 +37,25 @@ module _ {dist : List ℕ} {count i best : ℕ} (s : Nearest dist count i best) 
   long : i < length (listTo (λ j. j) count)
   long = rw (length-listTo (λ j. j) count) c
 
-  pub nearest-less : getD dist i 0 < getD dist best 0 → Nearest dist count (i + 1) i
-  nearest-less l = record {
+  pub nearest-yes : getD dist i 0 < getD dist best 0 → Nearest dist count (i + 1) i
+  nearest-yes l = record {
     some = omega arith;
     inside = omega arith;
     behind = omega arith;
     least = sym same ∙ least-next-less (λ j. getD dist j 0) _ i best (s .least) (s .some) long (rw same l);
   }
 
-  pub nearest-not : getD dist best 0 ≤ getD dist i 0 → Nearest dist count (i + 1) best
-  nearest-not l = record {
+  pub nearest-no : getD dist best 0 ≤ getD dist i 0 → Nearest dist count (i + 1) best
+  nearest-no l = record {
     some = omega arith;
     inside = omega arith;
     behind = omega arith;
     least = least-next-not (λ j. getD dist j 0) _ i best (s .least) (s .some) long (rw same l);
   }
 
-pub nearest-done : {dist : List ℕ} {count best : ℕ} (remaining : List ℕ) → Nearest dist count count best → getD remaining best 0 ≡ nearestOf remaining count dist
+pub nearest-last : {dist : List ℕ} {count best : ℕ} (remaining : List ℕ) → Nearest dist count count best → getD remaining best 0 ≡ nearestOf remaining count dist
 unfolding nearestOf
-nearest-done {dist} {count} {best} remaining s =
+nearest-last {dist} {count} {best} remaining s =
     ap (λ (i : ℕ). getD remaining i 0) (s .least ∙ ap (leastOf (λ j. getD dist j 0)) (take-all count (listTo (λ j. j) count) (omega (arith, length-listTo (λ j. j) count))))
 
 -- ---- dropping: those of the first i that are within the limit stand in front
@@ -118,9 +78,9 @@ pub record Sifting (old dist : List ℕ) (count limit i j : ℕ) (remaining : Li
   -- the rest still stands as it did
   pub rest : (k : ℕ) → i ≤ k → getD remaining k 0 ≡ getD old k 0
 
-pub sifting-none : (old dist : List ℕ) (count limit : ℕ) → Sifting old dist count limit 0 0 old
+pub sifting-first : (old dist : List ℕ) (count limit : ℕ) → Sifting old dist count limit 0 0 old
 unfolding keptWithin swept
-sifting-none old dist count limit = record { inside = zero-le; behind = zero-le; many = refl; list = refl; front = refl; long = refl; rest = λ k h. refl }
+sifting-first old dist count limit = record { inside = zero-le; behind = zero-le; many = refl; list = refl; front = refl; long = refl; rest = λ k h. refl }
 
 module _ {old dist : List ℕ} {count limit i j : ℕ} {remaining : List ℕ} (s : Sifting old dist count limit i j remaining) (c : i < count) where
   abbrev stored : List ℕ
@@ -133,9 +93,9 @@ module _ {old dist : List ℕ} {count limit i j : ℕ} {remaining : List ℕ} (s
   stored-rest : (k : ℕ) → i + 1 ≤ k → getD stored k 0 ≡ getD old k 0
   stored-rest k h = getD-set-other remaining j k _ 0 (λ e. omega (arith, s .behind)) ∙ s .rest k (omega arith)
 
-  pub sifting-in : i < length old → getD dist i 0 ≤ limit → Sifting old dist count limit (i + 1) (j + 1) stored
+  pub sifting-yes : i < length old → getD dist i 0 ≤ limit → Sifting old dist count limit (i + 1) (j + 1) stored
   unfolding keptWithin
-  sifting-in h l = record {
+  sifting-yes h l = record {
     inside = omega arith;
     behind = omega arith;
     many = rw (add-one i, le-leb (getD dist i 0) limit l) (omega (arith, s .many, length-append (keptWithin limit old dist i) (getD old i 0 ∷ [])));
@@ -145,9 +105,9 @@ module _ {old dist : List ℕ} {count limit i j : ℕ} {remaining : List ℕ} (s
     rest = stored-rest;
   }
 
-  pub sifting-out : limit < getD dist i 0 → Sifting old dist count limit (i + 1) j stored
+  pub sifting-no : limit < getD dist i 0 → Sifting old dist count limit (i + 1) j stored
   unfolding keptWithin
-  sifting-out l = record {
+  sifting-no l = record {
     inside = omega arith;
     behind = omega arith;
     many = rw (add-one i, lt-leb (getD dist i 0) limit l, append-nil) (s .many);
@@ -157,9 +117,9 @@ module _ {old dist : List ℕ} {count limit i j : ℕ} {remaining : List ℕ} (s
     rest = stored-rest;
   }
 
-pub sifting-done : {old dist remaining : List ℕ} {count limit j : ℕ} → Sifting old dist count limit count j remaining
+pub sifting-last : {old dist remaining : List ℕ} {count limit j : ℕ} → Sifting old dist count limit count j remaining
     → Front (keptWithin limit old dist count) (swept limit old dist count) remaining j × (drop (j + 1) remaining ≡ drop (j + 1) old)
-sifting-done {old} {dist} {remaining} {count} {limit} {j} s = (
+sifting-last {old} {dist} {remaining} {count} {limit} {j} s = (
   record { many = s .many; list = rw (← s .list, ← s .front) (sym (take-append-drop j remaining)) },
   rw (s .list) (swept-past limit old dist count (j + 1) (omega (arith, s .many))),
 )

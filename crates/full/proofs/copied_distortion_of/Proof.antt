@@ -5,7 +5,8 @@ use borrow.Author.Needs.{fits-under}
 use denote.Ref.{now}
 use mir.Syntax.{w32}
 use Rattle.distortion.specs.Blocks.{length-copy}
-use Rattle.full.proofs.Older.{stands, by-copy, begins-low, begins-inside}
+use Rattle.candidates.proofs.Older.{stands}
+use Rattle.full.proofs.Older.{by-copy, begins-low, begins-inside}
 use Rattle.full.proofs.copied_distortion_of.Statement.{statement}
 use Rattle.full.proofs.copied_distortion_of.Tie as tie
 

@@ -9,8 +9,8 @@ use mir.Facts.{toZ-ofZ}
 use Rattle.base.specs.Picks.{pick-head}
 use Rattle.frame.specs.Pictures.{pairOf}
 use Rattle.search.proofs.Exhaustive.{still-passes}
-use Rattle.pruned_remaining.specs.Gathered.{candidateAt}
-use Rattle.pruned_remaining.proofs.Listing.{front-take, gathered-few, gathered-listed}
+use Rattle.candidates.specs.Gathered.{candidateAt}
+use Rattle.candidates.proofs.Listing.{front-take, gathered-few, gathered-listed}
 use Rattle.search.specs.Exhaustive.{best}
 use Rattle.full.specs.Full.{fullSearch}
 use Rattle.full.proofs.search.Statement.{statement}

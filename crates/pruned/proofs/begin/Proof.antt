@@ -7,7 +7,7 @@ use Rattle.order.proofs.Order.{first-still}
 use Rattle.frame.specs.Pictures.{pairOf}
 use Rattle.distortion.specs.Blocks.{distortion}
 use Rattle.search.proofs.Exhaustive.{still-passes}
-use Rattle.pruned_remaining.specs.Gathered.{candidateAt}
+use Rattle.candidates.specs.Gathered.{candidateAt}
 use Rattle.pruned.proofs.begin.Statement.{statement}
 use Rattle.pruned.proofs.begin.Tie as tie
 

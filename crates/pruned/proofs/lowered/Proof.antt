@@ -4,9 +4,9 @@ use native.Mathlib.Omega.{arith}
 use borrow.Author.Needs.{needs}
 use denote.Ref.{now}
 use Rattle.distortion.specs.Blocks.{UpTo}
-use Rattle.pruned_remaining.specs.Gathered.{nearestOf}
+use Rattle.pruned_remaining.specs.Kept.{nearestOf}
 use Rattle.pruned_remaining.proofs.Listing.{nearest-mem}
-use Rattle.full.specs.Full.{distortionOf}
+use Rattle.candidates.specs.Chosen.{distortionOf}
 use Rattle.pruned.proofs.lowered.Statement.{statement}
 use Rattle.pruned.proofs.lowered.Tie as tie
 

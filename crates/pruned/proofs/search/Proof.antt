@@ -18,10 +18,11 @@ use Rattle.pruned_rule.proofs.Pruned.{still-attained}
 use Rattle.pruned_rule.proofs.Search.{resolutions-divide}
 use Rattle.pruned.specs.Answer.{stillDistortion, pruning, chosen, prunedSearch}
 use Rattle.pruned_distance.specs.Remaining.{distanceOf}
-use Rattle.pruned_remaining.specs.Gathered.{candidateAt}
-use Rattle.full.specs.Full.{distortionOf}
+use Rattle.candidates.specs.Gathered.{candidateAt}
+use Rattle.candidates.specs.Chosen.{distortionOf}
 use Rattle.pruned.proofs.Blocks.{block-fillable, block-size-power, few-rounds, two-least, safe-at}
-use Rattle.pruned_remaining.proofs.Listing.{gathered-few, gathered-long, gathered-listed, filled-is}
+use Rattle.candidates.proofs.Listing.{gathered-few, gathered-long, gathered-listed}
+use Rattle.pruned_remaining.proofs.Listing.{filled-is}
 use Rattle.pruned.proofs.State.{sift-done, level-done, level-wide}
 use Rattle.pruned.proofs.Rounds.{Going, going-start, going-some, going-few, going-room, going-divides, going-listed, going-more, going-done}
 use Rattle.pruned.proofs.search.Statement.{statement}

@@ -1,4 +1,4 @@
--- `reach`: its parts are those of `cornerRegion`.
+-- `corner_region`: its parts are those of `cornerRegion`.
 use mathlib.Core.Path.{refl}
 use borrow.Author.Needs.{needs}
 use Rattle.pruned_region.specs.Reach.{cornerRegion}

@@ -4,7 +4,7 @@ use mathlib.Core.Logic.{⊎-elim}
 use mathlib.Core.Path.{_≡_}
 use native.Mathlib.Omega.{arith}
 use borrow.Author.Needs.{needs}
-use Rattle.pruned_remaining.proofs.Turns.{Sifting, sifting-none, sifting-in, sifting-out, sifting-done}
+use Rattle.pruned_remaining.proofs.Turns.{Sifting, sifting-first, sifting-yes, sifting-no, sifting-last}
 use Rattle.pruned_remaining.proofs.keep_within.Statement.{statement}
 use Rattle.pruned_remaining.proofs.keep_within.Tie as tie
 
@@ -15,7 +15,7 @@ abbrev μ-loop : tie.MeasureT-loop
 μ-loop remaining₀ count dist limit kept₀ from₀ remaining kept from = count - from
 
 loop-holds : tie.Need-loop-holds Inv-loop μ-loop
-loop-holds c = sifting-none _ _ _ _
+loop-holds c = sifting-first _ _ _ _
 
 mul-remaining : tie.Need-mul-remaining Inv-loop μ-loop
 mul-remaining c = search needs
@@ -49,15 +49,15 @@ loop-again c =
     let l = c .before .before .before .before .loop in
     let t = c .before .before .before .loop-test .taken in
     ⊎-elim
-    (λ w. rw (w .1) (sifting-in (l .inv) t (omega arith) (w .0 .taken)))
-    (λ w. rw (w .1) (sifting-out (l .inv) t (w .0 .left)))
+    (λ w. rw (w .1) (sifting-yes (l .inv) t (omega arith) (w .0 .taken)))
+    (λ w. rw (w .1) (sifting-no (l .inv) t (w .0 .left)))
     (c .if1 .came)
 
 returns : tie.Need-returns Inv-loop μ-loop
 returns c =
     let l = c .before .loop in
     let e : l .from ≡ c .before .before .args .count = omega arith in
-    sifting-done (rw e at (l .inv))
+    sifting-last (rw e at (l .inv))
 
 pub keep-within-spec : {M : Type 1} → statement M
 keep-within-spec =

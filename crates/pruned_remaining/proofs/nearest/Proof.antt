@@ -4,7 +4,7 @@ use mathlib.Core.Logic.{⊎-elim}
 use mathlib.Core.Path.{_≡_, _∙_}
 use native.Mathlib.Omega.{arith}
 use borrow.Author.Needs.{needs}
-use Rattle.pruned_remaining.proofs.Turns.{Nearest, nearest-one, nearest-less, nearest-not, nearest-done}
+use Rattle.pruned_remaining.proofs.Turns.{Nearest, nearest-first, nearest-yes, nearest-no, nearest-last}
 use Rattle.pruned_remaining.proofs.nearest.Statement.{statement}
 use Rattle.pruned_remaining.proofs.nearest.Tie as tie
 
@@ -15,7 +15,7 @@ abbrev μ-loop : tie.MeasureT-loop
 μ-loop remaining count dist best₀ i₀ best i = count - i
 
 loop-holds : tie.Need-loop-holds Inv-loop μ-loop
-loop-holds c = nearest-one _ _ (search needs)
+loop-holds c = nearest-first _ _ (search needs)
 
 mul-if1 : tie.Need-mul-if1 Inv-loop μ-loop
 mul-if1 c = search needs
@@ -39,8 +39,8 @@ loop-again : tie.Need-loop-again Inv-loop μ-loop
 loop-again c =
     let l = c .before .before .before .before .loop in
     ⊎-elim
-    (λ w. rw (w .1) (nearest-less (l .inv) (c .before .before .before .loop-test .taken) (w .0 .taken)))
-    (λ w. rw (w .1) (nearest-not (l .inv) (c .before .before .before .loop-test .taken) (w .0 .left)))
+    (λ w. rw (w .1) (nearest-yes (l .inv) (c .before .before .before .loop-test .taken) (w .0 .taken)))
+    (λ w. rw (w .1) (nearest-no (l .inv) (c .before .before .before .loop-test .taken) (w .0 .left)))
     (c .if1 .came)
 
 mul-wide-u16 : tie.Need-mul-wide-u16 Inv-loop μ-loop
@@ -56,7 +56,7 @@ returns : tie.Need-returns Inv-loop μ-loop
 returns c =
     let l = c .before .before .before .loop in
     let e : l .i ≡ c .before .before .before .before .args .count = omega arith in
-    c .wide-u16 .ensures ∙ nearest-done _ (rw e at (l .inv))
+    c .wide-u16 .ensures ∙ nearest-last _ (rw e at (l .inv))
 
 pub nearest-spec : {M : Type 1} → statement M
 nearest-spec =

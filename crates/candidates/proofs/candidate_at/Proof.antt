@@ -1,10 +1,10 @@
--- `is_among`: the vector at place k is the one tested.
+-- `candidate_at`: the vector at place k is the one tested.
 use mathlib.Core.Path.{ap, _∙_}
 use borrow.Author.Needs.{needs, sfits-of}
 use mir.Facts.{toZ-ofZ}
 use Rattle.frame.specs.Candidates.{candidate}
-use Rattle.pruned_remaining.proofs.is_among.Statement.{statement}
-use Rattle.pruned_remaining.proofs.is_among.Tie as tie
+use Rattle.candidates.proofs.candidate_at.Statement.{statement}
+use Rattle.candidates.proofs.candidate_at.Tie as tie
 
 vector-at-requires : tie.Need-vector-at-requires
 vector-at-requires c κs = search needs
@@ -18,5 +18,5 @@ returns c =
     (rw (toZ-ofZ {z = v .result .dy} (sfits-of (c .before .before .struct-told .given .0 .1)), toZ-ofZ {z = v .result .dx} (sfits-of (c .before .struct-told2 .given .1 .0 .1))) at (c .is-candidate .ensures))
     ∙ ap (candidate _ _ _ _) (v .ensures)
 
-pub is-among-spec : {M : Type 1} → statement M
-is-among-spec = tie.close (tie.spec vector-at-requires is-candidate-requires returns)
+pub candidate-at-spec : {M : Type 1} → statement M
+candidate-at-spec = tie.close (tie.spec vector-at-requires is-candidate-requires returns)

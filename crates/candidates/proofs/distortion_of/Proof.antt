@@ -6,9 +6,9 @@ use lib.ListN.{length}
 use Rattle.order.specs.Preference.{preferred}
 use Rattle.frame.specs.Candidates.{olderRow, olderColumn}
 use Rattle.distortion.specs.Blocks.{Comparable, begins, block-inside, distortion-small}
-use Rattle.full.proofs.Older.{stands, comparable, by-rows}
-use Rattle.full.proofs.distortion_of.Statement.{statement}
-use Rattle.full.proofs.distortion_of.Tie as tie
+use Rattle.candidates.proofs.Older.{stands, comparable, by-rows}
+use Rattle.candidates.proofs.distortion_of.Statement.{statement}
+use Rattle.candidates.proofs.distortion_of.Tie as tie
 
 -- the two blocks can be compared
 pair-in : (s : tie.Start) → let b = s .args .b in

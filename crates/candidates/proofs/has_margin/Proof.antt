@@ -1,12 +1,12 @@
--- `is_roomy`: a sum that is at most the side, tested by differences that cannot pass below 0.
+-- `has_margin`: a sum that is at most the side, tested by differences that cannot pass below 0.
 use Prim.Native.Nat.{ℕ, _+_, _-_, _≤_}
 use mathlib.Core.Path.{_≡_}
 use native.Mathlib.Omega.{arith}
 use borrow.Author.Tests.{lt-leb, le-leb}
 use lib.Dec.{leb, leb→le, le→leb}
 use Rattle.base.specs.Tests.{iff-test}
-use Rattle.pruned_remaining.proofs.is_roomy.Statement.{statement}
-use Rattle.pruned_remaining.proofs.is_roomy.Tie as tie
+use Rattle.candidates.proofs.has_margin.Statement.{statement}
+use Rattle.candidates.proofs.has_margin.Tie as tie
 
 room-is : (at n side : ℕ) → 16 ≤ side → n ≤ side - 16 → leb at (side - 16 - n) ≡ leb (at + n + 16) side
 room-is at n side h k =
@@ -31,5 +31,5 @@ returns-4 c =
     let a = c .before .before .before .args in
     rw (le-leb 16 (a .at) (c .before .before .if1 .left)) (room-is (a .at) (a .n) (a .side) (c .before .if2 .left) (c .if3 .left))
 
-pub is-roomy-spec : {M : Type 1} → statement M
-is-roomy-spec = tie.close (tie.spec returns returns-2 returns-3 returns-4)
+pub has-margin-spec : {M : Type 1} → statement M
+has-margin-spec = tie.close (tie.spec returns returns-2 returns-3 returns-4)

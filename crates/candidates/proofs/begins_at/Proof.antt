@@ -7,8 +7,8 @@ use borrow.Author.Needs.{sfits-of}
 use mir.Facts.{toZ-ofZ}
 use Rattle.order.specs.Preference.{preferred}
 use Rattle.frame.specs.Candidates.{olderRow, olderColumn}
-use Rattle.full.proofs.begins_at.Statement.{statement}
-use Rattle.full.proofs.begins_at.Tie as tie
+use Rattle.candidates.proofs.begins_at.Statement.{statement}
+use Rattle.candidates.proofs.begins_at.Tie as tie
 
 -- the row and the column
 place : (c : tie.After-past2) →

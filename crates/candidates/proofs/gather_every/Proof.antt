@@ -7,8 +7,8 @@ use borrow.Author.Needs.{needs}
 use lib.ListN.{drop-of-length-le, length}
 use denote.Ref.{now}
 use Rattle.base.specs.Lists.{fillTo, fill-none, fill-front, fill-zero}
-use Rattle.pruned_remaining.proofs.gather_every.Statement.{statement}
-use Rattle.pruned_remaining.proofs.gather_every.Tie as tie
+use Rattle.candidates.proofs.gather_every.Statement.{statement}
+use Rattle.candidates.proofs.gather_every.Tie as tie
 
 abbrev Inv-loop : tie.InvT-loop
 Inv-loop remaining₀ k₀ remaining k = (remaining ≡ fillTo remaining₀ 0 (λ i. i) k) × (k ≤ 1089) × (length remaining₀ ≡ 1089)

@@ -4,10 +4,10 @@ use mathlib.Core.Path.{_≡_, sym, _∙_}
 use mathlib.Core.Logic.{⊎-elim}
 use native.Mathlib.Omega.{arith}
 use borrow.Author.Needs.{needs}
-use Rattle.pruned_remaining.specs.Gathered.{candidateAt}
-use Rattle.pruned_remaining.proofs.Turns.{Gathering, gathering-none, gathering-in, gathering-out}
-use Rattle.pruned_remaining.proofs.gather_some.Statement.{statement}
-use Rattle.pruned_remaining.proofs.gather_some.Tie as tie
+use Rattle.candidates.specs.Gathered.{candidateAt}
+use Rattle.candidates.proofs.Gathering.{Gathering, gathering-first, gathering-yes, gathering-no}
+use Rattle.candidates.proofs.gather_some.Statement.{statement}
+use Rattle.candidates.proofs.gather_some.Tie as tie
 
 abbrev Inv-loop : tie.InvT-loop
 Inv-loop order b remaining₀ count₀ k₀ remaining count k = Gathering (candidateAt b) remaining₀ k count remaining
@@ -16,10 +16,10 @@ abbrev μ-loop : tie.MeasureT-loop
 μ-loop order b remaining₀ count₀ k₀ remaining count k = 1089 - k
 
 loop-holds : tie.Need-loop-holds Inv-loop μ-loop
-loop-holds c = gathering-none _ _ (search needs)
+loop-holds c = gathering-first _ _ (search needs)
 
-is-among-requires : tie.Need-is-among-requires Inv-loop μ-loop
-is-among-requires c κs = search needs
+candidate-at-requires : tie.Need-candidate-at-requires Inv-loop μ-loop
+candidate-at-requires c κs = search needs
 
 cast-remaining : tie.Need-cast-remaining Inv-loop μ-loop
 cast-remaining c = search needs
@@ -44,8 +44,8 @@ loop-again c =
     let l = c .before .before .before .loop in
     let t = c .before .before .loop-test .taken in
     ⊎-elim
-    (λ w. rw (w .1, w .2) (gathering-in _ (l .inv) t (sym (c .before .is-among .ensures) ∙ w .0 .taken)))
-    (λ w. rw (w .1, w .2) (gathering-out _ (l .inv) t (sym (c .before .is-among .ensures) ∙ w .0 .left)))
+    (λ w. rw (w .1, w .2) (gathering-yes _ (l .inv) t (sym (c .before .candidate-at .ensures) ∙ w .0 .taken)))
+    (λ w. rw (w .1, w .2) (gathering-no _ (l .inv) t (sym (c .before .candidate-at .ensures) ∙ w .0 .left)))
     (c .if1 .came)
 
 returns : tie.Need-returns Inv-loop μ-loop
@@ -61,7 +61,7 @@ gather-some-spec =
     Inv-loop
     μ-loop
     loop-holds
-    is-among-requires
+    candidate-at-requires
     cast-remaining
     mul-remaining
     element-write-remaining

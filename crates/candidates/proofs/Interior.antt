@@ -14,20 +14,20 @@ use Rattle.order.proofs.Order.{inside}
 use Rattle.frame.specs.declared.Sizes.{Sizes}
 use Rattle.frame.specs.Candidates.{candidate, candidate-at}
 use Rattle.frame.specs.declared.SearchBlock.{SearchBlock}
-use Rattle.pruned_remaining.specs.Gathered.{candidateAt, roomy, clear}
+use Rattle.candidates.specs.Gathered.{candidateAt, hasMargin, isInterior}
 
 -- 16 pels from each side every vector of window 16 is a candidate
-pub clear-passes : (b : SearchBlock) → T (clear b) → (k : ℕ) → k < 1089 → candidateAt b k ≡ true
-clear-passes b t k h = T-true (candidateAt b k) (inner (preferred k) (inside k h))
+pub interior-passes : (b : SearchBlock) → T (isInterior b) → (k : ℕ) → k < 1089 → candidateAt b k ≡ true
+interior-passes b t k h = T-true (candidateAt b k) (inner (preferred k) (inside k h))
   where
     s : Sizes
     s = b .sizes
 
     rows : Bool
-    rows = roomy (b .y) (s .n) (s .height)
+    rows = hasMargin (b .y) (s .n) (s .height)
 
     columns : Bool
-    columns = roomy (b .x) (s .n) (s .width)
+    columns = hasMargin (b .x) (s .n) (s .width)
 
     inner : (v : Vector) → Within 16 v → T (candidate s (b .w) (b .y) (b .x) v)
     inner v near =

@@ -1,0 +1,79 @@
+-- `choose`: the best among the first i, carried along.
+use Prim.Native.Nat.{_-_, _≤_, _<_}
+use mathlib.Core.Path.{_≡_}
+use native.Mathlib.Omega.{arith}
+use borrow.Author.Needs.{needs}
+use Rattle.candidates.specs.Chosen.{Choice, distortionOf}
+use Rattle.candidates.proofs.Listing.{listed-at}
+use Rattle.candidates.proofs.Choosing.{choosing-more}
+use Rattle.candidates.proofs.choose.Statement.{statement}
+use Rattle.candidates.proofs.choose.Tie as tie
+
+abbrev Inv-loop : tie.InvT-loop
+Inv-loop older newer order b remaining count best₀ i₀ best i = (0 < i) × (i ≤ count) × Choice (distortionOf older newer b) remaining i best
+
+abbrev μ-loop : tie.MeasureT-loop
+μ-loop older newer order b remaining count best₀ i₀ best i = count - i
+
+abbrev start : tie.At-loop Inv-loop μ-loop → tie.Start Inv-loop μ-loop
+start l = l .before .before .before .before
+
+first-chosen-requires : tie.Need-first-chosen-requires Inv-loop μ-loop
+first-chosen-requires c κs = search needs
+
+loop-holds : tie.Need-loop-holds Inv-loop μ-loop
+loop-holds c = (omega arith, omega arith, c .first-chosen .ensures)
+
+mul-wide-u16 : tie.Need-mul-wide-u16 Inv-loop μ-loop
+mul-wide-u16 c = search needs
+
+element-copy-out-wide-u16 : tie.Need-element-copy-out-wide-u16 Inv-loop μ-loop
+element-copy-out-wide-u16 c = search needs
+
+wide-u16-requires : tie.Need-wide-u16-requires Inv-loop μ-loop
+wide-u16-requires c κs = search needs
+
+distortion-of-requires : tie.Need-distortion-of-requires Inv-loop μ-loop
+distortion-of-requires c κs =
+    let s = start (c .before .before .before) in
+    (s .pre .0, listed-at (s .pre .1 .0) (c .before .before .loop-test .taken) (c .wide-u16 .ensures))
+
+improved-requires : tie.Need-improved-requires Inv-loop μ-loop
+improved-requires c κs = search needs
+
+add-i : tie.Need-add-i Inv-loop μ-loop
+add-i c = search needs
+
+loop-less : tie.Need-loop-less Inv-loop μ-loop
+loop-less c = search needs
+
+loop-again : tie.Need-loop-again Inv-loop μ-loop
+loop-again c =
+    let l = c .before .before .before .before .before in
+    let d = c .before .distortion-of .ensures in
+    let turn = choosing-more (start l .pre .1 .0) (l .loop .inv .0) (c .before .before .before .before .loop-test .taken) (l .loop .inv .2) (c .before .before .wide-u16 .ensures) (d .0) in
+    (omega arith, omega arith, rw (c .improved .ensures) turn)
+
+returns : tie.Need-returns Inv-loop μ-loop
+returns c =
+    let l = c .before in
+    let e : l .loop .i ≡ start l .args .count = omega arith in
+    rw e at (l .loop .inv .2)
+
+pub choose-spec : {M : Type 1} → statement M
+choose-spec =
+    tie.close
+    (tie.spec
+    Inv-loop
+    μ-loop
+    first-chosen-requires
+    loop-holds
+    mul-wide-u16
+    element-copy-out-wide-u16
+    wide-u16-requires
+    distortion-of-requires
+    improved-requires
+    add-i
+    loop-less
+    loop-again
+    returns)

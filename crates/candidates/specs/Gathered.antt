@@ -1,0 +1,32 @@
+-- 01, "The four searches": the candidates of a block in an array of places in the preference table.
+--   candidateAt        the vector at place k of the preference table is a candidate of the block
+--   isInterior         the block has w 16 and stands 16 pels from each side (hasMargin: from both ends of a row or a column): then every vector is one
+--   Front              ks stand in front of what the array held before; there are r of them
+--   ListedCandidates   the first count of remaining are candidates
+use Prim.Native.Nat.{ℕ, _+_, _≤_, _<_}
+use mathlib.Core.Path.{_≡_}
+use mathlib.Core.Bool.{Bool, _&&_}
+use mathlib.Core.List.{List, _++_}
+use lib.Dec.{T, leb}
+use lib.ListN.{length, getD, drop}
+use Rattle.order.specs.Preference.{preferred}
+use Rattle.frame.specs.Candidates.{candidate}
+use Rattle.frame.specs.declared.SearchBlock.{SearchBlock}
+
+abbrev pub candidateAt : SearchBlock → ℕ → Bool
+candidateAt b k = candidate (b .sizes) (b .w) (b .y) (b .x) (preferred k)
+
+abbrev pub hasMargin : ℕ → ℕ → ℕ → Bool
+hasMargin at n side = leb 16 at && leb (at + n + 16) side
+
+abbrev pub isInterior : SearchBlock → Bool
+isInterior b = leb 16 (b .w) && (hasMargin (b .y) (b .sizes .n) (b .sizes .height) && hasMargin (b .x) (b .sizes .n) (b .sizes .width))
+
+pub record Front (ks before after : List ℕ) (r : ℕ) : Type 0 where
+  pub many : r ≡ length ks
+  pub list : after ≡ ks ++ drop r before
+
+pub record ListedCandidates (b : SearchBlock) (remaining : List ℕ) (count : ℕ) : Type 0 where
+  pub long : length remaining ≡ 1089
+  pub few : count ≤ 1089
+  pub each : (i : ℕ) → i < count → (getD remaining i 0 < 1089) × T (candidateAt b (getD remaining i 0))

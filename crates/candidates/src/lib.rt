@@ -1,0 +1,189 @@
+// The candidates of a block, as searches 1 and 2 take them: gathered as places in the preference table, measured, and the first of least distortion chosen.
+
+ghost use mathlib.Core.Path.{_≡_};
+ghost use Prim.Native.Nat.{_<_};
+ghost use lib.Dec.{T};
+ghost use lib.ListN.{length};
+ghost use Rattle.base.specs.Lists.{listTo};
+ghost use Rattle.base.specs.Picks.{pick};
+ghost use Rattle.order.specs.Preference.{preference, flat};
+ghost use Rattle.distortion.specs.Blocks.{UpTo};
+ghost use Rattle.search.specs.Target.{Ready};
+ghost use Rattle.candidates.specs.Gathered.{candidateAt, hasMargin, isInterior, Front, ListedCandidates};
+ghost use Rattle.candidates.specs.Chosen.{beginsAt, Stands, distortionOf, distortionUpTo, improved, Choice};
+use frame::SearchBlock;
+
+// A candidate's place in the preference table, and its distortion.
+pub struct Chosen {
+    pub place: usize,
+    pub distortion: u32,
+}
+
+// ---- gathering
+
+// The vector at place k of the preference table is a candidate.
+fn candidate_at(order: &[i32; 2178], b: SearchBlock, k: usize) -> bool
+    requires { ⌜ (now order ≡ flat preference) × (k < 1089) ⌝ }
+    ensures { λ r. ⌜ r ≡ candidateAt b k ⌝ }
+{
+    let v = order::vector_at(order, k);
+    frame::is_candidate(b.sizes, b.w, b.y, b.x, v.dy, v.dx)
+}
+
+// n pels from `at` on have 16 more on either side.
+fn has_margin(at: usize, n: usize, side: usize) -> bool
+    ensures { λ r. ⌜ r ≡ hasMargin at n side ⌝ }
+{
+    if at < 16 {
+        return false;
+    }
+    if side < 16 {
+        return false;
+    }
+    let end = side - 16;
+    if end < n {
+        return false;
+    }
+    at <= end - n
+}
+
+// Every vector of window 16 is a candidate.
+fn is_interior(b: SearchBlock) -> bool
+    ensures { λ r. ⌜ r ≡ isInterior b ⌝ }
+{
+    let s = b.sizes;
+    if b.w < 16 {
+        return false;
+    }
+    if !has_margin(b.y, s.n, s.height) {
+        return false;
+    }
+    has_margin(b.x, s.n, s.width)
+}
+
+// Every place of the preference table.
+fn gather_every(remaining: &mut [u16; 1089])
+    requires { ⌜ length (now remaining) ≡ 1089 ⌝ }
+    ensures { λ _. ⌜ now (remaining .exit) ≡ listTo (λ k. k) 1089 ⌝ }
+{
+    let mut k: usize = 0;
+    while k < 1089 {
+        remaining[k] = k as u16;
+        k += 1;
+    }
+}
+
+// The places whose vectors are candidates, in front of what the array held; answers how many.
+fn gather_some(order: &[i32; 2178], b: SearchBlock, remaining: &mut [u16; 1089]) -> usize
+    requires { ⌜ (now order ≡ flat preference) × (length (now remaining) ≡ 1089) ⌝ }
+    ensures { λ r. ⌜ Front (pick (candidateAt b) 1089) (now (remaining .entry)) (now (remaining .exit)) r ⌝ }
+{
+    let mut count: usize = 0;
+    let mut k: usize = 0;
+    while k < 1089 {
+        if candidate_at(order, b, k) {
+            remaining[count] = k as u16;
+            count += 1;
+        }
+        k += 1;
+    }
+    count
+}
+
+// All candidates, in preference order, in front of what the array held; answers how many.
+pub fn gather(order: &[i32; 2178], b: SearchBlock, remaining: &mut [u16; 1089]) -> usize
+    requires { ⌜ (now order ≡ flat preference) × (length (now remaining) ≡ 1089) ⌝ }
+    ensures { λ r. ⌜ Front (pick (candidateAt b) 1089) (now (remaining .entry)) (now (remaining .exit)) r ⌝ }
+{
+    if is_interior(b) {
+        gather_every(remaining);
+        return 1089;
+    }
+    gather_some(order, b, remaining)
+}
+
+// ---- measuring and choosing
+
+// Where the older block of the candidate at place k of the preference table begins.
+pub fn begins_at(order: &[i32; 2178], b: SearchBlock, k: usize) -> usize
+    requires { ⌜ Stands b k × (now order ≡ flat preference) × (k < 1089) ⌝ }
+    ensures { λ r. ⌜ r ≡ beginsAt b k ⌝ }
+{
+    let s = b.sizes;
+    let v = order::vector_at(order, k);
+    let r = search::past(v.dy, b.y, 0);
+    let c = search::past(v.dx, b.x, 0);
+    r * s.width + c
+}
+
+// The distortion of the candidate at place k of the preference table, as far as the ceiling goes.
+pub fn distortion_of(
+    older: &[u8],
+    newer: &[u8],
+    order: &[i32; 2178],
+    b: SearchBlock,
+    k: usize,
+    ceiling: u32,
+) -> u32
+    requires { ⌜ Ready (now older) (now newer) b × (now order ≡ flat preference) ⌝ }
+    requires { ⌜ (k < 1089) × T (candidateAt b k) ⌝ }
+    ensures { λ d. ⌜ UpTo ceiling (distortionOf (now (older .entry)) (now (newer .entry)) b k) d × (d < 4294967295) × (d ≡ distortionUpTo (now (older .entry)) (now (newer .entry)) b k ceiling) ⌝ }
+{
+    let s = b.sizes;
+    let width = s.width;
+    let here = b.y * width + b.x;
+    let there = begins_at(order, b, k);
+    distortion::distortion_from(older, newer, width, s.n, here, there, ceiling)
+}
+
+// The first listed candidate.
+pub fn first_chosen(
+    older: &[u8],
+    newer: &[u8],
+    order: &[i32; 2178],
+    b: SearchBlock,
+    remaining: &[u16; 1089],
+    count: usize,
+) -> Chosen
+    requires { ⌜ Ready (now older) (now newer) b × (now order ≡ flat preference) ⌝ }
+    requires { ⌜ ListedCandidates b (now remaining) count × (0 < count) ⌝ }
+    ensures { λ r. ⌜ Choice (distortionOf (now (older .entry)) (now (newer .entry)) b) (now (remaining .entry)) 1 r ⌝ }
+{
+    let place = signed::wide_u16(remaining[0]);
+    let distortion = distortion_of(older, newer, order, b, place, 4294967295);
+    Chosen { place, distortion }
+}
+
+// The better of the best so far and a later candidate; equals go to the earlier.
+pub fn improved(best: Chosen, place: usize, distortion: u32) -> Chosen
+    ensures { λ r. ⌜ r ≡ improved best place distortion ⌝ }
+{
+    if distortion < best.distortion {
+        return Chosen { place, distortion };
+    }
+    best
+}
+
+// Of the listed candidates, the first of least distortion.
+pub fn choose(
+    older: &[u8],
+    newer: &[u8],
+    order: &[i32; 2178],
+    b: SearchBlock,
+    remaining: &[u16; 1089],
+    count: usize,
+) -> Chosen
+    requires { ⌜ Ready (now older) (now newer) b × (now order ≡ flat preference) ⌝ }
+    requires { ⌜ ListedCandidates b (now remaining) count × (0 < count) ⌝ }
+    ensures { λ r. ⌜ Choice (distortionOf (now (older .entry)) (now (newer .entry)) b) (now (remaining .entry)) count r ⌝ }
+{
+    let mut best = first_chosen(older, newer, order, b, remaining, count);
+    let mut i: usize = 1;
+    while i < count {
+        let k = signed::wide_u16(remaining[i]);
+        let d = distortion_of(older, newer, order, b, k, best.distortion);
+        best = improved(best, k, d);
+        i += 1;
+    }
+    best
+}
