@@ -1,6 +1,5 @@
 -- 01, "The four searches", search 2: what code holds between its steps, the remaining candidates' places in front of an array `remaining`, E and the counts in a
 -- struct `PruneState`.
---   Lent          what search 2 asks: the block ready, and the summed-area table of a part of the older frame that holds all older blocks
 --   firstSlot     where the count at N stands among the five: they end with that, those at the resolutions after N and the one at m = 1
 --   Begun         before the first test: all candidates, E the distortion of (0,0), no count
 --   recounted     after counting the tests at a resolution, k candidates remaining; counted: all of them
@@ -15,22 +14,11 @@ use lib.ListN.{length, getD, take, drop, set}
 use Rattle.base.specs.Lists.{fillTo}
 use Rattle.base.specs.Least.{leastOf}
 use Rattle.order.specs.Preference.{preferred}
-use Rattle.distortion.specs.Blocks.{blockAt}
-use Rattle.frame.specs.declared.SearchBlock.{SearchBlock}
 use Rattle.search.specs.declared.SearchResult.{SearchResult}
 use Rattle.search.specs.SearchResult.{searchResult}
-use Rattle.search.specs.Target.{Ready}
-use Rattle.frame.specs.declared.Region.{Region}
-use Rattle.pruned_sums.specs.Area.{SumsOf}
 use Rattle.pruned_rule.specs.Prune.{resolutions}
 use Rattle.pruned_remaining.specs.Kept.{nearestOf, keptWithin, swept}
-use Rattle.pruned_region.specs.Reach.{Covers}
 use Rattle.pruned.specs.declared.PruneState.{PruneState}
-
-pub record Lent (older newer : List ℕ) (b : SearchBlock) (sums : List ℕ) (a : Region) : Type 0 where
-  pub ready : Ready older newer b
-  pub covers : Covers b a
-  pub table : SumsOf (blockAt older (b .sizes .width) (a .top) (a .left)) (a .rows) (a .columns) sums
 
 abbrev pub firstSlot : ℕ → ℕ
 firstSlot n = 5 - (length (resolutions n) + 2)

@@ -51,10 +51,10 @@ module _ (older newer : List ℕ) (b : SearchBlock) (sums : List ℕ) (a : Regio
   vector i = preferred (getD remaining i 0)
 
   pub size : n ≤ largestN
-  size = ready-size older newer b (t .ready)
+  size = ready-size older newer b (t .lent .ready)
 
   pub standing : Standing b
-  standing = ready-standing older newer b (t .ready)
+  standing = ready-standing older newer b (t .lent .ready)
 
   -- where the older block of a remaining candidate stands
   pub record At (i : ℕ) : Type 0 where
@@ -70,7 +70,7 @@ module _ (older newer : List ℕ) (b : SearchBlock) (sums : List ℕ) (a : Regio
   pub at-candidate : (i : ℕ) → i < count → At i
   at-candidate i h =
       let o = candidate-older (b .sizes) (b .w) (b .y) (b .x) (vector i) (t .listed .each i h .1) in
-      let at = candidate-past older newer b (vector i) (t .ready) (t .listed .each i h .1) in
+      let at = candidate-past older newer b (vector i) (t .lent .ready) (t .listed .each i h .1) in
       let p = parts (vector i .dy) in
       let q = parts (vector i .dx) in
       record {
@@ -94,7 +94,7 @@ module _ (older newer : List ℕ) (b : SearchBlock) (sums : List ℕ) (a : Regio
   }
 
   pub narrow : a .columns + 1 ≤ 1025
-  narrow = omega (arith, t .covers .wide, standing .wide)
+  narrow = omega (arith, t .lent .covers .wide, standing .wide)
 
   abbrev origin : Origin
   origin = record { y = b .y; x = b .x; top = a .top; left = a .left; stride = a .columns + 1 }
@@ -105,7 +105,7 @@ module _ (older newer : List ℕ) (b : SearchBlock) (sums : List ℕ) (a : Regio
     rowoffset-small = mul-le-mul {n₂ = largestN} {m₂ = 1025} (size-of k whole) narrow
       where
         size-of : (q : ℕ) → q * m ≡ n → m ≤ largestN
-        size-of zero h = absurd (omega (arith, zero-mul m, t .ready .placed .paired .fitting .some))
+        size-of zero h = absurd (omega (arith, zero-mul m, t .lent .ready .placed .paired .fitting .some))
         size-of (suc q) h = omega (arith, suc-mul q m, size)
 
     pub few-squares : k * k ≤ mostSquares
@@ -117,12 +117,12 @@ module _ (older newer : List ℕ) (b : SearchBlock) (sums : List ℕ) (a : Regio
     module _ (r c : ℕ) (hr : r + n ≤ a .rows) (hc : c + n ≤ a .columns) where
       pub compared-at : Compared block steps sums (m * (a .columns + 1)) m (k * k) (r * (a .columns + 1) + c)
       compared-at =
-          compared blocksums (blockAt older width (a .top) (a .left)) (a .rows) (a .columns) m k block steps sums (t .table) cut r c (rw (whole) hr) (rw (whole) hc)
+          compared blocksums (blockAt older width (a .top) (a .left)) (a .rows) (a .columns) m k block steps sums (t .lent .table) cut r c (rw (whole) hr) (rw (whole) hc)
           (λ i j. nb _) (λ i j. ob _) (t .two) (rw (whole) size)
 
       distance-at : number (r * (a .columns + 1) + c) ≡ distanceBy absolute n m blocksums (λ i j. blockAt older width (a .top) (a .left) (r + i) (c + j))
       distance-at =
-          distance-is blocksums (blockAt older width (a .top) (a .left)) (a .rows) (a .columns) m k block steps sums (t .table) cut r c (rw (whole) hr) (rw (whole) hc) (omega (arith, t .two))
+          distance-is blocksums (blockAt older width (a .top) (a .left)) (a .rows) (a .columns) m k block steps sums (t .lent .table) cut r c (rw (whole) hr) (rw (whole) hc) (omega (arith, t .two))
           ∙ ap (λ (s : ℕ). distanceBy absolute s m blocksums (λ i j. blockAt older width (a .top) (a .left) (r + i) (c + j))) (whole)
 
     module _ (i : ℕ) (h : i < count) where
@@ -136,7 +136,7 @@ module _ (older newer : List ℕ) (b : SearchBlock) (sums : List ℕ) (a : Regio
       pub held : (a .top ≤ R) × (a .left ≤ C) × (R - a .top + n ≤ a .rows) × (C - a .left + n ≤ a .columns)
       held =
           let p = at-candidate i h in
-          let v = t .covers in
+          let v = t .lent .covers in
           let top = v .above R (p .above) in
           let left = v .before C (p .before) in
           (top, left, omega (arith, top, v .below R (p .below) (p .down)), omega (arith, left, v .behind C (p .behind) (p .across)))
@@ -175,7 +175,7 @@ module _ (older newer : List ℕ) (b : SearchBlock) (sums : List ℕ) (a : Regio
       unfolding cornerRegion
       corner-region-is =
           let s = standing in
-          let v = t .covers in
+          let v = t .lent .covers in
           let top = v .above (b .y - b .w) (omega arith) in
           let left = v .before (b .x - b .w) (omega arith) in
           rw e record {

@@ -2,6 +2,7 @@
 -- E". The candidates that remain, as places in the preference table, and the distance at m of each of them.
 --   placeOf      the place of a candidate's older block as an Origin counts; Reached: it stands at or behind that origin
 --   distanceOf   the distance at m of the candidate at place k of the preference table
+--   Lent         the block ready, and the summed-area table of a part of the older frame that holds all older blocks
 --   Tested       what working out the distances at m asks
 use Prim.Native.Nat.{ℕ, _+_, _-_, _*_, _/_, _≤_}
 use mathlib.Core.Path.{_≡_}
@@ -32,10 +33,13 @@ distanceOf older newer b m k =
     distanceBy absolute (b .sizes .n) m (blockAt newer (b .sizes .width) (b .y) (b .x))
     (blockAt older (b .sizes .width) (olderRow (b .y) (preferred k)) (olderColumn (b .x) (preferred k)))
 
-pub record Tested (older newer : List ℕ) (b : SearchBlock) (sums : List ℕ) (a : Region) (m : ℕ) (remaining : List ℕ) (count : ℕ) : Type 0 where
+pub record Lent (older newer : List ℕ) (b : SearchBlock) (sums : List ℕ) (a : Region) : Type 0 where
   pub ready : Ready older newer b
-  pub whole : b .sizes .n / m * m ≡ b .sizes .n
-  pub two : 2 ≤ m
   pub covers : Covers b a
   pub table : SumsOf (blockAt older (b .sizes .width) (a .top) (a .left)) (a .rows) (a .columns) sums
+
+pub record Tested (older newer : List ℕ) (b : SearchBlock) (sums : List ℕ) (a : Region) (m : ℕ) (remaining : List ℕ) (count : ℕ) : Type 0 where
+  pub lent : Lent older newer b sums a
+  pub whole : b .sizes .n / m * m ≡ b .sizes .n
+  pub two : 2 ≤ m
   pub listed : ListedCandidates b remaining count

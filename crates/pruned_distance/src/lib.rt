@@ -11,6 +11,7 @@ ghost use Rattle.pruned_subblocks.specs.Squares.{BlockSums, Cut, differenceAt, 
 ghost use Rattle.pruned_distance.specs.Remaining.{Reached, placeOf, distanceOf, Tested};
 use frame::Region;
 use frame::SearchBlock;
+use pruned_subblocks::Subblocks;
 
 // Where the older blocks of a block's candidates stand: the block is at row y, column x, and places count from row `top` and column `left`
 // of the older frame, in rows of `stride`.
@@ -130,7 +131,7 @@ fn fill_many(
     pick(&part, order, o, remaining, count, dist);
 }
 
-// The distance at m of every remaining candidate. The frames stand for the contract alone: the older one's sums are read, and the newer block's own.
+// The distance at m of every remaining candidate. The frames stand for the contract alone: their sums are read.
 pub fn fill_distances(
     older: &[u8],
     newer: &[u8],
@@ -155,7 +156,13 @@ pub fn fill_distances(
     let stride = a.columns + 1;
     let mut block = [0u32; pruned_subblocks::MOST_SQUARES];
     let mut steps = [0usize; pruned_subblocks::MOST_SQUARES];
-    pruned_subblocks::cut(newer, b, blocksums, m, k, stride, &mut block, &mut steps);
+    let q = Subblocks {
+        m,
+        k,
+        blockstride: s.n + 1,
+        stride,
+    };
+    pruned_subblocks::cut(blocksums, q, &mut block, &mut steps);
     if count <= 256 {
         let top = a.top;
         let left = a.left;

@@ -8,7 +8,8 @@ ghost use Rattle.base.specs.Sum.{sumTo};
 ghost use Rattle.base.specs.Lists.{fillTo};
 ghost use Rattle.base.specs.Rows.{inRows};
 ghost use Rattle.signed.specs.Values.{absDiff};
-ghost use Rattle.pruned_subblocks.specs.Squares.{largestSquareSum, mostSquares, squareSumAt, HasSquare, differenceAt, Compared, IsDistance};
+ghost use Rattle.pruned_sums.specs.Square.{largestSquareSum, squareSumAt, HasSquare};
+ghost use Rattle.pruned_subblocks.specs.Squares.{mostSquares, differenceAt, Compared, IsDistance};
 ghost use Rattle.pruned_spread.specs.Spread.{raised};
 
 // Adds the differences at one square to `columns` places from `from` on.
@@ -31,7 +32,7 @@ fn add_run(
         part[from + c] = part[from + c]
             + signed::abs_diff_u32(
                 value,
-                pruned_subblocks::square_sum_at(sums, rowoffset, m, at + c),
+                pruned_sums::square_sum_at(sums, rowoffset, m, at + c),
             );
         c += 1;
     }

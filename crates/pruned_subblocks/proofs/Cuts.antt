@@ -1,20 +1,22 @@
 -- A block's squares one behind the other, and what the look-ups at each of them give: where the older block lies in the part whose table this
 -- is, the differences at all squares add up to the distance.
 use Prim.Native.Nat.{ℕ, zero, suc, _+_, _*_, _/_, _%_, _≤_, _<_}
-use mathlib.Core.Path.{_≡_, refl, ap₂, subst, _∙_}
+use mathlib.Core.Path.{_≡_, refl, sym, ap₂, subst, _∙_}
 use mathlib.Core.List.{List, _++_}
 use native.Mathlib.Nat.{add-assoc, add-mul, zero-mul, mul-comm, mul-le-mul, le-refl, mod-lt, div-add-mod, div-lt-iff-lt-mul, mul-div-cancel}
 use native.Mathlib.Omega.{arith}
 use lib.ListN.{getD, length-append}
-use Rattle.base.specs.Sum.{sumTo, sumTo-group, sumOver-ext, sumOver-bound}
+use Rattle.base.specs.Sum.{sumTo, sumTo-group, sumOver-ext}
 use Rattle.base.specs.Index.{row-fits}
-use Rattle.base.specs.Rows.{length-in-rows, in-rows-at}
+use Rattle.base.specs.Rows.{inRows, length-in-rows, in-rows-at}
 use Rattle.distortion.specs.Blocks.{Block, absolute}
 use Rattle.pruned_rule.specs.Distance.{squareSum, distanceBy}
 use Rattle.pruned_sums.specs.Area.{SumsOf}
 use Rattle.frame.specs.Pictures.{largestN}
-use Rattle.pruned_sums.specs.Square.{squareAt, leftSum, Square, squared}
-use Rattle.pruned_subblocks.specs.Squares.{largestSquareSum, mostSquares, squareSumAt, HasSquare, IsSquare, squareSums, squareSteps, Cut, differenceAt, Compared, IsDistance}
+use Rattle.pruned_sums.specs.Square.{squareAt, largestSquareSum, squareSumAt, HasSquare}
+use Rattle.pruned_sums.proofs.Squares.{square-small, square-sum-at-is, has-square}
+use Rattle.pruned_subblocks.specs.declared.Subblocks.{Subblocks}
+use Rattle.pruned_subblocks.specs.Squares.{mostSquares, blockSquareSum, squareStep, Cuttable, Cut, differenceAt, Compared, IsDistance}
 
 -- what holds at each place of k rows of k holds at each number below k * k
 by-rows : (P : ℕ → Type 0) (k : ℕ) → ((p q : ℕ) → p < k → q < k → P (p * k + q)) → (s : ℕ) → s < k * k → P s
@@ -33,8 +35,7 @@ squares-few k m two h =
     let half : k * 2 ≤ k * m = mul-le-mul (le-refl k) two in
     mul-le-mul {n₂ = largestN / 2} {m₂ = largestN / 2} (omega arith) (omega arith)
 
--- ---- the four look-ups
-
+-- ---- squares
 -- the newer block's squares are such squares too
 pub square-is : (a : Block) (m p q : ℕ) → squareSum a m p q ≡ squareAt a m (p * m) (q * m)
 unfolding squareSum squareAt
@@ -45,58 +46,29 @@ square-within : (g : Block) (m r c p q : ℕ) → squareAt g m (r + p * m) (c + 
 unfolding squareSum squareAt
 square-within g m r c p q = sumOver-ext m m _ _ (λ i j hi hj. ap₂ g (add-assoc r (p * m) i) (add-assoc c (q * m) j))
 
--- m × m bytes
-square-small : (g : Block) (m r c : ℕ) → ((i j : ℕ) → g i j ≤ 255) → m ≤ largestN → squareAt g m r c ≤ largestSquareSum
-unfolding squareAt
-square-small g m r c b h =
-    let k : m * (m * 255) ≤ largestSquareSum = mul-le-mul {n₂ = largestN} {m₂ = largestN * 255} h (omega arith) in
-    omega (arith, sumOver-bound 255 m m (λ i j. g (r + i) (c + j)) (λ i j hi hj. b _ _))
-
--- at the square's own row and column
-module _ (g : Block) (rows columns : ℕ) (sums : List ℕ) (t : SumsOf g rows columns sums) (m r c : ℕ) (hr : r + m ≤ rows) (hc : c + m ≤ columns) where
-  abbrev at : ℕ
-  at = r * (columns + 1) + c
-
-  abbrev rowoffset : ℕ
-  rowoffset = m * (columns + 1)
-
-  here : Square g columns sums r c m
-  here = squared g rows columns sums r c m t hr hc
-
-  lower : (r + m) * (columns + 1) + c ≡ at + rowoffset
-  lower = omega (arith, add-mul r m (columns + 1))
-
-  left : getD sums (at + rowoffset) 0 ≡ getD sums at 0 + leftSum g r c m
-  left = rw lower at (here .left)
-
-  right : getD sums (at + rowoffset + m) 0 ≡ getD sums (at + m) 0 + (leftSum g r c m + squareAt g m r c)
-  right = rw lower at (here .right)
-
-  pub square-sum-at-is : squareSumAt sums rowoffset m at ≡ squareAt g m r c
-  unfolding squareSumAt
-  square-sum-at-is = omega (arith, left, right)
-
-  -- of bytes
-  square-sum-at-asks : ((i j : ℕ) → g i j ≤ 255) → m ≤ largestN → HasSquare sums rowoffset m at
-  unfolding squareSumAt
-  square-sum-at-asks b sixteen = record {
-    inside = omega (arith, here .low, here .across, lower);
-    left = omega (arith, left);
-    right = omega (arith, right);
-    wider = omega (arith, left, right);
-    small = rw square-sum-at-is (square-small g m r c b sixteen);
-  }
-
 -- ---- the distance
 
--- lists that begin with the squares' sums and their steps
-pub cut-is : (a : Block) (m k stride : ℕ) (block steps d e : List ℕ) → block ≡ squareSums a m k ++ d → steps ≡ squareSteps m k stride ++ e → Cut a m k stride block steps
-cut-is a m k stride block steps d e sums far = record {
-  sums-long = rw sums (omega (arith, length-append (squareSums a m k) d, length-in-rows (λ p q. squareSum a m p q) k k));
-  steps-long = rw far (omega (arith, length-append (squareSteps m k stride) e, length-in-rows (λ p q. p * m * stride + q * m) k k));
-  sum = λ p q hp hq. rw sums (in-rows-at _ k k p q d hp hq);
-  step = λ p q hp hq. rw far (in-rows-at _ k k p q e hp hq);
-}
+-- k × k squares of the block a, whose table this is
+module _ (a : Block) (blocksums : List ℕ) (s : Subblocks) (n : ℕ) (t : SumsOf a n n blocksums) (e : s .blockstride ≡ n + 1) (whole : s .k * s .m ≡ n) where
+  pub cuttable : n ≤ largestN → s .stride ≤ 1025 → ((i j : ℕ) → a i j ≤ 255) → Cuttable blocksums s
+  cuttable small narrow bytes = record {
+    few = omega (arith, whole);
+    near = omega arith;
+    narrow = narrow;
+    each = λ p q hp hq. rw e
+        (has-square a n n blocksums t (s .m) (p * s .m) (q * s .m) (omega (arith, row-fits p (s .k) (s .m) hp)) (omega (arith, row-fits q (s .k) (s .m) hq)) bytes (omega (arith, row-fits p (s .k) (s .m) hp)));
+  }
+
+  -- lists that begin with the squares' sums and their steps
+  pub cut-is : (block steps c d : List ℕ) → block ≡ inRows (blockSquareSum blocksums s) (s .k) (s .k) ++ c → steps ≡ inRows (squareStep s) (s .k) (s .k) ++ d
+      → Cut a (s .m) (s .k) (s .stride) block steps
+  cut-is block steps c d sums far = record {
+    sums-long = rw sums (omega (arith, length-append (inRows (blockSquareSum blocksums s) (s .k) (s .k)) c, length-in-rows (blockSquareSum blocksums s) (s .k) (s .k)));
+    steps-long = rw far (omega (arith, length-append (inRows (squareStep s) (s .k) (s .k)) d, length-in-rows (squareStep s) (s .k) (s .k)));
+    sum = λ p q hp hq. rw (sums, in-rows-at (blockSquareSum blocksums s) (s .k) (s .k) p q c hp hq, e)
+        (square-sum-at-is a n n blocksums t (s .m) (p * s .m) (q * s .m) (omega (arith, row-fits p (s .k) (s .m) hp)) (omega (arith, row-fits q (s .k) (s .m) hq)) ∙ sym (square-is a (s .m) p q));
+    step = λ p q hp hq. rw far (in-rows-at _ (s .k) (s .k) p q d hp hq);
+  }
 
 -- whatever m and k are
 module _ (a g : Block) (rows columns m k : ℕ) (block steps sums : List ℕ) (t : SumsOf g rows columns sums) (cut : Cut a m k (columns + 1) block steps)
@@ -130,13 +102,10 @@ module _ (a g : Block) (rows columns m k : ℕ) (block steps sums : List ℕ) (t
       small = by-rows (λ s. getD block s 0 ≤ largestSquareSum) k (λ p q hp hq. rw (cut .sum p q hp hq, square-is) (square-small a m _ _ ab (omega (arith, row-fits p k m hp))));
       each = by-rows (λ s. HasSquare sums (m * (columns + 1)) m (corner r c + getD steps s 0)) k (λ p q hp hq.
           rw (cut .step p q hp hq, square-place p q)
-          (square-sum-at-asks g rows columns sums t m (r + p * m) (c + q * m) (omega (arith, row-fits p k m hp)) (omega (arith, row-fits q k m hq)) gb (omega (arith, row-fits p k m hp))));
+          (has-square g rows columns sums t m (r + p * m) (c + q * m) (omega (arith, row-fits p k m hp)) (omega (arith, row-fits q k m hq)) gb (omega (arith, row-fits p k m hp))));
     }
 
 -- ---- what the contracts say of the numbers
-
-pub is-square : (sums : List ℕ) (rowoffset m at : ℕ) → IsSquare sums rowoffset m at (squareSumAt sums rowoffset m at)
-is-square sums rowoffset m at g rows columns y x t el ea hy hx = rw (el, ea) (square-sum-at-is g rows columns sums t m y x hy hx)
 
 pub is-distance : (block steps sums : List ℕ) (rowoffset m count at : ℕ) → IsDistance block steps sums rowoffset m count at (sumTo (differenceAt block steps sums rowoffset m at) count)
 is-distance block steps sums rowoffset m count at a g rows columns k y x cut t some ec el ea hy hx =

@@ -1,20 +1,18 @@
 -- 01, "The four searches", search 2: "Cut a block into m × m squares; its distance at m is the sum over squares of the absolute difference of
 -- pel sums." How that is worked out over the summed-area table: the newer block's squares one behind the other, row by row, and each older square
 -- by four look-ups, its place in the table told from the place of the older block's corner.
---   largestSquareSum   the largest sum of a square's pels; mostSquares: how many squares of at least 2 × 2 pels a block has
---   squareSumAt       the sum of the square at a place of the table; HasSquare: what the four look-ups ask
---   IsSquare     r is that sum: wherever the table is a part's and the place a square's in it, r is the square's pel sum
---   blockRegion    the newer block as a part of its frame; BlockSums: a summed-area table of that part
---   squareSums   the newer block's squares: their sums; squareSteps: how far from the corner's place each stands
---   Cut          lists that begin with these
---   differenceAt        the absolute difference at square s
---   Compared     what working out the differences at all squares asks
---   IsDistance   r is their sum: wherever the squares are a block's and the place an older block's corner, r is the distance of the two
-use Prim.Native.Nat.{ℕ, _+_, _-_, _*_, _/_, _≤_, _<_}
+--   mostSquares      how many squares of at least 2 × 2 pels a block has
+--   blockRegion      the newer block as a part of its frame; BlockSums: a summed-area table of that part
+--   blockSquareSum   the sum of the newer block's square in row p and column q of its squares, by the block's table; Cuttable: what that asks of all
+--   squareStep       how far from the corner's place that square stands
+--   Cut              lists that begin with the squares' sums and steps
+--   differenceAt     the absolute difference at square s
+--   Compared         what working out the differences at all squares asks
+--   IsDistance       r is their sum: wherever the squares are a block's and the place an older block's corner, r is the distance of the two
+use Prim.Native.Nat.{ℕ, _+_, _*_, _/_, _≤_, _<_}
 use mathlib.Core.Path.{_≡_}
 use mathlib.Core.List.{List}
 use lib.ListN.{length, getD}
-use Rattle.base.specs.Rows.{inRows}
 use Rattle.signed.specs.Values.{absDiff}
 use Rattle.distortion.specs.Blocks.{Block, absolute, blockAt}
 use Rattle.pruned_rule.specs.Distance.{squareSum, distanceBy}
@@ -22,29 +20,11 @@ use Rattle.frame.specs.declared.SearchBlock.{SearchBlock}
 use Rattle.frame.specs.declared.Region.{Region}
 use Rattle.pruned_sums.specs.Area.{SumsOf}
 use Rattle.frame.specs.Pictures.{largestN}
-use Rattle.pruned_sums.specs.Square.{squareAt}
-
-abbrev pub largestSquareSum : ℕ
-largestSquareSum = largestN * (largestN * 255)
+use Rattle.pruned_sums.specs.Square.{largestSquareSum, squareSumAt, HasSquare}
+use Rattle.pruned_subblocks.specs.declared.Subblocks.{Subblocks}
 
 abbrev pub mostSquares : ℕ
 mostSquares = (largestN / 2) * (largestN / 2)
-
--- the square's lower corner stands `rowoffset` places behind its upper one
-unfoldable pub squareSumAt : List ℕ → ℕ → ℕ → ℕ → ℕ
-squareSumAt sums rowoffset m at = (getD sums (at + rowoffset + m) 0 - getD sums (at + m) 0) - (getD sums (at + rowoffset) 0 - getD sums at 0)
-
-pub record HasSquare (sums : List ℕ) (rowoffset m at : ℕ) : Type 0 where
-  pub inside : at + rowoffset + m < length sums
-  pub left : getD sums at 0 ≤ getD sums (at + rowoffset) 0
-  pub right : getD sums (at + m) 0 ≤ getD sums (at + rowoffset + m) 0
-  pub wider : getD sums (at + rowoffset) 0 - getD sums at 0 ≤ getD sums (at + rowoffset + m) 0 - getD sums (at + m) 0
-  pub small : squareSumAt sums rowoffset m at ≤ largestSquareSum
-
-abbrev pub IsSquare : List ℕ → ℕ → ℕ → ℕ → ℕ → Type 0
-IsSquare sums rowoffset m at r =
-    (g : Block) (rows columns y x : ℕ) → SumsOf g rows columns sums → rowoffset ≡ m * (columns + 1) → at ≡ y * (columns + 1) + x → y + m ≤ rows → x + m ≤ columns
-    → r ≡ squareAt g m y x
 
 abbrev pub blockRegion : SearchBlock → Region
 blockRegion b = record { top = b .y; left = b .x; rows = b .sizes .n; columns = b .sizes .n }
@@ -52,11 +32,17 @@ blockRegion b = record { top = b .y; left = b .x; rows = b .sizes .n; columns = 
 abbrev pub BlockSums : List ℕ → SearchBlock → List ℕ → Type 0
 BlockSums newer b blocksums = SumsOf (blockAt newer (b .sizes .width) (b .y) (b .x)) (b .sizes .n) (b .sizes .n) blocksums
 
-abbrev pub squareSums : Block → ℕ → ℕ → List ℕ
-squareSums a m k = inRows (λ p q. squareSum a m p q) k k
+abbrev pub blockSquareSum : List ℕ → Subblocks → ℕ → ℕ → ℕ
+blockSquareSum blocksums s p q = squareSumAt blocksums (s .m * s .blockstride) (s .m) (p * s .m * s .blockstride + q * s .m)
 
-abbrev pub squareSteps : ℕ → ℕ → ℕ → List ℕ
-squareSteps m k stride = inRows (λ p q. p * m * stride + q * m) k k
+abbrev pub squareStep : Subblocks → ℕ → ℕ → ℕ
+squareStep s p q = p * s .m * s .stride + q * s .m
+
+pub record Cuttable (blocksums : List ℕ) (s : Subblocks) : Type 0 where
+  pub few : s .k * s .m ≤ largestN
+  pub near : s .blockstride ≤ 1025
+  pub narrow : s .stride ≤ 1025
+  pub each : (p q : ℕ) → p < s .k → q < s .k → HasSquare blocksums (s .m * s .blockstride) (s .m) (p * s .m * s .blockstride + q * s .m)
 
 pub record Cut (a : Block) (m k stride : ℕ) (block steps : List ℕ) : Type 0 where
   pub sums-long : k * k ≤ length block

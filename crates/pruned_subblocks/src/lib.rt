@@ -6,87 +6,66 @@ ghost use Prim.Native.Nat.{_+_, _*_, _≤_, _<_};
 ghost use lib.ListN.{length, drop};
 ghost use Rattle.base.specs.Sum.{sumTo};
 ghost use Rattle.base.specs.Lists.{fillTo};
-ghost use Rattle.frame.specs.Pictures.{largestN};
-ghost use Rattle.distortion.specs.Blocks.{blockAt};
-ghost use Rattle.pruned_rule.specs.Distance.{squareSum};
-ghost use Rattle.pruned_sums.specs.Area.{SumsOf};
-ghost use Rattle.pruned_subblocks.specs.Squares.{largestSquareSum, squareSumAt, HasSquare, IsSquare, blockRegion, BlockSums, squareSums, squareSteps, differenceAt, Compared, IsDistance};
+ghost use Rattle.base.specs.Rows.{inRows};
+ghost use Rattle.pruned_subblocks.specs.Squares.{blockRegion, Cuttable, blockSquareSum, squareStep, differenceAt, Compared, IsDistance};
 use frame::Region;
 use frame::SearchBlock;
 
 // How many squares of at least 2 × 2 pels a block has.
 pub const MOST_SQUARES: usize = (frame::LARGEST_N / 2) * (frame::LARGEST_N / 2);
 
-// The sum of the square at place `at` of the table, by four look-ups.
-pub fn square_sum_at(sums: &[u32], rowoffset: usize, m: usize, at: usize) -> u32
-    requires { ⌜ HasSquare (now sums) rowoffset m at ⌝ }
-    ensures { λ r. ⌜ (r ≡ squareSumAt (now (sums .entry)) rowoffset m at) × (r ≤ largestSquareSum) × IsSquare (now (sums .entry)) rowoffset m at r ⌝ }
-{
-    let right = sums[at + rowoffset + m] - sums[at + m];
-    let beside = sums[at + rowoffset] - sums[at];
-    right - beside
+// A block cut into k × k squares of m × m pels. The rows of the block's summed-area table are `blockstride` places long, those of the older frame's
+// table `stride` places.
+pub struct Subblocks {
+    pub m: usize,
+    pub k: usize,
+    pub blockstride: usize,
+    pub stride: usize,
 }
 
 // Row p of the newer block's squares.
 fn cut_row(
-    newer: &[u8],
-    width: usize,
-    a: Region,
     blocksums: &[u32],
-    m: usize,
-    k: usize,
-    stride: usize,
+    s: Subblocks,
     p: usize,
     from: usize,
     block: &mut [u32],
     steps: &mut [usize],
 )
-    requires { ⌜ SumsOf (blockAt (now newer) width (a .top) (a .left)) (a .rows) (a .columns) (now blocksums) × (k * m ≤ a .rows) × (k * m ≤ a .columns) × (a .rows ≤ largestN) × (a .columns ≤ largestN) × (stride ≤ 1025) × (p < k) ⌝ }
-    requires { ⌜ (from + k ≤ length (now block)) × (from + k ≤ length (now steps)) ⌝ }
-    ensures { λ _. ⌜ (now (block .exit) ≡ fillTo (now (block .entry)) from (λ q. squareSum (blockAt (now (newer .entry)) width (a .top) (a .left)) m p q) k) × (now (steps .exit) ≡ fillTo (now (steps .entry)) from (λ q. p * m * stride + q * m) k) ⌝ }
+    requires { ⌜ Cuttable (now blocksums) s × (p < s .k) × (from + s .k ≤ length (now block)) × (from + s .k ≤ length (now steps)) ⌝ }
+    ensures { λ _. ⌜ (now (block .exit) ≡ fillTo (now (block .entry)) from (blockSquareSum (now (blocksums .entry)) s p) (s .k)) × (now (steps .exit) ≡ fillTo (now (steps .entry)) from (squareStep s p) (s .k)) ⌝ }
 {
+    let m = s.m;
+    let k = s.k;
+    let blockstride = s.blockstride;
+    let stride = s.stride;
+    let rowoffset = m * blockstride;
     let down = p * m;
     let mut q: usize = 0;
     while q < k {
         let across = q * m;
-        block[from + q] = pruned_sums::square_sum(newer, width, a, blocksums, down, across, m);
+        block[from + q] = pruned_sums::square_sum_at(
+            blocksums,
+            rowoffset,
+            m,
+            down * blockstride + across,
+        );
         steps[from + q] = down * stride + across;
         q += 1;
     }
 }
 
-// The newer block's squares, row by row.
-fn cut_block(
-    newer: &[u8],
-    width: usize,
-    a: Region,
-    blocksums: &[u32],
-    m: usize,
-    k: usize,
-    stride: usize,
-    block: &mut [u32],
-    steps: &mut [usize],
-)
-    requires { ⌜ SumsOf (blockAt (now newer) width (a .top) (a .left)) (a .rows) (a .columns) (now blocksums) × (k * m ≤ a .rows) × (k * m ≤ a .columns) × (a .rows ≤ largestN) × (a .columns ≤ largestN) × (stride ≤ 1025) ⌝ }
-    requires { ⌜ (k * k ≤ length (now block)) × (k * k ≤ length (now steps)) ⌝ }
-    ensures { λ _. ⌜ (now (block .exit) ≡ squareSums (blockAt (now (newer .entry)) width (a .top) (a .left)) m k ++ drop (k * k) (now (block .entry))) × (now (steps .exit) ≡ squareSteps m k stride ++ drop (k * k) (now (steps .entry))) ⌝ }
+// The newer block's squares, row by row: their sums, by the block's own summed-area table, and how far from the block's corner each stands.
+pub fn cut(blocksums: &[u32], s: Subblocks, block: &mut [u32], steps: &mut [usize])
+    requires { ⌜ Cuttable (now blocksums) s × (s .k * s .k ≤ length (now block)) × (s .k * s .k ≤ length (now steps)) ⌝ }
+    ensures { λ _. ⌜ (now (block .exit) ≡ inRows (blockSquareSum (now (blocksums .entry)) s) (s .k) (s .k) ++ drop (s .k * s .k) (now (block .entry)))
+        × (now (steps .exit) ≡ inRows (squareStep s) (s .k) (s .k) ++ drop (s .k * s .k) (now (steps .entry))) ⌝ }
 {
+    let k = s.k;
     let mut p: usize = 0;
     let mut from: usize = 0;
     while p < k {
-        cut_row(
-            newer,
-            width,
-            a,
-            blocksums,
-            m,
-            k,
-            stride,
-            p,
-            from,
-            block,
-            steps,
-        );
+        cut_row(blocksums, s, p, from, block, steps);
         from += k;
         p += 1;
     }
@@ -108,27 +87,6 @@ pub fn block_region(b: SearchBlock) -> Region
     }
 }
 
-// The squares of the newer block, by its own summed-area table.
-pub fn cut(
-    newer: &[u8],
-    b: SearchBlock,
-    blocksums: &[u32],
-    m: usize,
-    k: usize,
-    stride: usize,
-    block: &mut [u32],
-    steps: &mut [usize],
-)
-    requires { ⌜ BlockSums (now newer) b (now blocksums) × (b .sizes .n ≤ largestN) × (k * m ≡ b .sizes .n) × (stride ≤ 1025) ⌝ }
-    requires { ⌜ (k * k ≤ length (now block)) × (k * k ≤ length (now steps)) ⌝ }
-    ensures { λ _. ⌜ (now (block .exit) ≡ squareSums (blockAt (now (newer .entry)) (b .sizes .width) (b .y) (b .x)) m k ++ drop (k * k) (now (block .entry))) × (now (steps .exit) ≡ squareSteps m k stride ++ drop (k * k) (now (steps .entry))) ⌝ }
-{
-    let s = b.sizes;
-    let width = s.width;
-    let a = block_region(b);
-    cut_block(newer, width, a, blocksums, m, k, stride, block, steps);
-}
-
 // The distance of one older block, its corner at place `at` of the table.
 pub fn distance_from(
     block: &[u32],
@@ -145,7 +103,10 @@ pub fn distance_from(
     let mut sum: u32 = 0;
     let mut s: usize = 0;
     while s < count {
-        sum += signed::abs_diff_u32(block[s], square_sum_at(sums, rowoffset, m, at + steps[s]));
+        sum += signed::abs_diff_u32(
+            block[s],
+            pruned_sums::square_sum_at(sums, rowoffset, m, at + steps[s]),
+        );
         s += 1;
     }
     sum

@@ -1,52 +1,35 @@
 -- The pels of a square, and the four look-ups in the summed-area table that give their sum.
---   squareAt  the sum of the m × m pels whose first is at row r and column c
---   Square    what the four look-ups ask of the table; it follows from SumsOf (squared)
-use Prim.Native.Nat.{ℕ, _+_, _*_, _≤_}
-use mathlib.Core.Path.{_≡_, ap, _∙_}
+--   squareAt           the sum of the m × m pels whose first is at row r and column c
+--   largestSquareSum   the largest sum of a square's pels
+--   squareSumAt        the sum of the square at a place of the table; HasSquare: what the four look-ups ask
+--   IsSquare           r is that sum: wherever the table is a part's and the place a square's in it, r is the square's pel sum
+use Prim.Native.Nat.{ℕ, _+_, _-_, _*_, _≤_, _<_}
+use mathlib.Core.Path.{_≡_}
 use mathlib.Core.List.{List}
-use native.Mathlib.Nat.{add-assoc}
-use native.Mathlib.Omega.{arith}
 use lib.ListN.{length, getD}
-use Rattle.base.specs.Sum.{sumOver, sumTo-ext, sumTo-add, sumTo-cut}
-use Rattle.base.specs.Index.{row-fits}
+use Rattle.base.specs.Sum.{sumOver}
+use Rattle.frame.specs.Pictures.{largestN}
 use Rattle.distortion.specs.Blocks.{Block}
-use Rattle.pruned_sums.specs.Area.{area, SumsOf}
+use Rattle.pruned_sums.specs.Area.{SumsOf}
 
 unfoldable pub squareAt : Block → ℕ → ℕ → ℕ → ℕ
 squareAt g m r c = sumOver m m (λ i j. g (r + i) (c + j))
 
-module _ (g : Block) (r c m : ℕ) where
-  -- the pels left of the square, in its rows
-  abbrev pub leftSum : ℕ
-  leftSum = sumOver m c (λ i j. g (r + i) j)
+abbrev pub largestSquareSum : ℕ
+largestSquareSum = largestN * (largestN * 255)
 
-  low-left : area g (r + m) c ≡ area g r c + leftSum
-  low-left = sumTo-cut _ r m
+-- the square's lower corner stands `rowoffset` places behind its upper one
+unfoldable pub squareSumAt : List ℕ → ℕ → ℕ → ℕ → ℕ
+squareSumAt sums rowoffset m at = (getD sums (at + rowoffset + m) 0 - getD sums (at + m) 0) - (getD sums (at + rowoffset) 0 - getD sums at 0)
 
-  low-right : area g (r + m) (c + m) ≡ area g r (c + m) + (leftSum + squareAt g m r c)
-  unfolding squareAt
-  low-right =
-      sumTo-cut _ r m
-      ∙ ap (_+_ (area g r (c + m))) (sumTo-ext _ _ m (λ i h. sumTo-cut _ c m) ∙ sumTo-add _ _ m)
+pub record HasSquare (sums : List ℕ) (rowoffset m at : ℕ) : Type 0 where
+  pub inside : at + rowoffset + m < length sums
+  pub left : getD sums at 0 ≤ getD sums (at + rowoffset) 0
+  pub right : getD sums (at + m) 0 ≤ getD sums (at + rowoffset + m) 0
+  pub wider : getD sums (at + rowoffset) 0 - getD sums at 0 ≤ getD sums (at + rowoffset + m) 0 - getD sums (at + m) 0
+  pub small : squareSumAt sums rowoffset m at ≤ largestSquareSum
 
--- in the code's own words
-pub record Square (g : Block) (columns : ℕ) (table : List ℕ) (r c m : ℕ) : Type 0 where
-  pub across : c + m ≤ columns
-  pub top : r * (columns + 1) + (columns + 1) ≤ length table
-  pub low : (r + m) * (columns + 1) + (columns + 1) ≤ length table
-  pub left : getD table ((r + m) * (columns + 1) + c) 0 ≡ getD table (r * (columns + 1) + c) 0 + leftSum g r c m
-  pub right : getD table ((r + m) * (columns + 1) + c + m) 0 ≡ getD table (r * (columns + 1) + c + m) 0 + (leftSum g r c m + squareAt g m r c)
-
-pub squared : (g : Block) (rows columns : ℕ) (table : List ℕ) (r c m : ℕ) → SumsOf g rows columns table → r + m ≤ rows → c + m ≤ columns → Square g columns table r c m
-squared g rows columns table r c m t hr hc =
-    let at1 : getD table (r * (columns + 1) + c) 0 ≡ area g r c = t .at r c (omega arith) (omega arith) in
-    let at2 : getD table (r * (columns + 1) + (c + m)) 0 ≡ area g r (c + m) = t .at r (c + m) (omega arith) hc in
-    let at3 : getD table ((r + m) * (columns + 1) + c) 0 ≡ area g (r + m) c = t .at (r + m) c hr (omega arith) in
-    let at4 : getD table ((r + m) * (columns + 1) + (c + m)) 0 ≡ area g (r + m) (c + m) = t .at (r + m) (c + m) hr hc in
-    record {
-      across = hc;
-      top = omega (arith, t .long, row-fits r (rows + 1) (columns + 1) (omega arith));
-      low = omega (arith, t .long, row-fits (r + m) (rows + 1) (columns + 1) (omega arith));
-      left = rw (at1, at3) (low-left g r c m);
-      right = rw (add-assoc (r * (columns + 1)) c m, add-assoc ((r + m) * (columns + 1)) c m, at2, at4) (low-right g r c m);
-    }
+abbrev pub IsSquare : List ℕ → ℕ → ℕ → ℕ → ℕ → Type 0
+IsSquare sums rowoffset m at r =
+    (g : Block) (rows columns y x : ℕ) → SumsOf g rows columns sums → rowoffset ≡ m * (columns + 1) → at ≡ y * (columns + 1) + x → y + m ≤ rows → x + m ≤ columns
+    → r ≡ squareAt g m y x

@@ -7,7 +7,7 @@ ghost use lib.ListN.{length, getD, drop};
 ghost use Rattle.base.specs.Lists.{fillTo};
 ghost use Rattle.distortion.specs.Blocks.{blockAt};
 ghost use Rattle.pruned_sums.specs.Area.{summed};
-ghost use Rattle.pruned_sums.specs.Square.{squareAt, Square};
+ghost use Rattle.pruned_sums.specs.Square.{largestSquareSum, squareSumAt, HasSquare, IsSquare};
 ghost use Rattle.pruned_sums.specs.Filling.{nextRow, Fillable};
 use frame::Region;
 
@@ -68,23 +68,12 @@ pub fn fill_sums(frame: &[u8], width: usize, a: Region, table: &mut [u32])
     }
 }
 
-// The sum of the m × m pels at row r and column c of the part whose table this is; the frame stands for the contract alone.
-pub fn square_sum(
-    frame: &[u8],
-    width: usize,
-    a: Region,
-    table: &[u32],
-    r: usize,
-    c: usize,
-    m: usize,
-) -> u32
-    requires { ⌜ Square (blockAt (now frame) width (a .top) (a .left)) (a .columns) (now table) r c m ⌝ }
-    ensures { λ s. ⌜ s ≡ squareAt (blockAt (now (frame .entry)) width (a .top) (a .left)) m r c ⌝ }
+// The sum of the square at place `at` of the table, by four look-ups; its lower edge stands `rowoffset` places behind its upper one.
+pub fn square_sum_at(sums: &[u32], rowoffset: usize, m: usize, at: usize) -> u32
+    requires { ⌜ HasSquare (now sums) rowoffset m at ⌝ }
+    ensures { λ r. ⌜ (r ≡ squareSumAt (now (sums .entry)) rowoffset m at) × (r ≤ largestSquareSum) × IsSquare (now (sums .entry)) rowoffset m at r ⌝ }
 {
-    let stride = a.columns + 1;
-    let top = r * stride + c;
-    let low = (r + m) * stride + c;
-    let right = table[low + m] - table[top + m];
-    let beside = table[low] - table[top];
+    let right = sums[at + rowoffset + m] - sums[at + m];
+    let beside = sums[at + rowoffset] - sums[at];
     right - beside
 }

@@ -18,7 +18,7 @@ fill-distances-requires c κs = search needs
 lowered-requires : tie.Need-lowered-requires
 lowered-requires c κs =
     let p = c .before .before .before .before .before .before .before .before .before .before .pre in
-    ((p .2 .ready, p .0), (p .2 .listed, omega (arith, p .4, c .before .before .before .before .before .if1 .left)))
+    ((p .2 .lent .ready, p .0), (p .2 .listed, omega (arith, p .4, c .before .before .before .before .before .if1 .left)))
 
 sifted-requires : tie.Need-sifted-requires
 sifted-requires c κs =

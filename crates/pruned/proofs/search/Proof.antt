@@ -77,11 +77,9 @@ fill-distances-requires c κs =
       s .pre .1,
       refl,
       record {
-        ready = l .ready;
+        lent = l;
         whole = div-mul-cancel _ (dvd-refl _);
         two = two-least _ (l .ready .placed .paired .allowed);
-        covers = l .covers;
-        table = l .table;
         listed = gathered-listed _ (c .before .before .before .before .gather .ensures) refl;
       },
       block-sums o,
@@ -122,11 +120,9 @@ level-requires c κs =
       s .pre .1,
       g .wide,
       record {
-        ready = l .ready;
+        lent = l;
         whole = div-mul-cancel _ (going-divides g h);
         two = h;
-        covers = l .covers;
-        table = l .table;
         listed = going-listed g;
       },
       block-sums (tabled i),

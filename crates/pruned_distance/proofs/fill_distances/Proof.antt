@@ -1,6 +1,6 @@
 -- `fill_distances`: a candidate's number is its distance, whether worked out by itself or among all older blocks in reach.
 use Prim.Native.Nat.{ℕ, _+_, _/_, _≤_}
-use mathlib.Core.Path.{_∙_}
+use mathlib.Core.Path.{refl, _∙_}
 use native.Mathlib.Omega.{arith}
 use borrow.Author.Needs.{needs}
 use denote.Ref.{now}
@@ -9,37 +9,49 @@ use Rattle.base.specs.Lists.{fill-ext}
 use Rattle.distortion.specs.Blocks.{blockAt}
 use Rattle.pruned_distance.specs.Remaining.{Tested}
 use Rattle.pruned_subblocks.specs.Squares.{Cut}
-use Rattle.pruned_subblocks.proofs.Cuts.{squares-few, cut-is}
+use Rattle.pruned_subblocks.proofs.Cuts.{squares-few, cuttable, cut-is}
 use Rattle.pruned_distance.proofs.Candidates.{size, narrow, rowoffset-small, few-squares, reached-table, compared-table, number-table}
 use Rattle.pruned_distance.proofs.fill_distances.Statement.{statement}
 use Rattle.pruned_distance.proofs.fill_distances.Tie as tie
 
 -- ---- the facts of the start, where the newer block is cut
 
+abbrev given : tie.After-steps → tie.After-shared-slice-known4
+given c = let k : tie.After-struct-known = c .before .before .before .before in k .before .before
+
+abbrev entry : tie.After-shared-slice-known4 → tie.Start
+entry c = c .before .before .before .before
+
 abbrev start : tie.After-cut → tie.Start
-start c = c .before .before .before .before .before .before .before .before .before .before
+start c = entry (given (c .before))
 
 tested : (c : tie.After-cut) → let a = start c .args in Tested (now (a .older)) (now (a .newer)) (a .b) (now (a .sums)) (a .a) (a .m) (now (a .remaining)) (a .count)
 tested c = start c .pre .2
 
 -- a pel is a byte
 olds : (c : tie.After-cut) (k : ℕ) → getD (now (start c .args .older)) k 0 ≤ 255
-olds c k = omega (arith, c .before .before .before .before .before .before .before .before .before .shared-slice-known .given k)
+olds c k = omega (arith, given (c .before) .before .before .before .shared-slice-known .given k)
+
+newer-bytes : (g : tie.After-shared-slice-known4) (k : ℕ) → getD (now (entry g .args .newer)) k 0 ≤ 255
+newer-bytes g k = omega (arith, g .before .before .shared-slice-known2 .given k)
 
 news : (c : tie.After-cut) (k : ℕ) → getD (now (start c .args .newer)) k 0 ≤ 255
-news c k = omega (arith, c .before .before .before .before .before .before .before .before .shared-slice-known2 .given k)
+news c k = newer-bytes (given (c .before)) k
 
 -- the newer block's squares
 squares : (c : tie.After-cut) →
     let a = start c .args in
-    Cut (blockAt (now (a .newer)) (a .b .sizes .width) (a .b .y) (a .b .x)) (a .m) (a .b .sizes .n / a .m) (a .a .columns + 1) (c .cut .last .1 .1 .1 .1 .1 .1 .0) (c .cut .last .1 .1 .1 .1 .1 .1 .1 .0)
-squares c = cut-is _ _ _ _ _ _ _ _ (c .cut .ensures .0) (c .cut .ensures .1)
+    Cut (blockAt (now (a .newer)) (a .b .sizes .width) (a .b .y) (a .b .x)) (a .m) (a .b .sizes .n / a .m) (a .a .columns + 1) (c .cut .last .1 .1 .0) (c .cut .last .1 .1 .1 .0)
+squares c = cut-is _ _ _ _ (start c .pre .3) refl (tested c .whole) _ _ _ _ (c .cut .ensures .0) (c .cut .ensures .1)
 
 div-k : tie.Need-div-k
 div-k c = search needs
 
 add-stride : tie.Need-add-stride
 add-stride c = search needs
+
+add-t23 : tie.Need-add-t23
+add-t23 c = omega (arith, size _ _ _ _ _ _ _ _ (entry (c .before .before .before .before) .pre .2))
 
 slice-aggregate-cut : tie.Need-slice-aggregate-cut
 slice-aggregate-cut c = search needs
@@ -49,13 +61,12 @@ slice-aggregate-cut-2 c = search needs
 
 cut-requires : tie.Need-cut-requires
 cut-requires c κs =
-    let s = c .before .before .before .before .before .before .before .before .before in
+    let s = entry (given c) in
     let t = s .pre .2 in
-    let sixteen = size _ _ _ _ _ _ _ _ t in
-    let few = squares-few (s .args .b .sizes .n / s .args .m) (s .args .m) (t .two) (omega (arith, t .whole, sixteen)) in (
-      (s .pre .3, sixteen, t .whole, narrow _ _ _ _ _ _ _ _ t),
-      (few, few),
-    )
+    let small = size _ _ _ _ _ _ _ _ t in
+    let few = squares-few (s .args .b .sizes .n / s .args .m) (s .args .m) (t .two) (omega (arith, t .whole, small)) in
+    let narrows = narrow _ _ _ _ _ _ _ _ t in
+    (cuttable _ _ _ _ (s .pre .3) refl (t .whole) small narrows (λ i j. newer-bytes (given c) _), few, few)
 
 slice-aggregate-fill-few : tie.Need-slice-aggregate-fill-few
 slice-aggregate-fill-few c = search needs
@@ -107,6 +118,7 @@ fill-distances-spec =
     (tie.spec
     div-k
     add-stride
+    add-t23
     slice-aggregate-cut
     slice-aggregate-cut-2
     cut-requires

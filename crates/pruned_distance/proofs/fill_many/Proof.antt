@@ -47,14 +47,14 @@ rise-small c =
     let p = in-part c in
     let t = tested c in
     mul-le-mul {n₂ = 1024} {m₂ = 1025}
-    (omega (arith, p .down 0 (p .rows), t .covers .high, standing _ _ _ _ _ _ _ _ t .high))
+    (omega (arith, p .down 0 (p .rows), t .lent .covers .high, standing _ _ _ _ _ _ _ _ t .high))
     (narrow _ _ _ _ _ _ _ _ t)
 
 run-small : (c : tie.After-corner-region) → c .corner-region .result .left - start c .args .a .left ≤ 1024
 run-small c =
     let p = in-part c in
     let t = tested c in
-    omega (arith, p .across 0 (p .columns), t .covers .wide, standing _ _ _ _ _ _ _ _ t .wide)
+    omega (arith, p .across 0 (p .columns), t .lent .covers .wide, standing _ _ _ _ _ _ _ _ t .wide)
 
 add-stride : tie.Need-add-stride
 add-stride c = omega (arith, narrow _ _ _ _ _ _ _ _ (c .before .before .before .before .before .before .pre .0 .2))

@@ -1,6 +1,4 @@
 -- `search_window`: at least one corner stands in reach, so N - 1 is no less than 0 to add.
-use Prim.Native.Nat.{_≤_}
-use mathlib.Core.Path.{refl}
 use native.Mathlib.Omega.{arith}
 use borrow.Author.Needs.{needs}
 use Rattle.pruned_region.specs.Reach.{searchWindow}

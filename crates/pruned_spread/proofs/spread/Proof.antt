@@ -9,7 +9,8 @@ use lib.ListN.{length, getD}
 use Rattle.base.specs.Sum.{sumTo, sumTo-bound}
 use Rattle.base.specs.Rows.{Rowed, in-rows-at}
 use Rattle.signed.specs.Values.{absDiff}
-use Rattle.pruned_subblocks.specs.Squares.{largestSquareSum, mostSquares, squareSumAt, HasSquare, differenceAt, Compared}
+use Rattle.pruned_sums.specs.Square.{largestSquareSum, squareSumAt, HasSquare}
+use Rattle.pruned_subblocks.specs.Squares.{mostSquares, differenceAt, Compared}
 use Rattle.pruned_subblocks.proofs.Cuts.{is-distance}
 use Rattle.pruned_spread.proofs.Adding.{summed-none, summed-step}
 use Rattle.pruned_spread.proofs.spread.Statement.{statement}

@@ -1,29 +1,92 @@
--- `cut`: the block's own table serves the look-ups of its squares.
-use Prim.Native.Nat.{_*_, _≤_}
+-- `cut`: after p turns the first p rows of squares are filled in (`Rowed`).
+use Prim.Native.Nat.{_+_, _-_, _*_, _≤_}
+use mathlib.Core.Path.{_≡_, sym}
+use native.Mathlib.Nat.{zero-mul}
 use native.Mathlib.Omega.{arith}
 use borrow.Author.Needs.{needs}
+use lib.ListN.{length}
+use Rattle.base.specs.Index.{row-next, row-fits}
+use Rattle.base.specs.Rows.{Rowed, rowed-none, rowed-step}
+use Rattle.pruned_subblocks.specs.Squares.{blockSquareSum, squareStep}
 use Rattle.pruned_subblocks.proofs.cut.Statement.{statement}
 use Rattle.pruned_subblocks.proofs.cut.Tie as tie
 
-block-region-requires : tie.Need-block-region-requires
-block-region-requires c κs = search needs
+abbrev Inv-loop : tie.InvT-loop
+Inv-loop blocksums s block₀ steps₀ k p₀ from₀ block steps p from =
+    (p ≤ k) × (from ≡ p * k) × (Rowed (blockSquareSum blocksums s) k block₀ block p × Rowed (squareStep s) k steps₀ steps p)
 
-cut-block-requires : tie.Need-cut-block-requires
-cut-block-requires c κs =
-    let s = c .before .before .before .before .before .before .before .before in
-    let p = s .pre .0 in
-    let whole : s .args .k * s .args .m ≤ s .args .b .sizes .n = omega (arith, p .2) in
-    rw (c .before .before .block-region .ensures) ((p .0, whole, whole, p .1, p .1, p .3), s .pre .1)
+abbrev μ-loop : tie.MeasureT-loop
+μ-loop blocksums s block₀ steps₀ k p₀ from₀ block steps p from = k - p
 
-same-length : tie.Need-same-length
-same-length c = search needs
+abbrev start : tie.At-loop Inv-loop μ-loop → tie.Start Inv-loop μ-loop
+start l = l .before .before .before .before
 
-same-length-2 : tie.Need-same-length-2
-same-length-2 c = search needs
+-- the row of a turn has room
+room : (b : tie.In-loop Inv-loop μ-loop) →
+    let k = start (b .before) .args .s .k in
+    let l = b .before .loop in
+    (l .from + k ≤ length (l .block)) × (l .from + k ≤ length (l .steps))
+room b =
+    let k = start (b .before) .args .s .k in
+    let l = b .before .loop in
+    omega (arith, l .inv .2 .0 .long, l .inv .2 .1 .long, row-fits (l .p) k k (b .loop-test .taken))
 
-returns : tie.Need-returns
-returns c = let k = c .before .before .before .before in rw (k .before .before .before .block-region .ensures) at (k .cut-block .ensures)
+loop-holds : tie.Need-loop-holds Inv-loop μ-loop
+loop-holds c = (search needs, sym (zero-mul _), (rowed-none _ _ _, rowed-none _ _ _))
+
+cut-row-requires : tie.Need-cut-row-requires Inv-loop μ-loop
+cut-row-requires c κs =
+    let b = c .before .before in
+    let r = room b in
+    (start (b .before) .pre .0, b .loop-test .taken, r .0, r .1)
+
+add-from : tie.Need-add-from Inv-loop μ-loop
+add-from c = omega (arith, room (c .before .before .before .before .before .before .before))
+
+add-p : tie.Need-add-p Inv-loop μ-loop
+add-p c = search needs
+
+loop-less : tie.Need-loop-less Inv-loop μ-loop
+loop-less c = search needs
+
+loop-again : tie.Need-loop-again Inv-loop μ-loop
+loop-again c =
+    let b = c .before .before .before .before .before .before .before in
+    let l = b .before .loop in
+    let made = c .before .before .before .before .cut-row .ensures in (
+      search needs,
+      omega (arith, l .inv .1, row-next (l .p) (start (b .before) .args .s .k)),
+      (
+        rowed-step _ _ _ _ _ _ _ (l .inv .2 .0) (l .inv .1) (room b .0) (made .0),
+        rowed-step _ _ _ _ _ _ _ (l .inv .2 .1) (l .inv .1) (room b .1) (made .1),
+      ),
+    )
+
+same-length : tie.Need-same-length Inv-loop μ-loop
+same-length c = c .before .loop .inv .2 .0 .long
+
+same-length-2 : tie.Need-same-length-2 Inv-loop μ-loop
+same-length-2 c = c .before .loop .inv .2 .1 .long
+
+returns : tie.Need-returns Inv-loop μ-loop
+returns c =
+    let l = c .before in
+    let e : l .loop .p ≡ start l .args .s .k = omega arith in
+    let done = rw e at (l .loop .inv .2) in
+    (done .0 .filled, done .1 .filled)
 
 pub cut-spec : {M : Type 1} → statement M
 cut-spec =
-    tie.close (tie.spec block-region-requires cut-block-requires same-length same-length-2 returns)
+    tie.close
+    (tie.spec
+    Inv-loop
+    μ-loop
+    loop-holds
+    cut-row-requires
+    add-from
+    add-p
+    loop-less
+    loop-again
+    same-length
+    same-length-2
+    returns)

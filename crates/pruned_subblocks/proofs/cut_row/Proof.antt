@@ -1,61 +1,65 @@
--- `cut_row`: after q turns the first q squares of the row have their sums and their steps.
-use Prim.Native.Nat.{_+_, _-_, _*_, _≤_}
-use mathlib.Core.Path.{_≡_, refl, sym, _∙_}
+-- `cut_row`: after q turns the first q squares of the row are filled in, sums and steps.
+use Prim.Native.Nat.{ℕ, _+_, _-_, _*_, _≤_}
+use mathlib.Core.Path.{_≡_, refl}
 use native.Mathlib.Nat.{mul-le-mul}
 use native.Mathlib.Omega.{arith}
 use borrow.Author.Needs.{needs}
-use denote.Ref.{now}
 use lib.ListN.{length, length-set}
 use Rattle.base.specs.Index.{row-fits}
 use Rattle.base.specs.Lists.{fillTo, fill-none, fill-more}
-use Rattle.distortion.specs.Blocks.{blockAt}
-use Rattle.pruned_rule.specs.Distance.{squareSum}
 use Rattle.frame.specs.Pictures.{largestN}
-use Rattle.pruned_sums.specs.Square.{squared}
-use Rattle.pruned_subblocks.proofs.Cuts.{square-is}
+use Rattle.pruned_sums.specs.Square.{squareSumAt}
 use Rattle.pruned_subblocks.proofs.cut_row.Statement.{statement}
 use Rattle.pruned_subblocks.proofs.cut_row.Tie as tie
 
 abbrev Inv-loop : tie.InvT-loop
-Inv-loop newer width a blocksums m k stride p from block₀ steps₀ down q₀ block steps q =
+Inv-loop blocksums p from block₀ steps₀ m k blockstride stride rowoffset down q₀ block steps q =
     (q ≤ k)
     × ((length block ≡ length block₀) × (length steps ≡ length steps₀))
-    × ((block ≡ fillTo block₀ from (λ j. squareSum (blockAt newer width (a .top) (a .left)) m p j) q) × (steps ≡ fillTo steps₀ from (λ j. p * m * stride + j * m) q))
+    × ((block ≡ fillTo block₀ from (λ j. squareSumAt blocksums (m * blockstride) m (p * m * blockstride + j * m)) q) × (steps ≡ fillTo steps₀ from (λ j. p * m * stride + j * m) q))
 
 abbrev μ-loop : tie.MeasureT-loop
-μ-loop newer width a blocksums m k stride p from block₀ steps₀ down q₀ block steps q = k - q
+μ-loop blocksums p from block₀ steps₀ m k blockstride stride rowoffset down q₀ block steps q = k - q
 
--- the square of a turn lies in the block
-inside : (b : tie.In-loop Inv-loop μ-loop) →
-    let a = b .before .before .before .before .before .before .args in
-    (a .p * a .m + a .m ≤ largestN) × (b .before .loop .q * a .m + a .m ≤ largestN) × (a .p * a .m + a .m ≤ a .a .rows) × (b .before .loop .q * a .m + a .m ≤ a .a .columns)
-inside b =
-    let a = b .before .before .before .before .before .before .args in
-    let p = b .before .before .before .before .before .before .pre .0 .6 in
-    omega (arith, row-fits (a .p) (a .k) (a .m) p, row-fits (b .before .loop .q) (a .k) (a .m) (b .loop-test .taken))
+abbrev start : tie.At-loop Inv-loop μ-loop → tie.Start Inv-loop μ-loop
+start l = l .before .before .before .before
 
--- the step of a turn's square
-far : (b : tie.In-loop Inv-loop μ-loop) →
-    let a = b .before .before .before .before .before .before .args in
-    a .p * a .m * a .stride ≤ largestN * 1025
-far b = let i = inside b in mul-le-mul {n₂ = largestN} {m₂ = 1025} (omega arith) (omega arith)
+-- the row's squares lie in the block
+down-small : (s : tie.Start Inv-loop μ-loop) → s .args .p * s .args .s .m + s .args .s .m ≤ largestN
+down-small s = omega (arith, s .pre .0 .few, row-fits (s .args .p) (s .args .s .k) (s .args .s .m) (s .pre .1))
+
+across-small : (b : tie.In-loop Inv-loop μ-loop) → let a = start (b .before) .args in b .before .loop .q * a .s .m + a .s .m ≤ largestN
+across-small b =
+    let s = start (b .before) in
+    omega (arith, s .pre .0 .few, row-fits (b .before .loop .q) (s .args .s .k) (s .args .s .m) (b .loop-test .taken))
+
+-- the row's place in a table
+far : (s : tie.Start Inv-loop μ-loop) (stride : ℕ) → stride ≤ 1025 → s .args .p * s .args .s .m * stride ≤ largestN * 1025
+far s stride h = let d = down-small s in mul-le-mul {n₂ = largestN} {m₂ = 1025} (omega arith) h
+
+mul-rowoffset : tie.Need-mul-rowoffset Inv-loop μ-loop
+mul-rowoffset c =
+    let s = c .before .before .before in
+    let small : s .args .s .m * s .args .s .blockstride ≤ largestN * 1025 = mul-le-mul {n₂ = largestN} {m₂ = 1025} (omega (arith, down-small s)) (s .pre .0 .near) in
+    omega arith
 
 mul-down : tie.Need-mul-down Inv-loop μ-loop
-mul-down c =
-    let s = c .before .before .before .before in
-    omega (arith, row-fits (s .args .p) (s .args .k) (s .args .m) (s .pre .0 .6))
+mul-down c = omega (arith, down-small (c .before .before .before))
 
 loop-holds : tie.Need-loop-holds Inv-loop μ-loop
 loop-holds c = (search needs, (refl, refl), (fill-none _ _ _, fill-none _ _ _))
 
 mul-across : tie.Need-mul-across Inv-loop μ-loop
-mul-across c = omega (arith, inside c)
+mul-across c = omega (arith, across-small c)
 
-square-sum-requires : tie.Need-square-sum-requires Inv-loop μ-loop
-square-sum-requires c κs =
-    let s = c .before .before .before .before .before .before in
-    let i = inside c in
-    squared _ (s .args .a .rows) _ _ _ _ _ (s .pre .0 .0) (i .2) (i .3)
+mul-square-sum-at : tie.Need-mul-square-sum-at Inv-loop μ-loop
+mul-square-sum-at c = let s = start (c .before) in omega (arith, far s _ (s .pre .0 .near))
+
+add-square-sum-at : tie.Need-add-square-sum-at Inv-loop μ-loop
+add-square-sum-at c = let s = start (c .before) in omega (arith, across-small c, far s _ (s .pre .0 .near))
+
+square-sum-at-requires : tie.Need-square-sum-at-requires Inv-loop μ-loop
+square-sum-at-requires c κs = let s = start (c .before) in s .pre .0 .each _ _ (s .pre .1) (c .loop-test .taken)
 
 add-block : tie.Need-add-block Inv-loop μ-loop
 add-block c = search needs
@@ -67,10 +71,10 @@ slice-write-block : tie.Need-slice-write-block Inv-loop μ-loop
 slice-write-block c = omega arith
 
 mul-steps : tie.Need-mul-steps Inv-loop μ-loop
-mul-steps c = omega (arith, far (c .before))
+mul-steps c = let s = start (c .before .before) in omega (arith, far s _ (s .pre .0 .narrow))
 
 add-steps : tie.Need-add-steps Inv-loop μ-loop
-add-steps c = omega (arith, inside (c .before), far (c .before))
+add-steps c = let s = start (c .before .before) in omega (arith, across-small (c .before), far s _ (s .pre .0 .narrow))
 
 add-steps-2 : tie.Need-add-steps-2 Inv-loop μ-loop
 add-steps-2 c = search needs
@@ -89,13 +93,10 @@ loop-less c = search needs
 
 loop-again : tie.Need-loop-again Inv-loop μ-loop
 loop-again c =
-    let l = c .before .before .loop in
-    let a = c .before .before .before .before .before .before .before .args in
-    let e : c .square-sum .result ≡ squareSum (blockAt (now (a .newer)) (a .width) (a .a .top) (a .a .left)) (a .m) (a .p) (l .q) =
-    c .square-sum .ensures ∙ sym (square-is _ (a .m) (a .p) (l .q)) in (
+    let l = c .before .before .loop in (
       search needs,
       (simp length-set (l .inv .1 .0), simp length-set (l .inv .1 .1)),
-      (rw (l .inv .2 .0, e) (fill-more _ _ _ (l .q) (omega arith)), rw (l .inv .2 .1) (fill-more _ _ _ (l .q) (omega arith))),
+      (rw (l .inv .2 .0, c .square-sum-at .ensures .0) (fill-more _ _ _ (l .q) (omega arith)), rw (l .inv .2 .1) (fill-more _ _ _ (l .q) (omega arith))),
     )
 
 same-length : tie.Need-same-length Inv-loop μ-loop
@@ -106,9 +107,9 @@ same-length-2 c = c .before .loop .inv .1 .1
 
 returns : tie.Need-returns Inv-loop μ-loop
 returns c =
-    let l = c .before .loop in
-    let e : l .q ≡ c .before .before .before .before .before .before .args .k = omega arith in
-    rw e at (l .inv .2)
+    let l = c .before in
+    let e : l .loop .q ≡ start l .args .s .k = omega arith in
+    rw e at (l .loop .inv .2)
 
 pub cut-row-spec : {M : Type 1} → statement M
 cut-row-spec =
@@ -116,10 +117,13 @@ cut-row-spec =
     (tie.spec
     Inv-loop
     μ-loop
+    mul-rowoffset
     mul-down
     loop-holds
     mul-across
-    square-sum-requires
+    mul-square-sum-at
+    add-square-sum-at
+    square-sum-at-requires
     add-block
     mul-block
     slice-write-block

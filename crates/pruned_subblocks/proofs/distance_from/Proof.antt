@@ -6,7 +6,8 @@ use borrow.Author.Needs.{needs}
 use denote.Ref.{now}
 use lib.ListN.{getD}
 use Rattle.base.specs.Sum.{sumTo, sumTo-none, sumTo-more}
-use Rattle.pruned_subblocks.specs.Squares.{largestSquareSum, differenceAt, HasSquare}
+use Rattle.pruned_sums.specs.Square.{largestSquareSum, HasSquare}
+use Rattle.pruned_subblocks.specs.Squares.{differenceAt}
 use Rattle.pruned_subblocks.proofs.Cuts.{is-distance}
 use Rattle.pruned_subblocks.proofs.distance_from.Statement.{statement}
 use Rattle.pruned_subblocks.proofs.distance_from.Tie as tie

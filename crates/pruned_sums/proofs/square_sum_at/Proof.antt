@@ -1,11 +1,11 @@
--- `look`: the four look-ups are the definition's, and in a table of sums they make a square's pel sum.
+-- `square_sum_at`: the four look-ups are the definition's, and in a table of sums they make a square's pel sum.
 use mathlib.Core.Path.{refl}
 use borrow.Author.Needs.{needs}
 use denote.Ref.{now}
-use Rattle.pruned_subblocks.specs.Squares.{squareSumAt}
-use Rattle.pruned_subblocks.proofs.Cuts.{is-square}
-use Rattle.pruned_subblocks.proofs.square_sum_at.Statement.{statement}
-use Rattle.pruned_subblocks.proofs.square_sum_at.Tie as tie
+use Rattle.pruned_sums.specs.Square.{squareSumAt}
+use Rattle.pruned_sums.proofs.Squares.{is-square}
+use Rattle.pruned_sums.proofs.square_sum_at.Statement.{statement}
+use Rattle.pruned_sums.proofs.square_sum_at.Tie as tie
 
 add-right : tie.Need-add-right
 add-right c = search needs
