@@ -6,14 +6,13 @@
 --   distortionBy  the distortion of two N × N blocks by a measure
 --   distortion    of a pair: the newer block at (y, x) against the older block at (y + dy, x + dx)
 --   rowFrom       a row's share of it, rowsFrom: of several rows, rowsApart: of rows that begin otherwise far apart in the two frames
---   blockCopy     a block's pels by themselves, row after row
 --   rowsUpTo      a distortion as far as a ceiling goes: sumUpTo of its rows, four at a time
 --   UpTo          what such a sum tells of the whole
 use Prim.Native.Nat.{ℕ, zero, suc, _+_, _*_, _≤_, _<_}
-use mathlib.Core.Path.{_≡_, refl, ap₂, _∙_}
+use mathlib.Core.Path.{_≡_, refl, ap₂}
 use mathlib.Core.Bool.{Bool, true, false, cond}
 use mathlib.Core.List.{List}
-use native.Mathlib.Nat.{add-zero, add-suc, zero-add, add-mul, mul-le-mul, mul-le-mul-right}
+use native.Mathlib.Nat.{add-zero, add-suc, add-mul, mul-le-mul, mul-le-mul-right}
 use native.Mathlib.Numerals.{add-one}
 use native.Mathlib.Omega.{arith}
 use lib.Dec.{T, leb}
@@ -21,7 +20,6 @@ use borrow.Author.Tests.{leb-true, leb-false, le-leb, lt-leb}
 use lib.ListN.{length, getD}
 use Rattle.base.specs.Sum.{sumTo, sumTo-none, sumTo-more, sumOver, sumOver-ext, sumOver-bound}
 use Rattle.base.specs.Index.{row-fits}
-use Rattle.base.specs.Lists.{listTo, concatTo, length-listTo, getD-listTo, length-concatTo, getD-concatTo}
 use Rattle.signed.specs.Values.{absDiff}
 use Rattle.order.specs.declared.Vector.{Vector}
 use Rattle.frame.specs.declared.Sizes.{Sizes}
@@ -77,10 +75,6 @@ sumUpTo ceiling f (suc n) =
 abbrev pub rowsUpTo : Measure → ℕ → List ℕ → List ℕ → ℕ → ℕ → ℕ → ℕ → ℕ → ℕ
 rowsUpTo μ ceiling older newer width a b n groups = sumUpTo ceiling (λ g. rowsFrom μ older newer width (a + 4 * g * width) (b + 4 * g * width) n 4) groups
 
--- the n × n block that begins at place a, row after row
-unfoldable pub blockCopy : List ℕ → ℕ → ℕ → ℕ → List ℕ
-blockCopy newer width a n = concatTo (λ i. listTo (λ j. getD newer (a + i * width + j) 0) n) n
-
 pub row-none : (μ : Measure) (older newer : List ℕ) (a b : ℕ) → rowFrom μ older newer a b 0 ≡ 0
 unfolding rowFrom
 row-none μ older newer a b = sumTo-none _
@@ -98,22 +92,6 @@ block-rows μ older newer width y x r c n = sumOver-ext n n _ _ (λ i j hi hj. a
   where
     place : (y x i j : ℕ) → (y + i) * width + (x + j) ≡ y * width + x + i * width + j
     place y x i j = omega (arith, add-mul y i width)
-
-pub length-copy : (newer : List ℕ) (width a n : ℕ) → length (blockCopy newer width a n) ≡ n * n
-unfolding blockCopy
-length-copy newer width a n = length-concatTo _ n (λ i. length-listTo _ n) n
-
--- a copied block has the distortion of the block
-pub copy-rows : (μ : Measure) (older newer : List ℕ) (width a b n : ℕ) → rowsApart μ older (blockCopy newer width a n) n width 0 b n n ≡ rowsFrom μ older newer width a b n n
-unfolding rowFrom blockCopy
-copy-rows μ older newer width a b n =
-    sumOver-ext n n _ _ (λ i j hi hj. ap₂ (μ .diff) (pel-is i j hi hj) refl)
-  where
-    pel-is : (i j : ℕ) → i < n → j < n → getD (concatTo (λ i. listTo (λ j. getD newer (a + i * width + j) 0) n) n) (0 + i * n + j) 0 ≡ getD newer (a + i * width + j) 0
-    pel-is i j hi hj =
-        rw zero-add
-        (getD-concatTo (λ i. listTo (λ j. getD newer (a + i * width + j) 0) n) n (λ i. length-listTo _ n) n i j 0 hi hj
-        ∙ getD-listTo (λ j. getD newer (a + i * width + j) 0) n j 0 hj)
 
 -- 4 × groups rows of n pels, from places a and b on, lie inside two frames of so many columns
 pub record Rows (older newer : List ℕ) (width a b n groups : ℕ) : Type 0 where

@@ -142,7 +142,7 @@ module _ (t : Target) where
   unfolding fourStep
   four-step-count = omega (arith, from2-count origin (step1 t) step1-few, step1-count)
 
--- ---- no point outside window 7 is probePoint at
+-- ---- no point outside window 7 is tried
 
 square-reach : Each (Within 2) square
 unfolding square all?

@@ -63,7 +63,7 @@ moved-move t before s =
 -- ---- the counts
 
 module _ (t : Target) (all : (v : Vector) → Within 7 v → T (t .candidate v)) where
-  -- every point of window 7 that is probePoint at is measured
+  -- every point of window 7 that is tried is measured
   points-all : (s : Seen) (vs : List Vector) → Each (Within 7) vs → probe t s vs .count ≡ s .count + length vs
   points-all s vs e = probe-all t s vs (each-map (Within 7) (λ v. T (t .candidate v)) vs all e)
 

@@ -6,7 +6,8 @@ use native.Mathlib.Omega.{arith}
 use lib.Dec.{T}
 use lib.ListN.{length}
 use Rattle.base.specs.Index.{frame-small}
-use Rattle.distortion.specs.Blocks.{absolute, rowsFrom, rowsApart, begins, block-inside, copy-rows}
+use Rattle.distortion.specs.Blocks.{absolute, rowsFrom, rowsApart, begins, block-inside}
+use Rattle.block_copy.specs.Copy.{copy-rows}
 use Rattle.frame.specs.declared.SearchBlock.{SearchBlock}
 use Rattle.search.specs.Target.{Ready}
 use Rattle.candidates.specs.Gathered.{candidateAt}

@@ -7,7 +7,8 @@ use mathlib.Core.Path.{_≡_}
 use mathlib.Core.List.{List}
 use lib.ListN.{length}
 use Rattle.frame.specs.Pictures.{Pair}
-use Rattle.distortion.specs.Blocks.{blockCopy, distortion}
+use Rattle.distortion.specs.Blocks.{distortion}
+use Rattle.block_copy.specs.Copy.{blockCopy}
 use Rattle.frame.specs.declared.SearchBlock.{SearchBlock}
 use Rattle.search.specs.declared.SearchResult.{SearchResult}
 use Rattle.search.specs.SearchResult.{searchResult, onlyAtOne}

@@ -28,7 +28,7 @@ fn copied_distortion_of(
 {
     let s = b.sizes;
     let there = candidates::begins_at(order, b, k);
-    distortion::copy_distortion(older, block, s.width, there as u32)
+    block_copy::copy_distortion(older, block, s.width, there as u32)
 }
 
 // Of the listed candidates of a block of N 16, the first of least distortion, from a copy of the block: faster where there are many candidates.
@@ -76,7 +76,7 @@ fn choose_of_many(
     let width = s.width;
     let here = b.y * width + b.x;
     let mut block = [0u8; 256];
-    distortion::copy_block(newer, width, here, &mut block);
+    block_copy::copy_block(newer, width, here, &mut block);
     choose_copied(older, newer, order, b, remaining, count, &block)
 }
 

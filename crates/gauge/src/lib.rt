@@ -6,7 +6,7 @@ ghost use lib.ListN.{length};
 ghost use Rattle.order.specs.Vectors.{vec};
 ghost use Rattle.frame.specs.Pictures.{sizes, pairOf};
 ghost use Rattle.view.specs.View.{viewPlace};
-ghost use Rattle.distortion.specs.Measured.{measure};
+ghost use Rattle.measuring.specs.Measured.{measure};
 ghost use Rattle.block.specs.Block.{searchBlock};
 ghost use Rattle.field.specs.Field.{fieldResult, field};
 ghost use Rattle.track.specs.Track.{trackNew, trackHome, stepResult, trackStep};
@@ -16,7 +16,6 @@ ghost use Rattle.log_writing.specs.Writing.{writeResult, writeLog};
 ghost use Rattle.log_reading.specs.Reading.{readResult, readLog};
 ghost use Rattle.log_text.specs.Text.{longestText, printLog};
 ghost use Rattle.log_plain.specs.Plain.{walkFrom};
-use distortion::Measured;
 use field::FieldAnswer;
 use frame::Sizes;
 use log_head::Head;
@@ -24,6 +23,7 @@ use log_plain::Place;
 use log_plain::Walked;
 use log_reading::LogRead;
 use log_writing::Written;
+use measuring::Measured;
 use refusals::Request;
 use search::SearchResult;
 use track::Homed;
@@ -47,7 +47,7 @@ pub extern "C" fn gauge_measure(
     ensures { λ r. ⌜ r ≡ measure (pairOf (now (older .entry)) (now (newer .entry)) (sizes width height n)) row column (vec dy dx) ⌝ }
 {
     let s = Sizes { width, height, n };
-    distortion::measure(older, newer, s, row, column, dy, dx)
+    measuring::measure(older, newer, s, row, column, dy, dx)
 }
 
 // The row view: where in the frame asked for its N pels stand.

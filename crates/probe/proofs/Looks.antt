@@ -8,7 +8,7 @@ use native.Mathlib.Omega.{arith}
 use native.Mathlib.Numerals.{add-one}
 use borrow.Author.Tests.{lt-ltb, le-ltb, ne-eqb}
 use lib.Dec.{T, leb, leb→le, eqb}
-use lib.IntN.{ℤ, pos, negsuc, negℤ, natAbs, _+ℤ_}
+use lib.IntN.{ℤ, pos, negsuc, negℤ, natAbs, _+ℤ_, _*ℤ_, pos-*ℤ-pos, pos-*ℤ-negsuc}
 use lib.ListN.{length, getD, drop, drop-of-length-le}
 use lib.Seq.{drop-cons}
 use Rattle.base.specs.Tests.{and-left, and-right, true-T}
@@ -24,7 +24,7 @@ use Rattle.frame.specs.declared.SearchBlock.{SearchBlock}
 use Rattle.search.specs.declared.MeasuredCandidate.the-variants.{Distortion, NotCandidate}
 use Rattle.search.specs.Target.{Target, target, measureCandidate, measure-candidate-none, measure-candidate-some, still-cost}
 use Rattle.probe.specs.declared.BestSoFar.{BestSoFar}
-use Rattle.probe.specs.Probe.{plus, Seen, seen, countPoint, probePoint, probe, atOrigin, around, times, widened, isIn, fresh}
+use Rattle.probe.specs.Probe.{plus, Seen, seen, countPoint, probePoint, probe, atOrigin, around, widened, isIn, fresh}
 use Rattle.base.specs.Lists.{Each, more}
 use Rattle.probe.specs.BestSoFar.{point, seenOf, offset, pairs, Pattern, probeNew, Ongoing, Holds}
 use Rattle.probe.proofs.Probe.{eqb-same, all?, all-within}
@@ -43,7 +43,7 @@ pub at-origin-is : (p : Pair) (w y x d : ℕ) → d ≡ distortionBy absolute (p
 unfolding atOrigin unbias
 at-origin-is p w y x d e = rw (still-cost p y x, e)
 
--- ---- one point is probePoint at
+-- ---- one point is tried
 
 module _ (t : Target) (s : Seen) (v : Vector) where
   probe-point-over : t .candidate v ≡ false → s ≡ probePoint t s v
@@ -134,13 +134,13 @@ module _ (c : ℕ) (d : ℤ) (h : c ≤ 32) where
 
 -- ---- p times an offset
 
-pub times-up : (p : ℕ) (d : ℤ) → dn d ≡ 0 → times p d ≡ pos (p * natAbs d)
-times-up p (pos n) h = refl
-times-up p (negsuc n) h = absurd (omega arith)
+pub scaled-up : (p : ℕ) (d : ℤ) → dn d ≡ 0 → pos p *ℤ d ≡ pos (p * natAbs d)
+scaled-up p (pos n) h = pos-*ℤ-pos p n
+scaled-up p (negsuc n) h = absurd (omega arith)
 
-pub times-down : (p : ℕ) (d : ℤ) → 0 < dn d → times p d ≡ negℤ (pos (p * natAbs d))
-times-down p (pos n) h = absurd (omega arith)
-times-down p (negsuc n) h = refl
+pub scaled-down : (p : ℕ) (d : ℤ) → 0 < dn d → pos p *ℤ d ≡ negℤ (pos (p * natAbs d))
+scaled-down p (pos n) h = absurd (omega arith)
+scaled-down p (negsuc n) h = pos-*ℤ-negsuc p n
 
 -- ---- a table's pairs, one at a time
 
@@ -219,7 +219,7 @@ module _ (t : Target) (before : List Vector) (cy cx p : ℕ) (offsets : List (Li
     going-near h = each-head (Within 2) _ _ (rw (pairs-more offsets i h) at (g .near))
 
     pub going-more : (r : BestSoFar) → i < length offsets
-        → Holds r (probeNew t before (seenOf best) (plus (point cy cx) (vec (times p (offset (getD offsets i []) .dy)) (times p (offset (getD offsets i []) .dx))))) (best .count + 1)
+        → Holds r (probeNew t before (seenOf best) (plus (point cy cx) (vec (pos p *ℤ offset (getD offsets i []) .dy) (pos p *ℤ offset (getD offsets i []) .dx)))) (best .count + 1)
         → Going t before cy cx p offsets at-origin r (i + 1)
     unfolding around widened
     going-more r h k =

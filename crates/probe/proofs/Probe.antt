@@ -181,7 +181,7 @@ around-plus c o (v ∷ vs) = ap₂ _∷_ (plus-assoc c o v) (around-plus c o vs)
 pub plus-origin : (c : Vector) → plus c origin ≡ c
 plus-origin c = ap₂ vec (+ℤ-idr (c .dy)) (+ℤ-idr (c .dx))
 
--- ---- windows: what lies outside is not probePoint at
+-- ---- windows: what lies outside is not tried
 
 pub within-more : {m n : ℕ} {v : Vector} → m ≤ n → Within m v → Within n v
 within-more l h = record { down = omega arith; across = omega arith }

@@ -1,18 +1,18 @@
--- 01, "The four searches": how searches 3 and 4 look at points. "In 3 and 4 a point that is no candidate is neither measured nor countPoint.
--- A point met again in a later step is measured and countPoint again; the centre is not." "Only a strictly smaller distortion replaces."
+-- 01, "The four searches": how searches 3 and 4 try points. "In 3 and 4 a point that is no candidate is neither measured nor counted.
+-- A point met again in a later step is measured and counted again; the centre is not." "Only a strictly smaller distortion replaces."
 --   origin, plus   (0,0), and the sum of two vectors
 --   Seen     the best vector by now, its distortion, the number measured
---   probePoint   one point is probePoint at, and countPoint where it is a candidate; probe: points, in order; atOrigin: (0,0) alone
+--   probePoint   one point is tried, and counted where it is a candidate; probe: points, in order; atOrigin: (0,0) alone
 --   around   a pattern's points from a centre: its offsets, each added to the centre; widened: the offsets times a step size p
 --   fresh    the points that are not among those of a list: isIn
 --   OwnDistortion   the best is a candidate, and the distortion is its own
 --   Alike    two targets that a search cannot tell apart which looks at no point outside window n
-use Prim.Native.Nat.{ℕ, suc, _+_, _*_}
+use Prim.Native.Nat.{ℕ, _+_}
 use mathlib.Core.Path.{_≡_}
 use mathlib.Core.Bool.{Bool, false, cond, _&&_, _||_}
 use mathlib.Core.List.{List, [], _∷_}
 use lib.Dec.{T, ltb}
-use lib.IntN.{ℤ, pos, negsuc, negℤ, _+ℤ_}
+use lib.IntN.{pos, _+ℤ_, _*ℤ_}
 use Rattle.order.specs.declared.Vector.{Vector}
 use Rattle.order.specs.Vectors.{vec, Within, same?}
 use Rattle.search.specs.Target.{Target}
@@ -31,11 +31,11 @@ pub record Seen : Type 0 where
 abbrev pub seen : Vector → ℕ → ℕ → Seen
 seen v d n = record { best = v; least = d; count = n }
 
--- v is measured as d, and countPoint: only strictly smaller replaces
+-- v is measured as d, and counted: only strictly smaller replaces
 unfoldable pub countPoint : Seen → Vector → ℕ → Seen
 countPoint s v d = cond (ltb d (s .least)) (seen v d (s .count + 1)) (seen (s .best) (s .least) (s .count + 1))
 
--- a point that is no candidate is neither measured nor countPoint
+-- a point that is no candidate is neither measured nor counted
 unfoldable pub probePoint : Target → Seen → Vector → Seen
 probePoint t s v = cond (t .candidate v) (countPoint s v (t .cost v)) s
 
@@ -51,13 +51,9 @@ unfoldable pub around : Vector → List Vector → List Vector
 around c [] = []
 around c (o ∷ os) = plus c o ∷ around c os
 
-abbrev pub times : ℕ → ℤ → ℤ
-times p (pos n) = pos (p * n)
-times p (negsuc n) = negℤ (pos (p * suc n))
-
 unfoldable pub widened : ℕ → List Vector → List Vector
 widened p [] = []
-widened p (o ∷ os) = vec (times p (o .dy)) (times p (o .dx)) ∷ widened p os
+widened p (o ∷ os) = vec (pos p *ℤ o .dy) (pos p *ℤ o .dx) ∷ widened p os
 
 unfoldable pub isIn : Vector → List Vector → Bool
 isIn v [] = false

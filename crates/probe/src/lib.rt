@@ -2,13 +2,13 @@
 
 ghost use mathlib.Core.Path.{_≡_};
 ghost use Prim.Native.Nat.{_+_, _≤_};
-ghost use lib.IntN.{natAbs, _+ℤ_};
+ghost use lib.IntN.{pos, natAbs, _+ℤ_, _*ℤ_};
 ghost use lib.ListN.{length};
 ghost use Rattle.signed.specs.Int.{eqZ};
 ghost use Rattle.signed.specs.Values.{unbias};
 ghost use Rattle.order.specs.Vectors.{vec, same?};
 ghost use Rattle.search.specs.Target.{Ready, targetOf};
-ghost use Rattle.probe.specs.Probe.{plus, probePoint, probe, atOrigin, around, times, widened, isIn, fresh};
+ghost use Rattle.probe.specs.Probe.{plus, probePoint, probe, atOrigin, around, widened, isIn, fresh};
 ghost use Rattle.probe.specs.BestSoFar.{point, seenOf, pairs, probeNew, Pattern, Ongoing, Holds, resultOf};
 use frame::SearchBlock;
 use search::MeasuredCandidate;
@@ -38,7 +38,7 @@ pub fn at_origin(older: &[u8], newer: &[u8], b: SearchBlock) -> BestSoFar
     }
 }
 
-// The point (y, x) is probePoint at: where it is a candidate it is measured, and only strictly smaller replaces.
+// The point (y, x) is tried: where it is a candidate it is measured, and only strictly smaller replaces.
 fn probe_point(
     older: &[u8],
     newer: &[u8],
@@ -108,7 +108,7 @@ pub fn is_in(y: usize, x: usize, cy: usize, cx: usize, offsets: &[[i32; 2]]) -> 
     false
 }
 
-// The point (dy, dx) from the centre (cy, cx) is probePoint at, where it was not in the pattern `before` around (oy, ox).
+// The point (dy, dx) from the centre (cy, cx) is tried, where it was not in the pattern `before` around (oy, ox).
 fn probe_new(
     older: &[u8],
     newer: &[u8],
@@ -140,7 +140,7 @@ fn probe_new(
 // p times an offset.
 fn scaled(p: u32, d: i32) -> i32
     requires { ⌜ (p ≤ 16) × (natAbs d ≤ 16) ⌝ }
-    ensures { λ r. ⌜ r ≡ times p d ⌝ }
+    ensures { λ r. ⌜ r ≡ pos p *ℤ d ⌝ }
 {
     let m = p * signed::magnitude(d);
     if d < 0 {

@@ -1,4 +1,4 @@
--- A block that is ready to be searchBy: it has a table of its own, N is a power of two, and at a resolution that divides N no test drops the winner.
+-- A block that is ready to be searched: it has a table of its own, N is a power of two, and at a resolution that divides N no test drops the winner.
 use Prim.Native.Nat.{ℕ, _+_, _≤_, _∣_}
 use mathlib.Core.Path.{refl}
 use mathlib.Core.List.{List}

@@ -18,7 +18,8 @@ use Rattle.pruned_rule.proofs.Blocks.{absolute-lawful}
 use Rattle.pruned_rule.proofs.Counts.{Counted, prune-counted, search-counts, counts-few, dropped-few, last-count}
 use Rattle.pruned_rule.proofs.Pruned.{Attained, still-attained, Holds, prune-holds}
 use Rattle.pruned_rule.proofs.Search.{PowerOfTwo, resolutions-divide, search-best, search-drops}
-use Rattle.pruned.specs.Answer.{distortionAt, stillDistortion, pruning, chosen, prunedSearch}
+use Rattle.pruned_steps.specs.Memory.{stillDistortion}
+use Rattle.pruned.specs.Answer.{distortionAt, pruning, chosen, prunedSearch}
 use Rattle.pruned.proofs.Blocks.{few-rounds, safe-at}
 
 -- whatever the block is

@@ -18,10 +18,10 @@ use Rattle.pruned_rule.specs.Prune.{Pruning, allRemaining, lower, sift, rounds,
 use Rattle.pruned_rule.proofs.Counts.{Counted, counted-length, all-remaining-counted, lower-counted, sift-counted}
 use Rattle.pruned_rule.proofs.Pruned.{Attained, Safe, Holds, holds-some, all-remaining-holds, lower-holds, sift-holds}
 use Rattle.pruned_rule.proofs.Search.{halvings-more, halvings-none, rounds-more, rounds-none}
-use Rattle.pruned.specs.declared.PruneState.{PruneState}
+use Rattle.pruned_steps.specs.declared.PruneState.{PruneState}
 use Rattle.candidates.specs.Gathered.{candidateAt, Front, ListedCandidates}
 use Rattle.candidates.proofs.Listing.{front-take, gathered-long, listed-front}
-use Rattle.pruned.specs.Memory.{Begun, finished}
+use Rattle.pruned_steps.specs.Memory.{Begun, finished}
 use Rattle.pruned.proofs.State.{InMemory}
 
 -- the last of the five counts

@@ -8,19 +8,18 @@ use native.Mathlib.Nat.{eq-or-lt-of-le}
 use native.Mathlib.Numerals.{add-one}
 use native.Mathlib.Omega.{arith}
 use lib.Dec.{leb}
-use lib.ListN.{length, getD, take, length-set, length-append, replicate}
+use lib.ListN.{length, take, length-set, length-append, replicate}
 use lib.Seq.{take-suc-set}
-use Rattle.base.specs.Lists.{fillTo}
 use Rattle.base.specs.Least.{leastOf}
 use Rattle.distortion.specs.Blocks.{absolute}
 use Rattle.pruned_rule.specs.Sift.{kept}
 use Rattle.pruned_rule.specs.Prune.{Pruning, lower, sift}
-use Rattle.pruned.specs.declared.PruneState.{PruneState}
+use Rattle.pruned_steps.specs.declared.PruneState.{PruneState}
 use Rattle.candidates.specs.Gathered.{Front}
 use Rattle.pruned_remaining.specs.Kept.{nearestOf, keptWithin, swept}
 use Rattle.candidates.proofs.Listing.{front-take, front-long}
 use Rattle.pruned_remaining.proofs.Listing.{within-few, swept-long, Stored, filled-is, nearest-filled, within-filled}
-use Rattle.pruned.specs.Memory.{testsCounted, recounted, bounded, Leveled}
+use Rattle.pruned_steps.specs.Memory.{testsCounted, recounted, bounded, Leveled}
 
 -- the search stands at s, with z of the five counts unused; E is kept as long as more than one candidate remains
 pub record InMemory (z : ℕ) (s : Pruning) (remaining : List ℕ) (r : PruneState) : Type 0 where
@@ -108,17 +107,6 @@ sift-alone D d m {z} {s} {remaining} {r} h one l some =
     }
 
 -- ---- a resolution later
-
--- more than one: the distances, then E, then those that stay
-pub leveled-more : (D f : ℕ → ℕ) {remaining dist after measured : List ℕ} {r low q : PruneState} → (r .count ≡ 1 → ⊥) → measured ≡ fillTo dist 0 (λ i. f (getD remaining i 0)) (r .count)
-    → low ≡ bounded (D (nearestOf remaining (r .count) measured)) r → Front (keptWithin (low .bound) remaining measured (low .count)) (swept (low .bound) remaining measured (low .count)) after (q .count) → q ≡ recounted (q .count) low
-    → Leveled D f remaining dist r after measured q
-leveled-more D f {remaining} {dist} {after} {measured} {r} {low} {q} other g h s t =
-    let k = rw h at (s .many) in
-    record {
-      alone = λ l. absurd (other l);
-      more = λ l. (g, rw (← k) (rw h at (s .list)), t ∙ ap₂ recounted k h);
-    }
 
 -- wherever the search stood, if a candidate remains
 pub level-done : (D : ℕ → ℕ) (d : ℕ → ℕ → ℕ) (m : ℕ) {remaining dist after measured : List ℕ} {r q : PruneState} → Leveled D (d m) remaining dist r after measured q

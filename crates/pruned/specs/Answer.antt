@@ -1,14 +1,12 @@
 -- 01, "The four searches", search 2, of the block at row y, column x of a pair, for window w: its steps (pruned_rule/specs/Prune.antt) over the block's
 -- candidates, each known by its place in the preference table.
---   distortionAt  the distortion of the vector at place k of the preference table; stillDistortion: that of (0,0), with which E begins
+--   distortionAt  the distortion of the vector at place k of the preference table
 --   distanceAt    its distance at m
 --   pruning       where search 2's steps end: what they leave, and what they drop
 --   chosen        the place of the vector that they choose
 --   prunedSearch   what search 2 answers
 use Prim.Native.Nat.{ℕ}
 use lib.ListN.{length}
-use lib.IntN.{pos}
-use Rattle.order.specs.Vectors.{vec}
 use Rattle.order.specs.Preference.{preferred}
 use Rattle.frame.specs.Pictures.{Pair}
 use Rattle.distortion.specs.Blocks.{absolute, distortion, newerBlock, olderBlock}
@@ -16,13 +14,11 @@ use Rattle.search.specs.declared.SearchResult.{SearchResult}
 use Rattle.search.specs.SearchResult.{searchResult}
 use Rattle.search.specs.Exhaustive.{places}
 use Rattle.pruned_rule.specs.Distance.{distances}
+use Rattle.pruned_steps.specs.Memory.{stillDistortion}
 use Rattle.pruned_rule.specs.Prune.{Pruning, prune, prunedBest, counts, resolutions}
 
 abbrev pub distortionAt : Pair → ℕ → ℕ → ℕ → ℕ
 distortionAt p y x k = distortion p y x (preferred k)
-
-abbrev pub stillDistortion : Pair → ℕ → ℕ → ℕ
-stillDistortion p y x = distortion p y x (vec (pos 0) (pos 0))
 
 abbrev pub distanceAt : Pair → ℕ → ℕ → ℕ → ℕ → ℕ
 distanceAt p y x = distances absolute (p .sizes .n) (newerBlock p y x) (λ k. olderBlock p y x (preferred k))

@@ -1,197 +1,13 @@
 // Search 2, the pruned search, of one block: document 01's steps over the candidates' places in the preference table.
-// The remaining candidates stand in front of the array `remaining`, in preference order, and their distances at m in `dist` (crates remaining and distance).
 
 ghost use mathlib.Core.Path.{_≡_};
-ghost use Prim.Native.Nat.{_≤_, _<_};
-ghost use lib.Dec.{T};
-ghost use lib.ListN.{length};
 ghost use Rattle.order.specs.Preference.{preference, flat};
 ghost use Rattle.frame.specs.Pictures.{pairOf};
-ghost use Rattle.refusals.specs.Refusals.{blockSizeOk};
-ghost use Rattle.search.specs.Target.{Ready};
-ghost use Rattle.candidates.specs.Gathered.{Front, ListedCandidates};
-ghost use Rattle.pruned_remaining.specs.Kept.{nearestOf, keptWithin, swept};
-ghost use Rattle.pruned_subblocks.specs.Squares.{BlockSums};
-ghost use Rattle.candidates.specs.Chosen.{distortionOf};
-ghost use Rattle.pruned_distance.specs.Remaining.{distanceOf, Lent, Tested};
-ghost use Rattle.pruned.specs.Answer.{stillDistortion, prunedSearch};
-ghost use Rattle.pruned.specs.Memory.{firstSlot, Begun, recounted, testsCounted, bounded, Leveled, finished};
+ghost use Rattle.pruned_distance.specs.Remaining.{Lent};
+ghost use Rattle.pruned.specs.Answer.{prunedSearch};
 use frame::Region;
 use frame::SearchBlock;
 use search::SearchResult;
-
-// The search between two resolutions: how many candidates remain, E, and how many were tested at each resolution so far; the next
-// count stands at `slot`.
-pub struct PruneState {
-    pub count: usize,
-    pub bound: u32,
-    pub slot: usize,
-    pub counts: [u32; 5],
-}
-
-// Where the count of the tests at N stands among the five: log2 N places before the last, which is for m = 1.
-fn first_slot(n: usize) -> usize
-    requires { ⌜ T (blockSizeOk n) ⌝ }
-    ensures { λ r. ⌜ r ≡ firstSlot n ⌝ }
-{
-    4 - refusals::log2_window(n) as usize
-}
-
-// All candidates, and E the distortion of (0,0).
-fn begin(
-    older: &[u8],
-    newer: &[u8],
-    order: &[i32; 2178],
-    b: SearchBlock,
-    total: usize,
-) -> PruneState
-    requires { ⌜ Ready (now older) (now newer) b × (now order ≡ flat preference) ⌝ }
-    ensures { λ r. ⌜ Begun (stillDistortion (pairOf (now (older .entry)) (now (newer .entry)) (b .sizes)) (b .y) (b .x)) (b .sizes .n) total r ⌝ }
-{
-    let bound = candidates::distortion_of(older, newer, order, b, 0, 4294967295);
-    let s = b.sizes;
-    let slot = first_slot(s.n);
-    PruneState {
-        count: total,
-        bound,
-        slot,
-        counts: [0; 5],
-    }
-}
-
-// Lowers E to the distortion of the remaining candidate of least distance, if that is less.
-fn lowered(
-    older: &[u8],
-    newer: &[u8],
-    order: &[i32; 2178],
-    b: SearchBlock,
-    remaining: &[u16; 1089],
-    dist: &[u32; 1089],
-    r: PruneState,
-) -> PruneState
-    requires { ⌜ Ready (now older) (now newer) b × (now order ≡ flat preference) ⌝ }
-    requires { ⌜ ListedCandidates b (now remaining) (r .count) × (1 < r .count) ⌝ }
-    ensures { λ q. ⌜ q ≡ bounded (distortionOf (now (older .entry)) (now (newer .entry)) b (nearestOf (now (remaining .entry)) (r .count) (now (dist .entry)))) r ⌝ }
-{
-    let count = r.count;
-    let k = pruned_remaining::nearest(remaining, count, dist);
-    let bound = r.bound;
-    let e = candidates::distortion_of(older, newer, order, b, k, bound);
-    let slot = r.slot;
-    let counts = r.counts;
-    if e < bound {
-        return PruneState {
-            count,
-            bound: e,
-            slot,
-            counts,
-        };
-    }
-    r
-}
-
-// Counts the tests at a resolution: one for each remaining candidate.
-fn count_tests(r: PruneState) -> PruneState
-    requires { ⌜ (r .count ≤ 1089) × (r .slot < 5) ⌝ }
-    ensures { λ q. ⌜ q ≡ testsCounted r ⌝ }
-{
-    let count = r.count;
-    let bound = r.bound;
-    let slot = r.slot;
-    let mut counts = r.counts;
-    counts[slot] = count as u32;
-    PruneState {
-        count,
-        bound,
-        slot: slot + 1,
-        counts,
-    }
-}
-
-// Counts the tests and drops each candidate whose distance exceeds E.
-fn sifted(remaining: &mut [u16; 1089], dist: &[u32; 1089], r: PruneState) -> PruneState
-    requires { ⌜ (length (now remaining) ≡ 1089) × (r .count ≤ 1089) × (r .slot < 5) ⌝ }
-    ensures { λ q. ⌜ Front (keptWithin (r .bound) (now (remaining .entry)) (now (dist .entry)) (r .count)) (swept (r .bound) (now (remaining .entry)) (now (dist .entry)) (r .count)) (now (remaining .exit)) (q .count) × (q ≡ recounted (q .count) r) ⌝ }
-{
-    let kept = pruned_remaining::keep_within(remaining, r.count, dist, r.bound);
-    let q = count_tests(r);
-    let counts = q.counts;
-    PruneState {
-        count: kept,
-        bound: q.bound,
-        slot: q.slot,
-        counts,
-    }
-}
-
-// One resolution of the rounds. A candidate alone is the best: it stays, whatever E is.
-fn level(
-    older: &[u8],
-    newer: &[u8],
-    order: &[i32; 2178],
-    b: SearchBlock,
-    sums: &[u32],
-    a: Region,
-    blocksums: &[u32],
-    m: usize,
-    remaining: &mut [u16; 1089],
-    dist: &mut [u32; 1089],
-    r: PruneState,
-) -> PruneState
-    requires { ⌜ (now order ≡ flat preference) × (length (now dist) ≡ 1089) × Tested (now older) (now newer) b (now sums) a m (now remaining) (r .count)
-        × BlockSums (now newer) b (now blocksums) × (0 < r .count) × (r .slot < 5) ⌝ }
-    ensures { λ q. ⌜ Leveled (distortionOf (now (older .entry)) (now (newer .entry)) b) (distanceOf (now (older .entry)) (now (newer .entry)) b m) (now (remaining .entry)) (now (dist .entry)) r (now (remaining .exit)) (now (dist .exit)) q ⌝ }
-{
-    let count = r.count;
-    if count == 1 {
-        return count_tests(r);
-    }
-    pruned_distance::fill_distances(
-        older,
-        newer,
-        order,
-        b,
-        sums,
-        a,
-        blocksums,
-        m,
-        &*remaining,
-        count,
-        dist,
-    );
-    let q = lowered(older, newer, order, b, &*remaining, &*dist, r);
-    sifted(remaining, &*dist, q)
-}
-
-// Measures the rest, counts them, and answers.
-fn finish(
-    older: &[u8],
-    newer: &[u8],
-    order: &[i32; 2178],
-    b: SearchBlock,
-    remaining: &[u16; 1089],
-    total: usize,
-    r: PruneState,
-) -> SearchResult
-    requires { ⌜ Ready (now older) (now newer) b × (now order ≡ flat preference) ⌝ }
-    requires { ⌜ ListedCandidates b (now remaining) (r .count) × (0 < r .count) × (r .slot < 5) × (r .count ≤ total) × (total ≤ 1089) ⌝ }
-    ensures { λ q. ⌜ q ≡ finished (distortionOf (now (older .entry)) (now (newer .entry)) b) (now (remaining .entry)) total r ⌝ }
-{
-    let count = r.count;
-    let slot = r.slot;
-    let mut counts = r.counts;
-    counts[slot] = count as u32;
-    let best = candidates::choose(older, newer, order, b, remaining, count);
-    let v = order::vector_at(order, best.place);
-    SearchResult {
-        refusal: 0,
-        dy: v.dy,
-        dx: v.dx,
-        distortion: best.distortion,
-        counts,
-        dropped: (total - count) as u32,
-    }
-}
 
 // Search 2 of one block, whose candidates' older blocks lie in the part `a` of the older frame that `sums` is the summed-area table of.
 pub fn search(
@@ -217,7 +33,7 @@ pub fn search(
         &mut blocksums,
     );
     let total = candidates::gather(order, b, &mut remaining);
-    let first = begin(older, newer, order, b, total);
+    let first = pruned_steps::begin(older, newer, order, b, total);
     pruned_distance::fill_distances(
         older,
         newer,
@@ -231,10 +47,10 @@ pub fn search(
         total,
         &mut dist,
     );
-    let mut r = sifted(&mut remaining, &dist, first);
+    let mut r = pruned_steps::sifted(&mut remaining, &dist, first);
     let mut m = n / 2;
     while m >= 2 {
-        r = level(
+        r = pruned_steps::level(
             older,
             newer,
             order,
@@ -249,5 +65,5 @@ pub fn search(
         );
         m = m / 2;
     }
-    finish(older, newer, order, b, &remaining, total, r)
+    pruned_steps::finish(older, newer, order, b, &remaining, total, r)
 }

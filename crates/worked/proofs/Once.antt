@@ -29,7 +29,8 @@ use Rattle.four_step.specs.FourStep.{fourStep}
 use Rattle.cross.specs.Cross.{cross}
 use Rattle.pruned_rule.specs.Prune.{Pruning, prune, prunedBest, counts, resolutions}
 use Rattle.full.specs.Full.{fullSearch}
-use Rattle.pruned.specs.Answer.{distortionAt, stillDistortion, distanceAt, pruning, chosen, prunedSearch}
+use Rattle.pruned_steps.specs.Memory.{stillDistortion}
+use Rattle.pruned.specs.Answer.{distortionAt, distanceAt, pruning, chosen, prunedSearch}
 use Rattle.block.specs.Block.{searchRefusal, searchBy, searchBlock}
 use Rattle.reading.specs.Reading.{votes, majority}
 use Rattle.field.specs.Field.{requestOf, fieldRefusal, searchAt, entries, countsOver, droppedOver, listSize, filledTable, fieldAnswer, refusedField, FieldResult, fieldResult, field}

@@ -12,7 +12,7 @@ use Rattle.frame.specs.Candidates.{candidate}
 use Rattle.refusals.specs.Cross.{crossWindow}
 use Rattle.refusals.specs.Refusals.{firstRefusal, blockSizeOk, windowOk, thresholdOk, pairRefusal, placedRefusal, requestRefusal}
 use Rattle.distortion.specs.Blocks.{distortionBy, distortion}
-use Rattle.distortion.specs.Measured.{measureRefusal, measure}
+use Rattle.measuring.specs.Measured.{measureRefusal, measure}
 use Rattle.probe.specs.Probe.{countPoint, probePoint, probe, atOrigin, around, widened, isIn, fresh}
 use Rattle.probe.specs.BestSoFar.{resultOf}
 use Rattle.four_step.specs.FourStep.{square, ring, moved, step1, step23, step4, from3, from2, fourStep}

@@ -21,9 +21,9 @@ use Rattle.order.specs.declared.Vector.{Vector}
 use Rattle.order.specs.Vectors.{vec}
 use Rattle.refusals.specs.declared.Request.{Request}
 use Rattle.frame.specs.Pictures.{Pair, pairOf, sizes}
-use Rattle.distortion.specs.declared.Measured.{Measured}
+use Rattle.measuring.specs.declared.Measured.{Measured}
 use Rattle.distortion.specs.Blocks.{absolute, newerBlock, olderBlock}
-use Rattle.distortion.specs.Measured.{measure}
+use Rattle.measuring.specs.Measured.{measure}
 use Rattle.search.specs.declared.SearchResult.{SearchResult}
 use Rattle.search.specs.SearchResult.{searchResult, onlyAtOne}
 use Rattle.probe.specs.Probe.{origin}

@@ -4,7 +4,7 @@ use native.Mathlib.Omega.{arith}
 use borrow.Author.Needs.{fits-under}
 use denote.Ref.{now}
 use mir.Syntax.{w32}
-use Rattle.distortion.specs.Blocks.{length-copy}
+use Rattle.block_copy.specs.Copy.{length-copy}
 use Rattle.candidates.proofs.Older.{stands}
 use Rattle.full.proofs.Older.{by-copy, begins-low, begins-inside}
 use Rattle.full.proofs.copied_distortion_of.Statement.{statement}

@@ -1,5 +1,6 @@
 -- `pattern_new`: the points left lead from the best by now to where all lead from the first.
 use Prim.Native.Nat.{_-_, _≤_}
+use lib.IntN.{pos, _*ℤ_}
 use mathlib.Core.Path.{_≡_, _∙_}
 use mathlib.Core.List.{[]}
 use native.Mathlib.Omega.{arith}
@@ -12,7 +13,7 @@ use mir.Val.{toZ, ofZ}
 use mir.Facts.{toZ-ofZ}
 use Rattle.order.specs.Vectors.{Within}
 use Rattle.search.specs.Target.{targetOf}
-use Rattle.probe.specs.Probe.{around, times}
+use Rattle.probe.specs.Probe.{around}
 use Rattle.probe.specs.BestSoFar.{point, offset, pairs}
 use Rattle.probe.proofs.Probe.{within-more}
 use Rattle.probe.proofs.Looks.{Going, going-none, going-near, going-more, going-done}
@@ -32,7 +33,7 @@ loop-holds c =
     let o = q .0 in
     (o .down, o .across, going-none _ _ _ _ _ _ _ (q .1 .near) (o .down) (o .across))
 
--- the two offsets are small, and reach look_new as p times what the table has
+-- the two offsets are small, and reach probe_new as p times what the table has
 small : (c : tie.In-loop Inv-loop μ-loop) →
     let i = c .before .loop .i in
     let offsets = now (c .before .before .before .before .args .offsets) in
@@ -41,12 +42,12 @@ small c = within-more (lit≤ tt) (going-near _ _ _ _ _ _ _ _ _ (c .before .loop
 
 down : (c : tie.After-scaled Inv-loop μ-loop) →
     let a = c .before .before .before .before .before .before .args in
-    toZ w32 (ofZ w32 (c .scaled .result)) ≡ times (a .p) (offset (getD (now (a .offsets)) (c .before .before .before .loop .i) []) .dy)
+    toZ w32 (ofZ w32 (c .scaled .result)) ≡ pos (a .p) *ℤ (offset (getD (now (a .offsets)) (c .before .before .before .loop .i) []) .dy)
 down c = toZ-ofZ (sfits-of (c .scaled .ok)) ∙ (rw (toZ-ofZ (sfits-of (c .before .scaled-arg .given))) at (c .scaled .ensures))
 
 across : (c : tie.After-scaled2 Inv-loop μ-loop) →
     let a = c .before .before .before .before .before .before .before .before .args in
-    toZ w32 (ofZ w32 (c .scaled2 .result)) ≡ times (a .p) (offset (getD (now (a .offsets)) (c .before .before .before .before .before .loop .i) []) .dx)
+    toZ w32 (ofZ w32 (c .scaled2 .result)) ≡ pos (a .p) *ℤ (offset (getD (now (a .offsets)) (c .before .before .before .before .before .loop .i) []) .dx)
 across c = toZ-ofZ (sfits-of (c .scaled2 .ok)) ∙ (rw (toZ-ofZ (sfits-of (c .before .scaled-arg2 .given))) at (c .scaled2 .ensures))
 
 mul-scaled : tie.Need-mul-scaled Inv-loop μ-loop

@@ -11,7 +11,7 @@ use mir.Facts.{toZ-ofZ}
 use mir.ValLaws.{toZ-pos}
 use Rattle.signed.specs.Int.{ints}
 use Rattle.signed.proofs.Machine.{read}
-use Rattle.probe.proofs.Looks.{times-up, times-down}
+use Rattle.probe.proofs.Looks.{scaled-up, scaled-down}
 use Rattle.probe.proofs.scaled.Statement.{statement}
 use Rattle.probe.proofs.scaled.Tie as tie
 
@@ -46,7 +46,7 @@ returns c =
     let m = c .before .before in
     let a = m .before .args in
     toZ-ofZ (sfits-of (c .negated .ok)) ∙ c .negated .ensures ∙ ap negℤ (product m)
-    ∙ sym (times-down (a .p) (a .d) (omega (arith, ints, read (m .before .fits .d))))
+    ∙ sym (scaled-down (a .p) (a .d) (omega (arith, ints, read (m .before .fits .d))))
 
 cast-result : tie.Need-cast-result
 cast-result c = omega (arith, small (c .before))
@@ -55,7 +55,7 @@ returns-2 : tie.Need-returns-2
 returns-2 c =
     let m = c .before in
     let a = m .before .args in
-    product m ∙ sym (times-up (a .p) (a .d) (omega (arith, ints, read (m .before .fits .d))))
+    product m ∙ sym (scaled-up (a .p) (a .d) (omega (arith, ints, read (m .before .fits .d))))
 
 pub scaled-spec : {M : Type 1} → statement M
 scaled-spec = tie.close (tie.spec magnitude-requires mul-m cast-negated negated-requires returns cast-result returns-2)

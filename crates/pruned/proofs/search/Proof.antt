@@ -16,7 +16,8 @@ use Rattle.search.proofs.Exhaustive.{still-passes}
 use Rattle.distortion.specs.Blocks.{distortion}
 use Rattle.pruned_rule.proofs.Pruned.{still-attained}
 use Rattle.pruned_rule.proofs.Search.{resolutions-divide}
-use Rattle.pruned.specs.Answer.{stillDistortion, pruning, chosen, prunedSearch}
+use Rattle.pruned_steps.specs.Memory.{stillDistortion}
+use Rattle.pruned.specs.Answer.{pruning, chosen, prunedSearch}
 use Rattle.pruned_distance.specs.Remaining.{distanceOf}
 use Rattle.candidates.specs.Gathered.{candidateAt}
 use Rattle.candidates.specs.Chosen.{distortionOf}

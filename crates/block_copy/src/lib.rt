@@ -1,0 +1,49 @@
+// A copy of a 16 × 16 block, row after row, and its distortion: faster than the block in its frame where it is measured many times.
+
+ghost use mathlib.Core.Path.{_≡_};
+ghost use Prim.Native.Nat.{_+_, _*_, _≤_};
+ghost use lib.ListN.{length, getD};
+ghost use Rattle.base.specs.Lists.{fillTo};
+ghost use Rattle.distortion.specs.Blocks.{absolute, rowsApart};
+ghost use Rattle.block_copy.specs.Copy.{blockCopy};
+
+// 16 pels from place `from` on, copied to place `to` on.
+fn copy_row(newer: &[u8], from: usize, block: &mut [u8; 256], to: usize)
+    requires { ⌜ (from + 16 ≤ length (now newer)) × (to + 16 ≤ 256) × (length (now block) ≡ 256) ⌝ }
+    ensures { λ _. ⌜ now (block .exit) ≡ fillTo (now (block .entry)) to (λ j. getD (now (newer .entry)) (from + j) 0) 16 ⌝ }
+{
+    let mut j: usize = 0;
+    while j < 16 {
+        block[to + j] = newer[from + j];
+        j += 1;
+    }
+}
+
+// The 16 × 16 block that begins at place a, row after row.
+pub fn copy_block(newer: &[u8], width: usize, a: usize, block: &mut [u8; 256])
+    requires { ⌜ (a + 16 * width + 16 ≤ length (now newer) + width) × (width ≤ 1024) × (length (now block) ≡ 256) ⌝ }
+    ensures { λ _. ⌜ now (block .exit) ≡ blockCopy (now (newer .entry)) width a 16 ⌝ }
+{
+    let mut i: usize = 0;
+    while i < 16 {
+        copy_row(newer, a + i * width, block, i * 16);
+        i += 1;
+    }
+}
+
+// The distortion of a copied 16 × 16 block against the older block that begins at place b. The place has 32 bits so that the compiler takes it as
+// one number: it would else work out each row's place from the vector.
+pub fn copy_distortion(older: &[u8], block: &[u8; 256], width: usize, b: u32) -> u32
+    requires { ⌜ (length (now block) ≡ 256) × (b + 16 * width + 16 ≤ length (now older) + width) × (width ≤ 1024) ⌝ }
+    ensures { λ d. ⌜ d ≡ rowsApart absolute (now (older .entry)) (now (block .entry)) 16 width 0 b 16 16 ⌝ }
+{
+    let mut sum: u32 = 0;
+    let mut q = b as usize;
+    let mut g: usize = 0;
+    while g < 4 {
+        sum += distortion::four_rows(older, block, 16, width, 64 * g, q, 16);
+        q += 4 * width;
+        g += 1;
+    }
+    sum
+}

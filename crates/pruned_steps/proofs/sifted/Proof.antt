@@ -1,0 +1,16 @@
+-- `sifted`: those within E are kept, and one count more stands at the slot.
+use borrow.Author.Needs.{needs}
+use Rattle.pruned_steps.proofs.sifted.Statement.{statement}
+use Rattle.pruned_steps.proofs.sifted.Tie as tie
+
+keep-within-requires : tie.Need-keep-within-requires
+keep-within-requires c κs = search needs
+
+count-tests-requires : tie.Need-count-tests-requires
+count-tests-requires c κs = search needs
+
+returns : tie.Need-returns
+returns c = (c .before .before .keep-within .ensures .0, rw (c .before .count-tests .ensures))
+
+pub sifted-spec : {M : Type 1} → statement M
+sifted-spec = tie.close (tie.spec keep-within-requires count-tests-requires returns)

@@ -1,0 +1,60 @@
+-- 01, "The four searches", search 2: what code holds between its steps, the remaining candidates' places in front of an array `remaining`, E and the counts in a
+-- struct `PruneState`.
+--   stillDistortion   the distortion of (0,0), with which E begins
+--   firstSlot     where the count at N stands among the five: they end with that, those at the resolutions after N and the one at m = 1
+--   Begun         before the first test: all candidates, E the distortion of (0,0), no count
+--   recounted     after counting the tests at a resolution, k candidates remaining; counted: all of them
+--   bounded       E lowered to e, if that is less
+--   Leveled       a resolution later: a candidate alone stays as it is; of more, the distances at m are worked out, E is lowered to the nearest's
+--                 distortion and those within it stay, in front of what sweeping leaves
+--   finished      the answer made of what is in memory at the end
+use Prim.Native.Nat.{ℕ, _+_, _-_, _<_, min}
+use mathlib.Core.Path.{_≡_}
+use mathlib.Core.List.{List, [], _∷_, _++_}
+use lib.ListN.{length, getD, take, drop, set}
+use Rattle.base.specs.Lists.{fillTo}
+use Rattle.base.specs.Least.{leastOf}
+use lib.IntN.{pos}
+use Rattle.order.specs.Vectors.{vec}
+use Rattle.order.specs.Preference.{preferred}
+use Rattle.frame.specs.Pictures.{Pair}
+use Rattle.distortion.specs.Blocks.{distortion}
+use Rattle.search.specs.declared.SearchResult.{SearchResult}
+use Rattle.search.specs.SearchResult.{searchResult}
+use Rattle.pruned_rule.specs.Prune.{resolutions}
+use Rattle.pruned_remaining.specs.Kept.{nearestOf, keptWithin, swept}
+use Rattle.pruned_steps.specs.declared.PruneState.{PruneState}
+
+abbrev pub stillDistortion : Pair → ℕ → ℕ → ℕ
+stillDistortion p y x = distortion p y x (vec (pos 0) (pos 0))
+
+abbrev pub firstSlot : ℕ → ℕ
+firstSlot n = 5 - (length (resolutions n) + 2)
+
+pub record Begun (e n total : ℕ) (r : PruneState) : Type 0 where
+  pub bound : r .bound ≡ e
+  pub count : r .count ≡ total
+  pub slot : r .slot ≡ firstSlot n
+  pub counts : r .counts ≡ 0 ∷ 0 ∷ 0 ∷ 0 ∷ 0 ∷ []
+
+abbrev pub recounted : ℕ → PruneState → PruneState
+recounted k r = record { count = k; bound = r .bound; slot = r .slot + 1; counts = set (r .counts) (r .slot) (r .count) }
+
+abbrev pub testsCounted : PruneState → PruneState
+testsCounted r = recounted (r .count) r
+
+abbrev pub bounded : ℕ → PruneState → PruneState
+bounded e r = record { count = r .count; bound = min (r .bound) e; slot = r .slot; counts = r .counts }
+
+-- D k is the distortion of candidate k and f k its distance at m; the arrays remaining and dist before and after
+pub record Leveled (D f : ℕ → ℕ) (remaining dist : List ℕ) (r : PruneState) (after measured : List ℕ) (q : PruneState) : Type 0 where
+  pub alone : r .count ≡ 1 → (after ≡ remaining) × (measured ≡ dist) × (q ≡ testsCounted r)
+  pub more : 1 < r .count →
+      let low = bounded (D (nearestOf remaining (r .count) measured)) r in
+      let stay = keptWithin (low .bound) remaining measured (r .count) in
+      (measured ≡ fillTo dist 0 (λ i. f (getD remaining i 0)) (r .count)) × (after ≡ stay ++ drop (length stay) (swept (low .bound) remaining measured (r .count))) × (q ≡ recounted (length stay) low)
+
+abbrev pub finished : (ℕ → ℕ) → List ℕ → ℕ → PruneState → SearchResult
+finished D remaining total r =
+    let best = leastOf D (take (r .count) remaining) in
+    searchResult (preferred best) (D best) (set (r .counts) (r .slot) (r .count)) (total - r .count)
