@@ -6,3 +6,4 @@ pub mod Rows
 pub mod Tests
 pub mod Least
 pub mod Picks
+pub mod Calls

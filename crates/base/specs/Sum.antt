@@ -1,12 +1,15 @@
--- Finite sums of natural numbers, and their laws.
+-- Finite sums, and their laws.
 --   sumTo f n      f 0 + f 1 + .. + f (n - 1)
 --   sumOver n m h  the sum of h over n rows and m columns
+--   sumEach f l    the sum of f, a signed number, over a list's elements
 use Prim.Native.Nat.{ℕ, zero, suc, _+_, _*_, _≤_, _<_}
 use mathlib.Core.Path.{_≡_, refl, sym, ap, ap₂, _∙_}
 use mathlib.Core.Logic.{⊎-elim}
+use mathlib.Core.List.{List, [], _∷_, _++_}
 use native.Mathlib.Nat.{add-zero, add-suc, add-assoc, zero-mul, mul-zero, suc-mul, mul-add, le-refl, add-le-add, lt-suc-self, le-step, le-trans, le-add-left, le-add-right, eq-or-lt-of-le, le-of-suc-le-suc}
 use native.Mathlib.Numerals.{add-one}
 use native.Mathlib.Omega.{arith}
+use lib.IntN.{ℤ, pos, _+ℤ_, +ℤ-assoc, +ℤ-idl, +ℤ-idr}
 
 unfoldable pub sumTo : (ℕ → ℕ) → ℕ → ℕ
 sumTo f zero = 0
@@ -123,3 +126,16 @@ sumOver-group k m h =
     ∙ sumTo-ext _ _ k (λ p hp.
     sumTo-ext _ _ m (λ i hi. sumTo-group (h (p * m + i)) k m)
     ∙ sumTo-swap (λ i q. sumTo (λ j. h (p * m + i) (q * m + j)) m) m k)
+
+unfoldable pub sumEach : {A : Type 0} → (A → ℤ) → List A → ℤ
+sumEach f [] = pos 0
+sumEach f (x ∷ xs) = f x +ℤ sumEach f xs
+
+pub sumEach-none : {A : Type 0} (f : A → ℤ) → sumEach f [] ≡ pos 0
+unfolding sumEach
+sumEach-none f = refl
+
+pub sumEach-more : {A : Type 0} (f : A → ℤ) (xs : List A) (x : A) → sumEach f (xs ++ (x ∷ [])) ≡ sumEach f xs +ℤ f x
+unfolding sumEach
+sumEach-more f [] x = +ℤ-idr (f x) ∙ sym (+ℤ-idl (f x))
+sumEach-more f (y ∷ ys) x = ap (λ (z : ℤ). f y +ℤ z) (sumEach-more f ys x) ∙ sym (+ℤ-assoc (f y) (sumEach f ys) (f x))

@@ -1,6 +1,6 @@
 -- One call, whatever the track: it is refused by the number by which the reckoning refuses it and hands the reckoning's track back, because the reading of an
 -- accepted field by search 2 is the majority of exhaustive bests.
-use Prim.Native.Nat.{ℕ, _+_}
+use Prim.Native.Nat.{ℕ}
 use mathlib.Core.Path.{_≡_, refl, sym, ap, _∙_}
 use mathlib.Core.Bool.{Bool, true, false, cond, not, _&&_}
 use mathlib.Core.List.{List}
@@ -8,11 +8,11 @@ use native.Mathlib.Omega.{arith}
 use native.Mathlib.Decide.{ℕ-discrete}
 use borrow.Author.Tests.{ne-eqb}
 use lib.Dec.{leb, eqb}
-use lib.IntN.{ℤ, negℤ, _+ℤ_}
+use lib.IntN.{ℤ}
 use lib.ListN.{length}
-use Rattle.signed.specs.declared.Moved.the-variants.{To, Out}
-use Rattle.signed.specs.Values.{movedBy}
+use Rattle.base.specs.Calls.{reckonCall}
 use Rattle.order.specs.declared.Vector.{Vector}
+use Rattle.order.specs.Vectors.{vec, turned}
 use Rattle.frame.specs.Pictures.{Pair}
 use Rattle.frame.specs.Grid.{blocks}
 use Rattle.refusals.specs.Refusals.{unless, first-refusal-zero}
@@ -20,8 +20,8 @@ use Rattle.reading.specs.Reading.{majority}
 use Rattle.field.specs.declared.FieldAnswer.{FieldAnswer}
 use Rattle.field.specs.Field.{requestOf, fieldAnswer, FieldResult, filledList, field-accepted}
 use Rattle.track.specs.declared.Track.{Track}
-use Rattle.track.specs.declared.Homed.{Homed}
-use Rattle.track.specs.Track.{inRange, homedAt, trackHome, stepRefusal, arrived, arrivedAt, StepResult, stepResult, landed, trackStep, step-refused, step-landed}
+use Rattle.track_rules.specs.Rules.{inRange, arrivalRefusal}
+use Rattle.track.specs.Track.{movedTo, trackHome, stepRefusal, unmoved, travelOf, arrived, StepResult, stepResult, landed, trackStep, step-refused, step-landed}
 use Rattle.promise.specs.Demand.{Call, bestOf, travel, refusalOf, accept, reckon, Result, trackIn, refusalIn, call, AtStep, fieldOn}
 use Rattle.promise.specs.Demand.Call.{home, step}
 use Rattle.promise.specs.Demand.Result.{stepping}
@@ -34,14 +34,9 @@ pub record Agrees (t : Track) (c : Call) (r : Result) : Type 0 where
 
 -- ---- Home
 
-home-either : (t new : Track) (b : Bool) → let h : Homed = cond b (record { refusal = 0; track = new }) (record { refusal = 11; track = t }) in
-    (h .refusal ≡ unless b 11 0) × (h .track ≡ cond (eqb (unless b 11 0) 0) new t)
-home-either t new true = (refl, refl)
-home-either t new false = (refl, refl)
-
 home-agrees : (t : Track) (y x : ℤ) → Agrees t (home y x) (call t (home y x))
-unfolding call trackHome refusalOf reckon accept
-home-agrees t y x = let h = home-either t (homedAt y x) (inRange y && inRange x) in record { refusal = h .0; track = h .1 }
+unfolding call trackHome refusalOf reckonCall accept
+home-agrees t y x = record { refusal = refl; track = refl }
 
 -- ---- the new place of a step
 
@@ -51,18 +46,16 @@ record Landing (t : Track) (f : FieldResult) (s : StepResult) (new : Track) (lat
   list : s .list ≡ f .list
   whole : late ≡ 0 → s .stepped .answer ≡ f .answer
 
-landing-at : (t : Track) (f : FieldResult) (y x : ℤ) (a b : Bool)
-    → Landing t f (stepResult (arrivedAt t (f .answer) (cond a (To y) Out) (cond b (To x) Out)) (f .list) (f .table))
-    (record { homed = true; y = y; x = x; steps = t .steps + 1 }) (unless (a && b) 33 0)
-landing-at t f y x true true = record { refusal = λ e. e; track = refl; list = refl; whole = λ e. refl }
-landing-at t f y x true false = record { refusal = λ e. refl; track = refl; list = refl; whole = λ e. absurd (omega arith) }
-landing-at t f y x false true = record { refusal = λ e. refl; track = refl; list = refl; whole = λ e. absurd (omega arith) }
-landing-at t f y x false false = record { refusal = λ e. refl; track = refl; list = refl; whole = λ e. absurd (omega arith) }
+landing-at : (t : Track) (f : FieldResult) (new : Track) (stays : Bool) →
+    let late = unless stays 33 0 in
+    Landing t f (stepResult (cond (eqb late 0) (record { track = new; answer = f .answer }) (unmoved late t)) (f .list) (f .table)) new late
+landing-at t f new true = record { refusal = λ e. e; track = refl; list = refl; whole = λ e. refl }
+landing-at t f new false = record { refusal = λ e. refl; track = refl; list = refl; whole = λ e. absurd (omega arith) }
 
-landing : (t : Track) (f : FieldResult) (y x : ℤ) → t .y +ℤ negℤ (f .answer .dy) ≡ y → t .x +ℤ negℤ (f .answer .dx) ≡ x
-    → Landing t f (landed t f) (record { homed = true; y = y; x = x; steps = t .steps + 1 }) (unless (inRange y && inRange x) 33 0)
-unfolding arrived movedBy
-landing t f y x ey ex = rw (ey, ex) (landing-at t f y x (inRange y) (inRange x))
+landing : (t : Track) (f : FieldResult) (v : Vector) → travelOf (f .answer) ≡ v
+    → let new = movedTo t v in Landing t f (landed t f) new (arrivalRefusal (new .y) (new .x))
+unfolding arrived
+landing t f v e = let new = movedTo t (travelOf (f .answer)) in rw (← e) (landing-at t f new (inRange (new .y) && inRange (new .x)))
 
 -- ---- Step
 
@@ -81,7 +74,7 @@ module _ (t : Track) (p : Pair) (w threshold : ℕ) (list : List ℤ) (table : L
   early = stepRefusal t (length (p .older)) (length (p .newer)) (requestOf (p .sizes) 2 w threshold) (length list) (length table)
 
   abbrev late : ℕ
-  late = unless (inRange (t .y +ℤ travel p w .dy) && inRange (t .x +ℤ travel p w .dx)) 33 0
+  late = let new = movedTo t (travel p w) in arrivalRefusal (new .y) (new .x)
 
   abbrev fieldEarly : ℕ
   fieldEarly = fieldChain p 2 w threshold (length list) (length table)
@@ -113,22 +106,16 @@ module _ (t : Track) (p : Pair) (w threshold : ℕ) (list : List ℤ) (table : L
     unfolding fieldAnswer
     unrefused = ap (λ (a : FieldAnswer). a .refusal) answer-is
 
-    pub read-down : field .answer .dy ≡ majority (bestOf p w) (blocks (p .sizes)) .dy
+    pub reading-is : vec (field .answer .dy) (field .answer .dx) ≡ majority (bestOf p w) (blocks (p .sizes))
     unfolding fieldAnswer
-    read-down = ap (λ (a : FieldAnswer). a .dy) answer-is ∙ ap (λ (v : Vector). v .dy) (reading-best p w field-fine threshold)
-
-    pub read-across : field .answer .dx ≡ majority (bestOf p w) (blocks (p .sizes)) .dx
-    unfolding fieldAnswer
-    read-across = ap (λ (a : FieldAnswer). a .dx) answer-is ∙ ap (λ (v : Vector). v .dx) (reading-best p w field-fine threshold)
+    reading-is = ap (λ (a : FieldAnswer). vec (a .dy) (a .dx)) answer-is ∙ reading-best p w field-fine threshold
 
     lands : Landing t field (landed t field) (accept t this) late
     unfolding accept travel
-    lands =
-        landing t field (t .y +ℤ travel p w .dy) (t .x +ℤ travel p w .dx)
-        (ap (λ (z : ℤ). t .y +ℤ negℤ z) read-down) (ap (λ (z : ℤ). t .x +ℤ negℤ z) read-across)
+    lands = landing t field (travel p w) (ap turned reading-is)
 
   step-agrees : Agrees t this (call t this)
-  unfolding call reckon
+  unfolding call reckonCall
   step-agrees = go (ℕ-discrete early 0)
     where
       go : Dec (early ≡ 0) → Agrees t this (stepping answers)

@@ -1,14 +1,16 @@
 -- Demand 3: the promise holds of every list of calls. Each call agrees with the reckoning, so by induction over the list the run does; and an accepted step
 -- answers with its field, whose blocks have their exhaustive bests.
 use Prim.Native.Nat.{ℕ, _+_}
-use mathlib.Core.Path.{_≡_, refl, sym, ap, subst, _∙_}
+use mathlib.Core.Path.{_≡_, refl, ap, _∙_}
 use mathlib.Core.Bool.{true}
-use mathlib.Core.List.{List, [], _∷_, _++_}
+use mathlib.Core.List.{List, _∷_, _++_}
 use lib.Dec.{T}
-use lib.IntN.{ℤ, pos, _+ℤ_}
+use lib.IntN.{ℤ, pos}
 use lib.Signed.{_≤ℤ_, _<ℤ_}
-use lib.ListN.{length, getD, drop}
+use lib.ListN.{getD, drop}
+use Rattle.base.specs.Calls.{EachCall, last-is, each-call}
 use Rattle.order.specs.declared.Vector.{Vector}
+use Rattle.order.specs.Vectors.{turned}
 use Rattle.frame.specs.Pictures.{Pair}
 use Rattle.frame.specs.Grid.{blocks-some, blocks}
 use Rattle.frame.specs.Candidates.{candidate}
@@ -17,16 +19,16 @@ use Rattle.reading.specs.Reading.{majority, Most}
 use Rattle.field.specs.declared.FieldAnswer.{FieldAnswer}
 use Rattle.field.specs.Field.{requestOf, listSize, searchAt, fieldAnswer}
 use Rattle.track.specs.declared.Track.{Track}
-use Rattle.track.specs.Track.{trackNew, inRange, homedAt, StepResult}
-use Rattle.promise.specs.Demand.{Call, bestOf, turned, travel, reckon, reckoned, acceptedCalls, standingOn, sumDown, sumAcross, trackAt, NoHoming, Result, trackIn, call, runFrom, run, last, Each, AtStep, EachStep, EachBlock, EachGridPlace, bestEntries, reported, howMany, isDropped, isMeasured, overGrid, Promise}
+use Rattle.track_rules.specs.Rules.{inRange}
+use Rattle.track.specs.Track.{trackNew, homedAt, StepResult}
+use Rattle.promise.specs.Demand.{Call, bestOf, travel, reckon, reckoned, acceptedCalls, standingOn, trackAt, NoHoming, Result, trackIn, call, run, lastTrack, AtStep, EachStep, EachBlock, EachGridPlace, bestEntries, reported, howMany, isDropped, isMeasured, overGrid, Promise}
 use Rattle.promise.specs.Demand.Call.{home}
-use Rattle.promise.specs.Demand.Standing.{nowhere}
-use Rattle.promise.specs.Demand.Each.{none, next}
+use Rattle.promise.specs.Demand.Standing.{nowhere, from}
 use Rattle.reading.proofs.Majority.{majority-most}
 use Rattle.promise.proofs.Chains.{Fine, fine-paired}
 use Rattle.promise.proofs.Blocks.{Lists, entries-third, at-most, below, each-place, best-within, block-result, grid-distortion, grid-no-less, grid-worse, entries-best, sum-dropped, sum-measured, sum-both}
 use Rattle.promise.proofs.Probing.{four-step-runs, cross-runs, four-step-block, cross-block, four-step-over, cross-over}
-use Rattle.promise.proofs.One.{agrees, Taken, at-step, field-fine, answer-is, list-is, read-down, read-across}
+use Rattle.promise.proofs.One.{agrees, Taken, at-step, field-fine, answer-is, list-is, reading-is}
 use Rattle.promise.proofs.Closed.{closed, stays-nowhere, travelsOf, reckoned-since}
 
 -- ---- an accepted step
@@ -47,8 +49,8 @@ module _ (t : Track) (p : Pair) (w threshold : ℕ) (list : List ℤ) (table : L
     majority (bestOf p w) (blocks (p .sizes)),
     majority-most (bestOf p w) (blocks (p .sizes)) (blocks-some (p .sizes) (fine-paired p fine .fitting)) (best-within p w fine),
     refl,
-    ap (λ (a : FieldAnswer). a .dy) (k .answer-same) ∙ read-down t p w threshold list table (k .fine),
-    ap (λ (a : FieldAnswer). a .dx) (k .answer-same) ∙ read-across t p w threshold list table (k .fine),
+    ap (λ (a : FieldAnswer). a .dy) (k .answer-same) ∙ ap (λ (v : Vector). v .dy) (reading-is t p w threshold list table (k .fine)),
+    ap (λ (a : FieldAnswer). a .dx) (k .answer-same) ∙ ap (λ (v : Vector). v .dx) (reading-is t p w threshold list table (k .fine)),
   )
 
   listed : s .list ≡ bestEntries p w ++ drop (listSize (p .sizes)) list
@@ -78,29 +80,26 @@ module _ (t : Track) (p : Pair) (w threshold : ℕ) (list : List ℤ) (table : L
 
 -- ---- the whole list
 
--- a fact about every call, by induction over the list
-each : (P : Track → Call → Result → Type 0) → ((t : Track) (c : Call) → P t c (call t c)) → (cs : List Call) (t : Track) → Each P t cs (runFrom t cs)
-unfolding runFrom
-each P h [] t = none
-each P h (c ∷ cs) t =
-    next (h t c) (subst (λ (u : Track). Each P (reckon t c) cs (runFrom u cs)) (sym (agrees t c .track)) (each P h cs (reckon t c)))
+alike : (t : Track) (c : Call) → trackIn (call t c) ≡ reckon t c
+alike t c = agrees t c .track
+
+each : (P : Track → Call → Result → Type 0) → ((t : Track) (c : Call) → P t c (call t c)) → (calls : List Call) → EachCall reckon P trackNew calls (run calls)
+each P h calls = each-call call trackIn reckon alike P h calls trackNew
 
 steps : (calls : List Call) (Q : Pair → ℕ → List ℤ → StepResult → Type 0)
     → ((t : Track) (p : Pair) (w threshold : ℕ) (list : List ℤ) (table : List ℕ) (s : StepResult) → Taken t p w threshold list table s → Q p w list s)
     → EachStep calls Q
-steps calls Q h = each (AtStep Q) (at-step Q h) calls trackNew
+steps calls Q h = each (AtStep Q) (at-step Q h) calls
 
 -- the track in the end is the reckoning's
-ends : (cs : List Call) (t : Track) → last t (runFrom t cs) ≡ reckoned t cs
-unfolding runFrom last reckoned
-ends [] t = refl
-ends (c ∷ cs) t = ends cs (trackIn (call t c)) ∙ ap (λ (u : Track). reckoned u cs) (agrees t c .track)
+ends : (calls : List Call) → lastTrack (run calls) ≡ reckoned trackNew calls
+ends calls = last-is call trackIn reckon alike calls trackNew
 
-stands : (calls : List Call) → last trackNew (run calls) ≡ trackAt (standingOn nowhere (acceptedCalls trackNew calls))
+stands : (calls : List Call) → lastTrack (run calls) ≡ trackAt (standingOn nowhere (acceptedCalls trackNew calls))
 unfolding trackAt
-stands calls = ends calls trackNew ∙ closed calls nowhere
+stands calls = ends calls ∙ closed calls nowhere
 
-unhomed : (calls : List Call) → NoHoming (acceptedCalls trackNew calls) → last trackNew (run calls) ≡ trackNew
+unhomed : (calls : List Call) → NoHoming (acceptedCalls trackNew calls) → lastTrack (run calls) ≡ trackNew
 unfolding trackAt
 unhomed calls h = stands calls ∙ ap trackAt (stays-nowhere (acceptedCalls trackNew calls) h)
 
@@ -108,9 +107,9 @@ pub promise : (calls : List Call) → Promise calls
 promise calls = record {
   stands = stands calls;
   unhomed = unhomed calls;
-  reckoning = ends calls trackNew;
-  refusals = each _ (λ t c. agrees t c .refusal) calls trackNew;
-  tracks = each _ (λ t c. agrees t c .track) calls trackNew;
+  reckoning = ends calls;
+  refusals = each _ (λ t c. agrees t c .refusal) calls;
+  tracks = each _ alike calls;
   travels = steps calls _ travels;
   bests = steps calls _ (λ t p w threshold list table s k. each-place p w (fine t p w threshold list table s k));
   listed = steps calls _ listed;
@@ -132,5 +131,5 @@ promise calls = record {
 -- number as its steps
 pub since : (before after : List Call) (y0 x0 : ℤ) → inRange y0 ≡ true → inRange x0 ≡ true → NoHoming (acceptedCalls (homedAt y0 x0) after)
     → let ts = travelsOf (acceptedCalls (homedAt y0 x0) after) in
-    last trackNew (run (before ++ (home y0 x0 ∷ after))) ≡ record { homed = true; y = y0 +ℤ sumDown ts; x = x0 +ℤ sumAcross ts; steps = length ts }
-since before after y0 x0 a b h = ends (before ++ (home y0 x0 ∷ after)) trackNew ∙ reckoned-since trackNew before after y0 x0 a b h
+    lastTrack (run (before ++ (home y0 x0 ∷ after))) ≡ trackAt (from y0 x0 ts)
+since before after y0 x0 a b h = ends (before ++ (home y0 x0 ∷ after)) ∙ reckoned-since trackNew before after y0 x0 a b h

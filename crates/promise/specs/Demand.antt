@@ -4,24 +4,25 @@
 --   travel                   a pair's travel, by exhaustive bests
 --   refusalOf, accept        which refusal applies to a call, and what an accepted one does
 --   reckon, reckoned         the plain reckoning
---   accepted, standingOn, trackAt   where the reckoning ends, in one line
---   Result, run, last        what the gauge's own calls answer, one after the other
---   Each, EachStep           of each call, of each accepted step
+--   acceptedCalls, standingOn, trackAt   where the reckoning ends, in one line
+--   Result, run, lastTrack   what the gauge's own calls answer, one after the other
+--   EachCall, EachStep       of each call, of each accepted step
 --   Promise                  what is promised
--- From below come: candidate and distortion (frame, distortion), Best and best (search), votes, majority and Most (reading), the steps of search 2 (pruned),
--- and what the contracts of the code cite: searchBlock (block), field (field), trackNew, homed and trackStep (track).
+-- From below come: lists of calls, whatever the state (base: Calls), candidate and distortion (frame, distortion), Best and best (search), votes, majority and Most (reading), the steps of search 2 (pruned),
+-- and what the contracts of the code cite: searchBlock (block), field (field), trackNew, trackHome and trackStep (track).
 use Prim.Native.Nat.{ℕ, _+_, _*_, _≤_, _<_}
 use mathlib.Core.Path.{_≡_}
-use mathlib.Core.Bool.{Bool, true, cond, not, _&&_}
-use mathlib.Core.List.{List, [], _∷_, _++_}
-use lib.Dec.{T, leb, eqb}
-use lib.IntN.{ℤ, pos, negℤ, _+ℤ_}
+use mathlib.Core.Bool.{Bool, true, not, _&&_}
+use mathlib.Core.List.{List, [], _∷_, _++_, foldl}
+use lib.Dec.{T, leb}
+use lib.IntN.{ℤ, pos, _+ℤ_}
 use lib.Signed.{_≤ℤ_, _<ℤ_}
 use lib.ListN.{length, getD, drop}
-use Rattle.base.specs.Sum.{sumTo}
+use Rattle.base.specs.Sum.{sumTo, sumEach}
 use Rattle.base.specs.Lists.{concatTo}
+use Rattle.base.specs.Calls.{reckonCall, acceptedFrom, runFrom, lastHanded, EachCall}
 use Rattle.order.specs.declared.Vector.{Vector}
-use Rattle.order.specs.Vectors.{vec}
+use Rattle.order.specs.Vectors.{turned}
 use Rattle.order.specs.Preference.{preferred}
 use Rattle.frame.specs.Pictures.{Pair, largestDistortion}
 use Rattle.frame.specs.Grid.{blocks, blockRow, blockColumn}
@@ -39,7 +40,8 @@ use Rattle.reading.specs.Reading.{majority, Most}
 use Rattle.field.specs.Field.{requestOf, listSize, fieldRefusal, FieldResult, field}
 use Rattle.track.specs.declared.Track.{Track}
 use Rattle.track.specs.declared.Homed.{Homed}
-use Rattle.track.specs.Track.{trackNew, inRange, homedAt, trackHome, StepResult, trackStep}
+use Rattle.track_rules.specs.Rules.{inRange}
+use Rattle.track.specs.Track.{trackNew, homedAt, movedTo, trackHome, StepResult, trackStep}
 
 -- ---- 1. The calls
 
@@ -54,10 +56,6 @@ pub data Call : Type 0 where
 -- grid block k's exhaustive best: "its candidate of least distortion (equals: preference order)"
 abbrev pub bestOf : Pair → ℕ → ℕ → Vector
 bestOf p w k = best p w (blockRow (p .sizes) k) (blockColumn (p .sizes) k)
-
--- both signs turned
-abbrev pub turned : Vector → Vector
-turned v = vec (negℤ (v .dy)) (negℤ (v .dx))
 
 -- "the travel is the one most grid blocks have (likewise), reversed"
 unfoldable pub travel : Pair → ℕ → Vector
@@ -75,42 +73,39 @@ refusalOf t (step p w threshold list table) =
 -- "Any other is accepted, a step's pair with it, and does as Home and Step above."
 unfoldable pub accept : Track → Call → Track
 accept t (home y x) = homedAt y x
-accept t (step p w threshold list table) =
-    record { homed = true; y = t .y +ℤ travel p w .dy; x = t .x +ℤ travel p w .dx; steps = t .steps + 1 }
+accept t (step p w threshold list table) = movedTo t (travel p w)
 
 -- "A call to which a refusal applies, with these as the track, changes nothing."
-unfoldable pub reckon : Track → Call → Track
-reckon t c = cond (eqb (refusalOf t c) 0) (accept t c) t
+abbrev pub reckon : Track → Call → Track
+reckon = reckonCall refusalOf accept
 
-unfoldable pub reckoned : Track → List Call → Track
-reckoned t [] = t
-reckoned t (c ∷ cs) = reckoned (reckon t c) cs
+abbrev pub reckoned : Track → List Call → Track
+reckoned = foldl reckon
 
 -- ---- 3. The same in one line: the last accepted homing place plus the travels of all pairs accepted since, their number as steps
 
 -- the accepted calls, in order
-unfoldable pub acceptedCalls : Track → List Call → List Call
-acceptedCalls t [] = []
-acceptedCalls t (c ∷ cs) = cond (eqb (refusalOf t c) 0) (c ∷ acceptedCalls (reckon t c) cs) (acceptedCalls (reckon t c) cs)
+abbrev pub acceptedCalls : Track → List Call → List Call
+acceptedCalls = acceptedFrom refusalOf accept
 
 -- nowhere before the first homing; then the last homing's place, and the travels since, in order
 pub data Standing : Type 0 where
   nowhere : Standing
   from : (y x : ℤ) (travels : List Vector) → Standing
 
-unfoldable pub standingOn : Standing → List Call → Standing
-standingOn s [] = s
-standingOn s (home y x ∷ cs) = standingOn (from y x []) cs
-standingOn nowhere (step p w threshold list table ∷ cs) = standingOn nowhere cs
-standingOn (from y x vs) (step p w threshold list table ∷ cs) = standingOn (from y x (vs ++ (travel p w ∷ []))) cs
+unfoldable pub standOn : Standing → Call → Standing
+standOn s (home y x) = from y x []
+standOn nowhere (step p w threshold list table) = nowhere
+standOn (from y x vs) (step p w threshold list table) = from y x (vs ++ (travel p w ∷ []))
 
-unfoldable pub sumDown : List Vector → ℤ
-sumDown [] = pos 0
-sumDown (v ∷ vs) = v .dy +ℤ sumDown vs
+abbrev pub standingOn : Standing → List Call → Standing
+standingOn = foldl standOn
 
-unfoldable pub sumAcross : List Vector → ℤ
-sumAcross [] = pos 0
-sumAcross (v ∷ vs) = v .dx +ℤ sumAcross vs
+abbrev pub sumDown : List Vector → ℤ
+sumDown = sumEach (λ v. v .dy)
+
+abbrev pub sumAcross : List Vector → ℤ
+sumAcross = sumEach (λ v. v .dx)
 
 unfoldable pub trackAt : Standing → Track
 trackAt nowhere = trackNew
@@ -141,24 +136,16 @@ unfoldable pub call : Track → Call → Result
 call t (home y x) = homing (trackHome t y x)
 call t (step p w threshold list table) = stepping (trackStep t (p .older) (p .newer) (requestOf (p .sizes) 2 w threshold) list table)
 
-unfoldable pub runFrom : Track → List Call → List Result
-runFrom t [] = []
-runFrom t (c ∷ cs) = call t c ∷ runFrom (trackIn (call t c)) cs
-
 abbrev pub run : List Call → List Result
-run calls = runFrom trackNew calls
+run calls = runFrom call trackIn trackNew calls
 
 -- the track handed back last
-unfoldable pub last : Track → List Result → Track
-last t [] = t
-last t (r ∷ rs) = last (trackIn r) rs
+abbrev pub lastTrack : List Result → Track
+lastTrack results = lastHanded trackIn trackNew results
 
 -- ---- 5. The promise
 
--- P holds of each call: of the reckoning's values before it, the call, and what the run answered. Acceptance is the reckoning's, never the run's
-pub data Each (P : Track → Call → Result → Type 0) : Track → List Call → List Result → Type 0 where
-  none : {t : Track} → Each P t [] []
-  next : {t : Track} {c : Call} {r : Result} {cs : List Call} {rs : List Result} → P t c r → Each P (reckon t c) cs rs → Each P t (c ∷ cs) (r ∷ rs)
+-- EachCall reckon P: P holds of each call, of the reckoning's values before it, the call, and what the run answered. Acceptance is the reckoning's, never the run's
 
 abbrev pub AtStep : (Pair → ℕ → List ℤ → StepResult → Type 0) → Track → Call → Result → Type 0
 AtStep Q t (home y x) r = Unit {0}
@@ -167,7 +154,7 @@ AtStep Q t (step p w threshold list table) (stepping s) = refusalOf t (step p w 
 
 -- Q holds of each accepted step: of its pair and w, what its list held, and all that it answered
 abbrev pub EachStep : List Call → (Pair → ℕ → List ℤ → StepResult → Type 0) → Type 0
-EachStep calls Q = Each (AtStep Q) trackNew calls (run calls)
+EachStep calls Q = EachCall reckon (AtStep Q) trackNew calls (run calls)
 
 -- each grid block
 abbrev pub EachBlock : Pair → (ℕ → Type 0) → Type 0
@@ -236,14 +223,14 @@ Runs p search w t =
 
 pub record Promise (calls : List Call) : Type 0 where
   -- the track stands at the last accepted homing place plus the travels of all pairs accepted since, with their number as its steps
-  pub stands : last trackNew (run calls) ≡ trackAt (standingOn nowhere (acceptedCalls trackNew calls))
+  pub stands : lastTrack (run calls) ≡ trackAt (standingOn nowhere (acceptedCalls trackNew calls))
   -- all zeros and unhomed where no homing was accepted
-  pub unhomed : NoHoming (acceptedCalls trackNew calls) → last trackNew (run calls) ≡ trackNew
+  pub unhomed : NoHoming (acceptedCalls trackNew calls) → lastTrack (run calls) ≡ trackNew
   -- "In the end track and reckoning are equal,
-  pub reckoning : last trackNew (run calls) ≡ reckoned trackNew calls
+  pub reckoning : lastTrack (run calls) ≡ reckoned trackNew calls
   -- and each call was refused exactly when the reckoning refuses it": by the same number, and with the reckoning's track handed back
-  pub refusals : Each (λ t c r. refusalIn r ≡ refusalOf t c) trackNew calls (run calls)
-  pub tracks : Each (λ t c r. trackIn r ≡ reckon t c) trackNew calls (run calls)
+  pub refusals : EachCall reckon (λ t c r. refusalIn r ≡ refusalOf t c) trackNew calls (run calls)
+  pub tracks : EachCall reckon (λ t c r. trackIn r ≡ reckon t c) trackNew calls (run calls)
   -- the travel is the reverse of the vector that most grid blocks have as exhaustive best, and that vector is the reading
   pub travels : EachStep calls (λ p w list s. (v : Vector) × Most (bestOf p w) (blocks (p .sizes)) v × (travel p w ≡ turned v)
       × (s .stepped .answer .dy ≡ v .dy) × (s .stepped .answer .dx ≡ v .dx))

@@ -6,7 +6,6 @@ ghost use Prim.Native.Nat.{_<_};
 ghost use Rattle.track.specs.Track.{trackNew, trackHome, stepRefusal, unmoved, arrived, stepResult, trackStep};
 use field::FieldAnswer;
 use refusals::Request;
-use signed::Moved;
 
 // Homed or not, the place, and the steps since it was homed.
 #[repr(C)]
@@ -58,15 +57,10 @@ impl Track {
     pub fn home(self, y: i32, x: i32) -> Homed
         ensures { λ r. ⌜ r ≡ trackHome self y x ⌝ }
     {
-        if !signed::within(y, 1000000) {
+        let refusal = track_rules::home_refusal(y, x);
+        if refusal != 0 {
             return Homed {
-                refusal: 11,
-                track: self,
-            };
-        }
-        if !signed::within(x, 1000000) {
-            return Homed {
-                refusal: 11,
+                refusal,
                 track: self,
             };
         }
@@ -96,13 +90,7 @@ impl Track {
         if refusal != 0 {
             return refusal;
         }
-        if !self.homed {
-            return 31;
-        }
-        if 1000000 <= self.steps {
-            return 32;
-        }
-        0
+        track_rules::state_refusal(self.homed, self.steps)
     }
 
     // The reading's reverse added to the place, or 33 and the old track.
@@ -110,18 +98,16 @@ impl Track {
         requires { ⌜ self .steps < 1000000 ⌝ }
         ensures { λ r. ⌜ r ≡ arrived self a ⌝ }
     {
-        let Moved::To(y) = signed::minus_travel(self.y, a.dy) else {
-            return unmoved(33, self); // y would leave its range
-        };
-        let Moved::To(x) = signed::minus_travel(self.x, a.dx) else {
-            return unmoved(33, self); // x would leave its range
-        };
+        let place = track_rules::arrive(self.y, self.x, a.dy, a.dx);
+        if place.refusal != 0 {
+            return unmoved(place.refusal, self);
+        }
         Stepped {
             answer: a,
             track: Track {
                 homed: true,
-                y,
-                x,
+                y: place.y,
+                x: place.x,
                 steps: self.steps + 1,
             },
         }

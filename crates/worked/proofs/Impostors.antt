@@ -8,6 +8,7 @@ use native.Mathlib.Omega.{arith}
 use lib.IntN.{pos}
 use Rattle.base.specs.Sum.{sumTo}
 use Rattle.base.specs.Least.{leastOf, leastFrom}
+use Rattle.base.specs.Calls.{reckonCall, EachCall, last-each}
 use Rattle.signed.specs.Int.{up}
 use Rattle.order.specs.Vectors.{vec}
 use Rattle.order.specs.Preference.{preference}
@@ -19,9 +20,8 @@ use Rattle.probe.specs.Probe.{origin}
 use Rattle.field.specs.Field.{fieldRefusal}
 use Rattle.track.specs.declared.Track.{Track}
 use Rattle.track.specs.Track.{trackNew}
-use Rattle.promise.specs.Demand.{Call, travel, refusalOf, accept, reckon, reckoned, Result, trackIn, last, Each}
+use Rattle.promise.specs.Demand.{Call, travel, refusalOf, accept, reckon, reckoned, Result, trackIn, lastTrack}
 use Rattle.promise.specs.Demand.Call.{home, step}
-use Rattle.promise.specs.Demand.Each.{none, next}
 use Rattle.worked.specs.Table.{pairB, heldList, heldTable, minus, stepB}
 use Rattle.worked.proofs.Places.{walk, after}
 use Rattle.worked.proofs.Alike.{every, alike}
@@ -30,11 +30,6 @@ use Rattle.worked.proofs.Once.{travel-once}
 -- what the promise says of each call's track
 abbrev pub Tracks : Track → Call → Result → Type 0
 Tracks t c r = trackIn r ≡ reckon t c
-
-tracks-end : (t : Track) (cs : List Call) (rs : List Result) → Each Tracks t cs rs → last t rs ≡ reckoned t cs
-unfolding last reckoned
-tracks-end t [] [] none = refl
-tracks-end t (c ∷ cs) (r ∷ rs) (next h e) = rw h (tracks-end (reckon t c) cs rs e)
 
 travels-B : (travel pairB 1 ≡ vec (pos 0) (minus 1)) × (travel pairB 0 ≡ origin)
 unfolding
@@ -52,19 +47,19 @@ at : (steps : ℕ) → Track
 at steps = record { homed = true; y = pos 10; x = pos 19; steps = steps }
 
 ends-B : (reckoned trackNew once ≡ at 1) × (reckoned trackNew again ≡ at 2)
-unfolding pairB reckoned reckon refusalOf accept fieldRefusal requestRefusal pairRefusal blockSizeOk windowOk thresholdOk firstRefusal blocks rows columns at
+unfolding pairB reckonCall refusalOf accept fieldRefusal requestRefusal pairRefusal blockSizeOk windowOk thresholdOk firstRefusal blocks rows columns at
 ends-B = (rw (travels-B .0), rw (travels-B .0, travels-B .1))
 
 -- a track that stands at another x
-elsewhere : (x : ℕ) (cs : List Call) (rs : List Result) (n : ℕ) → Each Tracks trackNew cs rs → reckoned trackNew cs ≡ at n
-    → (x ≡ 19 → ⊥) → last trackNew rs .x ≡ pos x → ⊥
+elsewhere : (x : ℕ) (cs : List Call) (rs : List Result) (n : ℕ) → EachCall reckon Tracks trackNew cs rs → reckoned trackNew cs ≡ at n
+    → (x ≡ 19 → ⊥) → lastTrack rs .x ≡ pos x → ⊥
 unfolding at
-elsewhere x cs rs n k e ne h = ne (ap up (sym h ∙ ap (λ (t : Track). t .x) (tracks-end trackNew cs rs k ∙ e)))
+elsewhere x cs rs n k e ne h = ne (ap up (sym h ∙ ap (λ (t : Track). t .x) (last-each reckon trackIn cs rs trackNew k ∙ e)))
 
 -- "still paper for every pair"
-pub still-excluded : (rs : List Result) → Each Tracks trackNew once rs → last trackNew rs .x ≡ pos 20 → ⊥
+pub still-excluded : (rs : List Result) → EachCall reckon Tracks trackNew once rs → lastTrack rs .x ≡ pos 20 → ⊥
 still-excluded rs k = elsewhere 20 once rs 1 k (ends-B .0) (λ q. omega arith)
 
 -- "a first step worked out and its travel repeated"
-pub repeated-excluded : (rs : List Result) → Each Tracks trackNew again rs → last trackNew rs .x ≡ pos 18 → ⊥
+pub repeated-excluded : (rs : List Result) → EachCall reckon Tracks trackNew again rs → lastTrack rs .x ≡ pos 18 → ⊥
 repeated-excluded rs k = elsewhere 18 again rs 2 k (ends-B .1) (λ q. omega arith)

@@ -12,7 +12,9 @@ use lib.Dec.{eqb}
 use lib.IntN.{ℤ}
 use lib.ListN.{length, drop}
 use Rattle.base.specs.Least.{leastOf}
+use Rattle.base.specs.Calls.{runFrom}
 use Rattle.order.specs.declared.Vector.{Vector}
+use Rattle.order.specs.Vectors.{turned}
 use Rattle.order.specs.Preference.{preference, preferred}
 use Rattle.refusals.specs.declared.Request.{Request}
 use Rattle.frame.specs.Pictures.{Pair, pairOf}
@@ -35,8 +37,8 @@ use Rattle.block.specs.Block.{searchRefusal, searchBy, searchBlock}
 use Rattle.reading.specs.Reading.{votes, majority}
 use Rattle.field.specs.Field.{requestOf, fieldRefusal, searchAt, entries, countsOver, droppedOver, listSize, filledTable, fieldAnswer, refusedField, FieldResult, fieldResult, field}
 use Rattle.track.specs.declared.Track.{Track}
-use Rattle.track.specs.Track.{trackHome, stepRefusalIs, unmoved, stepResult, landed, StepResult, trackStep}
-use Rattle.promise.specs.Demand.{Call, turned, travel, Result, trackIn, call, runFrom}
+use Rattle.track.specs.Track.{trackNew, trackHome, stepRefusalIs, unmoved, stepResult, landed, StepResult, trackStep}
+use Rattle.promise.specs.Demand.{Call, travel, Result, trackIn, call, run}
 use Rattle.promise.specs.Demand.Call.{home, step}
 use Rattle.promise.specs.Demand.Result.{homing, stepping}
 use Rattle.worked.specs.Table.{reads}
@@ -175,13 +177,8 @@ unfolding call
 call-once t (home y x) = refl
 call-once t (step p w threshold list table) = ap stepping (step-once t (p .older) (p .newer) (requestOf (p .sizes) 2 w threshold) list table)
 
-abbrev pub runOnce : Track → List Call → List Result
-runOnce t [] = []
-runOnce t (c ∷ cs) = callOnce t c ∷ runOnce (trackIn (callOnce t c)) cs
+abbrev pub runOnce : List Call → List Result
+runOnce cs = runFrom callOnce trackIn trackNew cs
 
-pub run-once : (t : Track) (cs : List Call) → runFrom t cs ≡ runOnce t cs
-unfolding runFrom
-run-once t [] = refl
-run-once t (c ∷ cs) =
-    ap (λ (r : Result). r ∷ runFrom (trackIn r) cs) (call-once t c)
-    ∙ ap (λ (rs : List Result). callOnce t c ∷ rs) (run-once (trackIn (callOnce t c)) cs)
+pub run-once : (cs : List Call) → run cs ≡ runOnce cs
+run-once cs = ap (λ (answer : Track → Call → Result). runFrom answer trackIn trackNew cs) (fun-ext (λ t. fun-ext (call-once t)))

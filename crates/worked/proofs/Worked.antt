@@ -5,7 +5,8 @@ use mathlib.Core.List.{List, [], _∷_, flatMap}
 use Rattle.base.specs.Sum.{sumTo}
 use Rattle.base.specs.Lists.{Each, none, more, listTo, concatTo}
 use Rattle.base.specs.Least.{leastFrom, leastOf}
-use Rattle.signed.specs.Values.{movedBy, signedByte, byteOf}
+use Rattle.base.specs.Calls.{runFrom}
+use Rattle.signed.specs.Values.{signedByte, byteOf}
 use Rattle.order.specs.Preference.{preference}
 use Rattle.frame.specs.Grid.{rows, columns, blocks, blockRow, blockColumn}
 use Rattle.frame.specs.Candidates.{candidate}
@@ -24,7 +25,7 @@ use Rattle.pruned_sums.specs.Area.{summed}
 use Rattle.block.specs.Block.{searchRefusal}
 use Rattle.reading.specs.Reading.{votes}
 use Rattle.field.specs.Field.{fieldRefusal, entries, tableOf}
-use Rattle.track.specs.Track.{trackNew, trackHome, stepRefusal, arrived}
+use Rattle.track.specs.Track.{trackHome, stepRefusal, arrived}
 use Rattle.log_head.specs.Heads.{headRefusal, entryOk, isStill}
 use Rattle.log.specs.Numbers.{be2, be4}
 use Rattle.log.specs.Step.{judged, headIn, headTaken, blockTaken, endTaken, standingOk, byCommand, commandAt, stepAt}
@@ -45,7 +46,7 @@ answerOnce (measuring p v) = answer (measuring p v)
 answerOnce (distance p m) = answer (distance p m)
 answerOnce (everyBlock p q list table) = filled (fieldOnce (p .older) (p .newer) (q p) list table)
 answerOnce (travelling p w) = travels (travelOnce p w)
-answerOnce (calls cs) = results (runOnce trackNew cs)
+answerOnce (calls cs) = results (runOnce cs)
 answerOnce (writing h list buffer) = answer (writing h list buffer)
 answerOnce (reading log list) = answer (reading log list)
 answerOnce (walking log) = answer (walking log)
@@ -57,7 +58,7 @@ answer-once (measuring p v) = refl
 answer-once (distance p m) = refl
 answer-once (everyBlock p q list table) = ap filled (field-once (p .older) (p .newer) (q p) list table)
 answer-once (travelling p w) = ap travels (travel-once p w)
-answer-once (calls cs) = ap results (run-once trackNew cs)
+answer-once (calls cs) = ap results (run-once cs)
 answer-once (writing h list buffer) = refl
 answer-once (reading log list) = refl
 answer-once (walking log) = refl
@@ -87,7 +88,7 @@ unfolding
     squareSum distanceBy kept exceeding allRemaining lower sift rounds prune prunedBest counts halves
     searchRefusal walk after
     rows columns blocks blockRow blockColumn listTo concatTo summed fieldRefusal entries tableOf votes every alike
-    movedBy trackHome stepRefusal arrived
+    runFrom trackHome stepRefusal arrived
     signedByte byteOf headRefusal entryOk isStill be2 be4 judged headIn headTaken blockTaken endTaken standingOk byCommand commandAt stepAt
     commandsFrom logWalk lastOf blockCommand logCommands logOf flatMap
     listRefusal firstWrong writeListed writeLog fieldOf logRead readLog digits numberText spaced endWord refusedWord atWord worded printLog

@@ -1,100 +1,77 @@
--- `arrive`: the two places are those of the definition; where one leaves its range, the old track.
-use mathlib.Core.Path.{_≡_, ap₂, _∙_}
+-- `arrive`: the place after the travel, or 33 and the old track.
+use Prim.Native.Nat.{_+_}
+use mathlib.Core.Path.{_≡_, _∙_}
+use mathlib.Core.Bool.{true}
 use borrow.Author.Needs.{needs, sfits-of}
+use borrow.Author.Tests.{ne-eqb}
 use mir.Syntax.{w32}
 use mir.Facts.{toZ-ofZ}
-use lib.IntN.{ℤ, negℤ}
-use Rattle.signed.specs.Values.{movedBy}
-use Rattle.track.specs.Track.{arrived}
+use Rattle.track_rules.specs.declared.Arrival.{Arrival}
+use Rattle.field.specs.declared.FieldAnswer.{FieldAnswer}
+use Rattle.track.specs.declared.Track.{Track}
+use Rattle.track_rules.specs.Rules.{arrivalRefusal, arrive}
+use Rattle.track.specs.Track.{movedTo, unmoved, travelOf, arrived}
 use Rattle.track.proofs.Track.arrive.Statement.{statement}
 use Rattle.track.proofs.Track.arrive.Tie as tie
 
--- a part comes back from its bits unchanged
-row : (c : tie.After-minus-travel) →
-    let s = c .before .before .before .args in
-    c .minus-travel .result ≡ movedBy (s .self .y) (negℤ (s .a .dy))
-row c =
-    let s = c .before .before .before .args in
-    let y = toZ-ofZ {w = w32} {z = s .self .y} (sfits-of (c .before .before .struct-told .given .1 .0 .1)) in
-    let d = toZ-ofZ {w = w32} {z = s .a .dy} (sfits-of (c .before .struct-told2 .given .1 .0 .1)) in
-    c .minus-travel .ensures ∙ ap₂ (λ (p q : ℤ). movedBy p (negℤ q)) y d
+-- the rules' answer, as the track's
+module _ (t : Track) (a : FieldAnswer) (r : Arrival) (e : r ≡ arrive (t .y) (t .x) (a .dy) (a .dx)) where
+  abbrev moved : Track
+  moved = movedTo t (travelOf a)
 
-column : (c : tie.After-minus-travel2) →
-    let s = c .before .before .before .before .before .before .before .before .before .args in
-    c .minus-travel2 .result ≡ movedBy (s .self .x) (negℤ (s .a .dx))
-column c =
-    let s = c .before .before .before .before .before .before .before .before .before .args in
-    let x = toZ-ofZ {w = w32} {z = s .self .x} (sfits-of (c .before .before .struct-told3 .given .1 .1 .0 .1)) in
-    let d = toZ-ofZ {w = w32} {z = s .a .dx} (sfits-of (c .before .struct-told4 .given .1 .1 .0 .1)) in
-    c .minus-travel2 .ensures ∙ ap₂ (λ (p q : ℤ). movedBy p (negℤ q)) x d
+  refusal-is : arrivalRefusal (moved .y) (moved .x) ≡ r .refusal
+  unfolding arrive
+  refusal-is = rw e
 
-minus-travel-requires : tie.Need-minus-travel-requires
-minus-travel-requires c κs = search needs
+  arrived-no : (r .refusal ≡ 0 → ⊥) → unmoved (r .refusal) t ≡ arrived t a
+  unfolding arrived
+  arrived-no n = rw (refusal-is, ne-eqb (r .refusal) 0 n)
 
-enum-known-y : tie.Need-enum-known-y
-enum-known-y c = search needs
+  arrived-yes : r .refusal ≡ 0 → record { answer = a; track = record { homed = true; y = r .y; x = r .x; steps = t .steps + 1 } } ≡ arrived t a
+  unfolding arrived arrive
+  arrived-yes z = rw (e, refusal-is ∙ z)
 
-enum-told : tie.Need-enum-told
-enum-told c = search needs
+abbrev start : tie.After-arrive → tie.Start
+start c = c .before .before .before .before .before
+
+-- the parts come back from their bits unchanged
+place-is : (c : tie.After-arrive) → let a = start c .args in c .arrive .result ≡ arrive (a .self .y) (a .self .x) (a .a .dy) (a .a .dx)
+place-is c =
+    let dx = c .before in
+    let dy = dx .before in
+    let x = dy .before in
+    let y = x .before in
+    rw (
+      toZ-ofZ {z = start c .args .self .y} (sfits-of (y .struct-told .given .1 .0 .1)),
+      toZ-ofZ {z = start c .args .self .x} (sfits-of (x .struct-told2 .given .1 .1 .0 .1)),
+      toZ-ofZ {z = start c .args .a .dy} (sfits-of (dy .struct-told3 .given .1 .0 .1)),
+      toZ-ofZ {z = start c .args .a .dx} (sfits-of (dx .struct-told4 .given .1 .1 .0 .1)),
+    )
+    at (c .arrive .ensures)
+
+arrive-requires : tie.Need-arrive-requires
+arrive-requires c κs = search needs
 
 unmoved-requires : tie.Need-unmoved-requires
 unmoved-requires c κs = search needs
 
 returns : tie.Need-returns
-unfolding arrived
-returns c = rw (← (row (c .before .before .before)), c .before .enum-told .given .1) (c .unmoved .ensures)
+returns c =
+    let i = c .before in
+    c .unmoved .ensures ∙ arrived-no _ _ _ (place-is (i .before .before)) (i .if1 .taken)
 
-minus-travel-requires-2 : tie.Need-minus-travel-requires-2
-minus-travel-requires-2 c κs = search needs
-
-enum-known-x : tie.Need-enum-known-x
-enum-known-x c = search needs
-
-enum-told-2 : tie.Need-enum-told-2
-enum-told-2 c = search needs
-
-unmoved-requires-2 : tie.Need-unmoved-requires-2
-unmoved-requires-2 c κs = search needs
+add-t5 : tie.Need-add-t5
+add-t5 c = search needs
 
 returns-2 : tie.Need-returns-2
-unfolding arrived
 returns-2 c =
-    let b = c .before .before .before in
-    let d = b .before .before .before .before in
-    rw (← (row (d .before .before)), d .y .given .1, ← (column b), c .before .enum-told2 .given .1)
-    (c .unmoved2 .ensures)
-
-add-t7 : tie.Need-add-t7
-add-t7 c = search needs
-
-returns-3 : tie.Need-returns-3
-unfolding arrived
-returns-3 c =
-    let n = c .before .before in
-    let b = n .before .before in
-    let d = b .before .before .before .before in
+    let i = c .before .before in
+    let k = i .before in
     rw (
-      toZ-ofZ {z = d .y .given .0 .0} (sfits-of (b .before .before .before .known-told .given .0 .1)),
-      toZ-ofZ {z = n .x .given .0 .0} (sfits-of (c .before .known-told2 .given .0 .1)),
-      ← (row (d .before .before)),
-      d .y .given .1,
-      ← (column b),
-      n .x .given .1,
+      toZ-ofZ {z = k .before .arrive .result .y} (sfits-of (c .struct-told5 .given .1 .0 .1)),
+      toZ-ofZ {z = k .before .arrive .result .x} (sfits-of (c .struct-told5 .given .1 .1 .0 .1)),
     )
+    (arrived-yes _ _ _ (place-is (k .before)) (i .if1 .left))
 
 pub arrive-spec : {M : Type 1} → statement M
-arrive-spec =
-    tie.close
-    (tie.spec
-    minus-travel-requires
-    enum-known-y
-    enum-told
-    unmoved-requires
-    returns
-    minus-travel-requires-2
-    enum-known-x
-    enum-told-2
-    unmoved-requires-2
-    returns-2
-    add-t7
-    returns-3)
+arrive-spec = tie.close (tie.spec arrive-requires unmoved-requires returns add-t5 returns-2)

@@ -1,41 +1,28 @@
--- `home`: the two tests are those of the definition.
-use mathlib.Core.Path.{_≡_, ap, _∙_}
+-- `home`: a refusal, or the place, which comes back from its bits unchanged.
+use mathlib.Core.Path.{_≡_, sym, ap₂, _∙_}
 use borrow.Author.Needs.{needs}
+use borrow.Author.Tests.{ne-eqb}
 use mir.Facts.{toZ-ofZ}
-use Rattle.base.specs.Tests.{passed, failed}
-use Rattle.track.specs.Track.{trackHome, inRange}
+use Rattle.track_rules.specs.Rules.{homeRefusal}
+use Rattle.track.specs.Track.{trackHome}
 use Rattle.track.proofs.Track.home.Statement.{statement}
 use Rattle.track.proofs.Track.home.Tie as tie
 
--- a number comes back from its bits unchanged
-row : (c : tie.After-within) → c .within .result ≡ inRange (c .before .args .y)
-row c = c .within .ensures ∙ ap inRange (toZ-ofZ (c .before .fits .y))
+refusal-is : (c : tie.After-home-refusal) → c .home-refusal .result ≡ homeRefusal (c .before .args .y) (c .before .args .x)
+refusal-is c = c .home-refusal .ensures ∙ ap₂ homeRefusal (toZ-ofZ (c .before .fits .y)) (toZ-ofZ (c .before .fits .x))
 
-column : (c : tie.After-within2) → c .within2 .result ≡ inRange (c .before .before .before .args .x)
-column c = c .within2 .ensures ∙ ap inRange (toZ-ofZ (c .before .before .before .fits .x))
-
-within-requires : tie.Need-within-requires
-within-requires c κs = search needs
+home-refusal-requires : tie.Need-home-refusal-requires
+home-refusal-requires c κs = search needs
 
 returns : tie.Need-returns
 unfolding trackHome
-returns c = rw (failed (row (c .before)) (c .if1 .taken))
-
-within-requires-2 : tie.Need-within-requires-2
-within-requires-2 c κs = search needs
+returns c = rw (← (refusal-is (c .before)), ne-eqb _ 0 (c .if1 .taken))
 
 returns-2 : tie.Need-returns-2
 unfolding trackHome
 returns-2 c =
-    let r = c .before .before in
-    rw (passed (row (r .before)) (r .if1 .left), failed (column (c .before)) (c .if2 .taken))
-
-returns-3 : tie.Need-returns-3
-unfolding trackHome
-returns-3 c =
-    let r = c .before .before in
-    let s = r .before .before in
-    rw (passed (row (r .before)) (r .if1 .left), passed (column (c .before)) (c .if2 .left), toZ-ofZ (s .fits .y), toZ-ofZ (s .fits .x))
+    let s = c .before .before in
+    rw (← (refusal-is (c .before)), c .if1 .left, toZ-ofZ (s .fits .y), toZ-ofZ (s .fits .x))
 
 pub home-spec : {M : Type 1} → statement M
-home-spec = tie.close (tie.spec within-requires returns within-requires-2 returns-2 returns-3)
+home-spec = tie.close (tie.spec home-refusal-requires returns returns-2)

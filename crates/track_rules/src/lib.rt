@@ -1,0 +1,63 @@
+// The rules of document 01's track in plain numbers: where it may be homed, when it may step, and where a travel leads.
+
+ghost use mathlib.Core.Path.{_≡_};
+ghost use Rattle.track_rules.specs.Rules.{homeRefusal, stateRefusal, arrive};
+use signed::Moved;
+
+// The place after a travel, or 33 and zeros.
+pub struct Arrival {
+    pub refusal: u32,
+    pub y: i32,
+    pub x: i32,
+}
+
+// 11 where (y, x) is no homing place, else 0.
+pub fn home_refusal(y: i32, x: i32) -> u32
+    ensures { λ r. ⌜ r ≡ homeRefusal y x ⌝ }
+{
+    if !signed::within(y, 1000000) {
+        return 11;
+    }
+    if !signed::within(x, 1000000) {
+        return 11;
+    }
+    0
+}
+
+// 31 or 32 where a track in this state may not step, else 0.
+pub fn state_refusal(homed: bool, steps: u32) -> u32
+    ensures { λ r. ⌜ r ≡ stateRefusal homed steps ⌝ }
+{
+    if !homed {
+        return 31;
+    }
+    if 1000000 <= steps {
+        return 32;
+    }
+    0
+}
+
+// The reverse of the reading (dy, dx) added to the place (y, x).
+pub fn arrive(y: i32, x: i32, dy: i32, dx: i32) -> Arrival
+    ensures { λ r. ⌜ r ≡ arrive y x dy dx ⌝ }
+{
+    let Moved::To(row) = signed::minus_travel(y, dy) else {
+        return Arrival {
+            refusal: 33,
+            y: 0,
+            x: 0,
+        }; // y would leave its range
+    };
+    let Moved::To(column) = signed::minus_travel(x, dx) else {
+        return Arrival {
+            refusal: 33,
+            y: 0,
+            x: 0,
+        }; // x would leave its range
+    };
+    Arrival {
+        refusal: 0,
+        y: row,
+        x: column,
+    }
+}
