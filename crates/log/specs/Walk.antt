@@ -1,6 +1,7 @@
 -- A walk: the commands that the walker's calls hand out, from a cursor on, one after the other, with the refusal that ends it last.
 --   commandsFrom   in so many calls at most
 --   walk           from the start of a log. A call that is not refused goes on by a byte at least, so length + 1 calls always do
+--   logHead        the head that its first call hands out
 --   lastOf         the last command of a walk: how it ended
 use Prim.Native.Nat.{ℕ, zero, suc, _+_, _-_, _<_}
 use mathlib.Core.Path.{_≡_}
@@ -8,11 +9,12 @@ use mathlib.Core.List.{List, [], _∷_}
 use mathlib.Core.Bool.{Bool, cond}
 use native.Mathlib.Omega.{arith}
 use lib.ListN.{length}
+use Rattle.log_head.specs.declared.Head.{Head}
 use Rattle.log.specs.declared.Cursor.{Cursor}
 use Rattle.log.specs.declared.WalkStep.{WalkStep}
-use Rattle.log.specs.declared.Command.{Command}
-use Rattle.log.specs.declared.Command.the-variants as Cmd
-use Rattle.log.specs.Commands.{isRefused}
+use Rattle.log_command.specs.declared.Command.{Command}
+use Rattle.log_command.specs.declared.Command.the-variants as Cmd
+use Rattle.log_command.specs.Commands.{commandHead, isRefused}
 use Rattle.log.specs.Step.{stepAt, startCursor}
 
 unfoldable pub commandsFrom : ℕ → List ℕ → Cursor → List Command
@@ -23,6 +25,10 @@ commandsFrom (suc calls) log c =
 
 unfoldable pub walk : List ℕ → List Command
 walk log = commandsFrom (length log + 1) log startCursor
+
+-- the head that the first call hands out
+abbrev pub logHead : List ℕ → Head
+logHead log = commandHead (stepAt log startCursor .command)
 
 unfoldable pub lastOf : List Command → Command
 lastOf [] = Cmd.Refused 34 0

@@ -1,8 +1,9 @@
 -- 01, "Log" and refusals 15 and 16: the rules for a head's numbers, and for what a block may be in a log with that head.
+--   noHead        a head of zeros: what a refused call answers with
 --   sizesIn       the sizes of a head
 --   headRefusal   1 3 4 5: what turns head numbers away
 --   headOk        15 lets the head pass: "head that 1, 3, 4 or 5 would turn away"
---   headBlocks        how many blocks the head's grid has
+--   headBlocks    how many blocks the head's grid has
 --   entryOk       16, "block vector no candidate, distortion below 0 or over 255 × N²", of grid block k
 --   isStill       "a still block": (0,0) with distortion 0
 use Prim.Native.Nat.{ℕ, suc, _+_, _*_, _≤_, _<_}
@@ -25,6 +26,9 @@ use Rattle.frame.specs.Grid.{blocks, blockRow, blockColumn}
 use Rattle.frame.specs.Candidates.{candidate, candidate-yes}
 use Rattle.refusals.specs.Refusals.{unless, sideOk, blockSizeOk, blockOk, searchOk, windowOk, unless-zero, block-size-elim, fitting, window-small}
 use Rattle.log_head.specs.declared.Head.{Head}
+
+abbrev pub noHead : Head
+noHead = record { width = 0; height = 0; n = 0; w = 0; search = 0 }
 
 abbrev pub sizesIn : Head → Sizes
 sizesIn h = sizes (h .width) (h .height) (h .n)

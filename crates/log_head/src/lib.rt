@@ -2,7 +2,7 @@
 
 ghost use mathlib.Core.Path.{_≡_};
 ghost use Prim.Native.Nat.{_≤_, _<_};
-ghost use Rattle.log_head.specs.Heads.{sizesIn, headRefusal, headBlocks, distortionOk, entryOk, isStill};
+ghost use Rattle.log_head.specs.Heads.{noHead, sizesIn, headRefusal, headBlocks, distortionOk, entryOk, isStill};
 use frame::Sizes;
 use signed::Shifted;
 
@@ -14,6 +14,19 @@ pub struct Head {
     pub n: usize,
     pub w: usize,
     pub search: u32,
+}
+
+// A head of zeros.
+pub fn no_head() -> Head
+    ensures { λ r. ⌜ r ≡ noHead ⌝ }
+{
+    Head {
+        width: 0,
+        height: 0,
+        n: 0,
+        w: 0,
+        search: 0,
+    }
 }
 
 // The sizes of a head.

@@ -12,18 +12,16 @@ use mathlib.Core.Bool.{cond}
 use lib.Dec.{eqb}
 use lib.IntN.{ℤ, pos}
 use Rattle.log_head.specs.declared.Head.{Head}
+use Rattle.log_head.specs.Heads.{noHead}
 use Rattle.log.specs.declared.Phase.{Phase}
 use Rattle.log.specs.declared.Phase.the-variants.{Start, Body, Ended, Over}
 use Rattle.log.specs.declared.Cursor.{Cursor}
-use Rattle.log.specs.declared.Command.{Command}
-use Rattle.log.specs.declared.Command.the-variants as Cmd
-use Rattle.log.specs.Commands.{commandNumber}
+use Rattle.log_command.specs.declared.Command.{Command}
+use Rattle.log_command.specs.declared.Command.the-variants as Cmd
+use Rattle.log_command.specs.Commands.{commandNumber}
 use Rattle.log.specs.Step.{stepAt}
 use Rattle.log_plain.specs.declared.Place.{Place}
 use Rattle.log_plain.specs.declared.Walked.{Walked}
-
-abbrev pub noHead : Head
-noHead = record { width = 0; height = 0; n = 0; w = 0; search = 0 }
 
 -- ---- cursors
 

@@ -1,10 +1,10 @@
 // One call of the walker for callers that have no enums: cursor and command as plain numbers, by value.
 
 ghost use mathlib.Core.Path.{_≡_};
-ghost use Rattle.log_plain.specs.Plain.{noHead, cursorOf, plainOf, answer, answerOf, walkFrom};
-use log::Command;
+ghost use Rattle.log_plain.specs.Plain.{cursorOf, plainOf, answer, answerOf, walkFrom};
 use log::Cursor;
 use log::Phase;
+use log_command::Command;
 use log_head::Head;
 
 // Where a walk stands: the offset of the next command, and how far the walk is: 0 before the head, 1 among the blocks, 2 after the end,
@@ -30,19 +30,6 @@ pub struct Walked {
     pub distortion: u32,
     pub blocks: usize,
     pub next: Place,
-}
-
-// A head of zeros.
-fn no_head() -> Head
-    ensures { λ r. ⌜ r ≡ noHead ⌝ }
-{
-    Head {
-        width: 0,
-        height: 0,
-        n: 0,
-        w: 0,
-        search: 0,
-    }
 }
 
 // The cursor that plain numbers stand for.
@@ -85,7 +72,7 @@ fn plain_of(c: Cursor) -> Place
         Phase::Start => Place {
             at,
             phase: 0,
-            head: no_head(),
+            head: log_head::no_head(),
             blocks: 0,
         },
         Phase::Body { head, blocks } => Place {
@@ -97,13 +84,13 @@ fn plain_of(c: Cursor) -> Place
         Phase::Ended => Place {
             at,
             phase: 2,
-            head: no_head(),
+            head: log_head::no_head(),
             blocks: 0,
         },
         Phase::Over => Place {
             at,
             phase: 3,
-            head: no_head(),
+            head: log_head::no_head(),
             blocks: 0,
         },
     }
@@ -139,23 +126,33 @@ fn answer(
 fn answer_of(command: Command, next: Place) -> Walked
     ensures { λ r. ⌜ r ≡ answerOf command next ⌝ }
 {
-    let said = log::command_number(command);
+    let said = log_command::command_number(command);
     match command {
         Command::Head(head) => answer(0, 0, said, head, 0, 0, 0, 0, next),
         Command::Block { dy, dx, distortion } => answer(
             0,
             0,
             said,
-            no_head(),
+            log_head::no_head(),
             dy,
             dx,
             distortion,
             0,
             next,
         ),
-        Command::Still => answer(0, 0, said, no_head(), 0, 0, 0, 0, next),
-        Command::End(blocks) => answer(0, 0, said, no_head(), 0, 0, 0, blocks, next),
-        Command::Refused { number, place } => answer(number, place, 0, no_head(), 0, 0, 0, 0, next),
+        Command::Still => answer(0, 0, said, log_head::no_head(), 0, 0, 0, 0, next),
+        Command::End(blocks) => answer(0, 0, said, log_head::no_head(), 0, 0, 0, blocks, next),
+        Command::Refused { number, place } => answer(
+            number,
+            place,
+            0,
+            log_head::no_head(),
+            0,
+            0,
+            0,
+            0,
+            next,
+        ),
     }
 }
 

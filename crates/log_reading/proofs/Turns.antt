@@ -11,21 +11,21 @@ use lib.IntN.{ℤ}
 use lib.ListN.{length, drop, length-append}
 use Rattle.log_head.specs.declared.Head.{Head}
 use Rattle.log.specs.declared.Cursor.{Cursor}
-use Rattle.log.specs.declared.Command.{Command}
-use Rattle.log.specs.declared.Command.the-variants as Cmd
+use Rattle.log_command.specs.declared.Command.{Command}
+use Rattle.log_command.specs.declared.Command.the-variants as Cmd
 use Rattle.log.specs.declared.WalkStep.{WalkStep}
-use Rattle.log.specs.Commands.{commandNumber, isRefused, blockValues}
+use Rattle.log_command.specs.Commands.{commandNumber, isRefused, blockValues}
 use Rattle.frame.specs.Pictures.{largestDistortion}
 use Rattle.log_head.specs.Heads.{headBlocks, entry}
 use Rattle.put.specs.Put.{StillToPut, rest-last, put-over, over-fits}
-use Rattle.log.specs.Step.{headIn, stepAt, startCursor}
-use Rattle.log.specs.Walk.{commandsFrom, commands-next, walk, lastOf}
+use Rattle.log.specs.Step.{stepAt, startCursor}
+use Rattle.log.specs.Walk.{commandsFrom, commands-next, walk, logHead, lastOf}
 use Rattle.log_walks.specs.Cases.{Kind, kinds}
 use Rattle.log_walks.specs.Cases as Cases
 use Rattle.log_walks.proofs.Ends.{last-after, refused-number, ends}
 use Rattle.log_walks.proofs.Accepted.{field-length}
 use Rattle.log_reading.specs.Reading.{fieldOf, refusedRead, refusedBy, acceptedRead, logRead}
-use Rattle.log_reading.specs.Storing.{distortionIn}
+use Rattle.log_reading.specs.Storing.{storedDistortion}
 
 module _ (left : ℕ) (log : List ℕ) (c : Cursor) (s : WalkStep) (t : Bool) (some : 0 < left) (e : s ≡ stepAt log c) (f : t ≡ isRefused (s .command)) where
   -- how it ends
@@ -53,15 +53,15 @@ end-first x log = last-after x (length log + 1) log startCursor (omega arith)
 
 -- ---- a command's distortion
 
-pub step-fits : (log : List ℕ) (c : Cursor) → distortionIn (stepAt log c .command) ≤ largestDistortion
+pub step-fits : (log : List ℕ) (c : Cursor) → storedDistortion (stepAt log c .command) ≤ largestDistortion
 step-fits log c = go (stepAt log c) (kinds log c)
   where
-    go : (s : WalkStep) → Kind log c s → distortionIn (s .command) ≤ largestDistortion
+    go : (s : WalkStep) → Kind log c s → storedDistortion (s .command) ≤ largestDistortion
     go s (Cases.refused number place a b w) = omega arith
-    go s (Cases.head q b f r) = omega arith
-    go s (Cases.block h k q r g b f o t) = entry h r k _ _ _ o .most
-    go s (Cases.still h k q r g b f) = omega arith
-    go s (Cases.end h k q r g b f n) = omega arith
+    go s (Cases.head q t r) = omega arith
+    go s (Cases.block h k q r g t o u) = entry h r k _ _ _ o .most
+    go s (Cases.still h k q r g t) = omega arith
+    go s (Cases.end h k q r g t n) = omega arith
 
 -- ---- an answer without a refusal
 
@@ -77,10 +77,10 @@ roomy log list e = go (isRefused begun) refl (ltb list (3 * headBlocks h)) refl 
     ended = lastOf (walk log)
 
     h : Head
-    h = headIn log 0
+    h = logHead log
 
     go : (a : Bool) → isRefused begun ≡ a → (b : Bool) → ltb list (3 * headBlocks h) ≡ b → (t : Bool) → eqb (commandNumber ended) 34 ≡ t
-        → cond a (refusedBy begun) (cond b (refusedRead 10 8) (cond t (acceptedRead h) (refusedBy ended))) .refusal ≡ 0 → length (flatMap blockValues (walk log)) ≤ list
+        → cond a (refusedBy begun) (cond b (refusedRead 10 (stepAt log startCursor .next .at)) (cond t (acceptedRead h) (refusedBy ended))) .refusal ≡ 0 → length (flatMap blockValues (walk log)) ≤ list
     go true ea b eb t et e = absurd (omega (arith, refused-number log startCursor ea))
     go false ea true eb t et e = absurd (omega arith)
     go false ea false eb true et e = omega (arith, field-length log (eqb-true (commandNumber ended) 34 et), ltb-false list (3 * headBlocks h) eb)

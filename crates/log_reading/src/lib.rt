@@ -1,4 +1,4 @@
-// ReadResult a whole log of document 01 into a lent list, three numbers a block. Nothing is stored before the whole log is accepted.
+// Reads a whole log of document 01 into a lent list, three numbers a block. Nothing is stored before the whole log is accepted.
 
 ghost use mathlib.Core.Path.{_≡_};
 ghost use mathlib.Core.List.{[], _∷_, _++_};
@@ -7,11 +7,11 @@ ghost use lib.IntN.{pos};
 ghost use lib.ListN.{length, drop};
 ghost use Rattle.put.specs.Put.{Put};
 ghost use Rattle.frame.specs.Pictures.{largestDistortion};
-ghost use Rattle.log.specs.Commands.{blockValues};
+ghost use Rattle.log_command.specs.Commands.{blockValues};
 ghost use Rattle.log.specs.Walk.{walk, lastOf};
 ghost use Rattle.log_reading.specs.Reading.{fieldOf, refusedRead, refusedBy, logRead, readResult, readLog};
-ghost use Rattle.log_reading.specs.Storing.{distortionIn};
-use log::Command;
+ghost use Rattle.log_reading.specs.Storing.{storedDistortion};
+use log_command::Command;
 use log_head::Head;
 
 // What reading answers: the head's numbers, or a refusal with its place.
@@ -28,20 +28,17 @@ fn refused_read(refusal: u32, place: usize) -> LogRead
     LogRead {
         refusal,
         place,
-        head: Head {
-            width: 0,
-            height: 0,
-            n: 0,
-            w: 0,
-            search: 0,
-        },
+        head: log_head::no_head(),
     }
 }
 
 fn refused_by(command: Command) -> LogRead
     ensures { λ r. ⌜ r ≡ refusedBy command ⌝ }
 {
-    refused_read(log::command_number(command), log::place_of(command))
+    refused_read(
+        log_command::command_number(command),
+        log_command::command_place(command),
+    )
 }
 
 // How a walk along the log ends.
@@ -58,7 +55,7 @@ fn walk_end(log: &[u8]) -> Command
         let s = log::step_at(log, cursor);
         let command = s.command;
         let next = s.next;
-        if log::is_refused(command) {
+        if log_command::is_refused(command) {
             return command;
         }
         last = command;
@@ -74,15 +71,16 @@ fn log_read(log: &[u8], list: usize) -> LogRead
 {
     let s = log::step_at(log, log::start());
     let begun = s.command;
-    if log::is_refused(begun) {
+    let next = s.next;
+    if log_command::is_refused(begun) {
         return refused_by(begun);
     }
-    let head = log::head_in(log, 0);
+    let head = log_command::command_head(begun);
     if list < 3 * log_head::head_blocks(head) {
-        return refused_read(10, 8);
+        return refused_read(10, next.at);
     }
     let ended = walk_end(log);
-    if log::command_number(ended) == 34 {
+    if log_command::command_number(ended) == 34 {
         return LogRead {
             refusal: 0,
             place: 0,
@@ -94,7 +92,7 @@ fn log_read(log: &[u8], list: usize) -> LogRead
 
 // The numbers of a command, if it is a block.
 fn store(list: &mut [i32], at: usize, command: Command) -> usize
-    requires { ⌜ (at + length (blockValues command) ≤ length (now list)) × (distortionIn command ≤ largestDistortion) ⌝ }
+    requires { ⌜ (at + length (blockValues command) ≤ length (now list)) × (storedDistortion command ≤ largestDistortion) ⌝ }
     ensures { λ r. ⌜ Put (now (list .entry)) at (blockValues command) (now (list .exit)) r ⌝ }
 {
     match command {
@@ -122,7 +120,7 @@ fn fill(log: &[u8], list: &mut [i32])
         let command = s.command;
         let next = s.next;
         at = store(list, at, command);
-        if log::is_refused(command) {
+        if log_command::is_refused(command) {
             return;
         }
         cursor = next;

@@ -12,11 +12,11 @@ use Rattle.base.specs.Lists.{listTo, listTo-ext}
 use Rattle.base.specs.Tests.{and-left, and-right, T-true, true-T}
 use Rattle.signed.specs.Int.{up, same, eqZ, eq-yes}
 use Rattle.log_head.specs.declared.Head.{Head}
-use Rattle.log.specs.declared.Command.{Command}
-use Rattle.log.specs.declared.Command.the-variants as Cmd
-use Rattle.log.specs.Commands.{commandBytes, blockValues}
+use Rattle.log_command.specs.declared.Command.{Command}
+use Rattle.log_command.specs.declared.Command.the-variants as Cmd
+use Rattle.log_command.specs.Commands.{commandBytes, blockValues}
 use Rattle.log_head.specs.Heads.{headRefusal, headBlocks, isStill, entry}
-use Rattle.log.specs.Logs.{valueOf, blockCommand, logCommands, logOf}
+use Rattle.log_command.specs.Logs.{valueOf, blockCommand, logCommands, logOf}
 use Rattle.log.specs.Walk.{lastOf}
 use Rattle.log_writing.specs.Writing.{listedOk}
 use Rattle.log_reading.specs.Reading.{fieldOf}

@@ -9,7 +9,7 @@ use lib.Dec.{eqb}
 use lib.ListN.{length}
 use Rattle.log.specs.declared.Cursor.{Cursor}
 use Rattle.log.specs.declared.WalkStep.{WalkStep}
-use Rattle.log.specs.Commands.{isRefused}
+use Rattle.log_command.specs.Commands.{isRefused}
 use Rattle.log.specs.Step.{stepAt, startCursor}
 use Rattle.log.specs.Walk.{commandsFrom, walk}
 use Rattle.log_plain.specs.declared.Place.{Place}
@@ -31,10 +31,10 @@ commands-from (suc calls) log p =
         → let w = answerOf (s .command) (plainOf (s .next)) in
         CommandsOf (cond (eqb (w .refusal) 0) (answersFrom calls log (w .next)) []) (cond (isRefused (s .command)) [] (commandsFrom calls log (s .next)))
     go on s (refused number place a b w) = rw (ne-eqb number 0 (λ e. omega (arith, w .least))) none
-    go on s (head a b f r) = on (s .next)
-    go on s (block h k a r g b f o q) = on (s .next)
-    go on s (still h k a r g b f) = on (s .next)
-    go on s (end h k a r g b f n) = on (s .next)
+    go on s (head a t r) = on (s .next)
+    go on s (block h k a r g t o q) = on (s .next)
+    go on s (still h k a r g t) = on (s .next)
+    go on s (end h k a r g t n) = on (s .next)
 
 pub plain-walk : (log : List ℕ) (calls : ℕ) → length log < calls → CommandsOf (answersFrom calls log (plainOf startCursor)) (walk log)
 unfolding walk phaseOf

@@ -10,12 +10,12 @@ use lib.ListN.{length, take, drop, length-append}
 use lib.Seq.{take-append-seam, length-take-le}
 use Rattle.base.specs.Lists.{Each}
 use Rattle.log_head.specs.declared.Head.{Head}
-use Rattle.log.specs.declared.Command.the-variants as Cmd
-use Rattle.log.specs.Commands.{commandNumber, commandBytes}
+use Rattle.log_command.specs.declared.Command.the-variants as Cmd
+use Rattle.log_command.specs.Commands.{commandNumber, commandBytes, commandHead}
 use Rattle.log_head.specs.Heads.{headBlocks}
-use Rattle.log.specs.Logs.{logCommands, logOf}
-use Rattle.log.specs.Step.{headIn}
-use Rattle.log.specs.Walk.{walk, lastOf}
+use Rattle.log_command.specs.Logs.{logCommands, logOf}
+use Rattle.log.specs.declared.WalkStep.{WalkStep}
+use Rattle.log.specs.Walk.{walk, logHead, lastOf}
 use Rattle.log_writing.specs.Writing.{writeResult, writeLog}
 use Rattle.log_reading.specs.Reading.{fieldOf, acceptedRead, readResult, readLog}
 use Rattle.base.specs.Fronts.{flatMap-append}
@@ -24,7 +24,7 @@ use Rattle.log_walks.proofs.Accepted.{acceptedLog, field-length}
 use Rattle.log_walks.proofs.Sound.{sound}
 use Rattle.log_walks.proofs.Whole.{whole}
 use Rattle.log_walks.proofs.Entries.{entries}
-use Rattle.log_walks.proofs.Steps.{headIn-there}
+use Rattle.log_walks.proofs.Steps.{head-step}
 use Rattle.log_walks.proofs.Complete.{complete}
 use Rattle.log_round_trip.specs.RoundTrip.{RoundTrip}
 use Rattle.log_round_trip.proofs.Writing as WriteResult
@@ -44,9 +44,9 @@ module _ (h : Head) (list : List ℤ) (buffer : List ℕ) (e : writeLog h list b
   walked : walk (logOf h list) ≡ logCommands h list ++ (Cmd.Refused 34 0 ∷ [])
   walked = complete h list (passed .head) (passed .entries)
 
-  head-back : headIn (logOf h list) 0 ≡ h
+  head-back : logHead (logOf h list) ≡ h
   unfolding logOf logCommands flatMap
-  head-back = headIn-there h _
+  head-back = ap (λ (s : WalkStep). commandHead (s .command)) (head-step h _ (passed .head))
 
   field-back : fieldOf (walk (logOf h list)) ≡ take (3 * headBlocks h) list
   field-back = rw walked (field-is h list (passed .head) (passed .entries) (passed .listed))
@@ -64,7 +64,7 @@ module _ (log : List ℕ) (bytes : Each (λ (b : ℕ). b < 256) log) (list : Lis
   ended = ReadResult.passed log list e .ended
 
   abbrev head : Head
-  head = headIn log 0
+  head = logHead log
 
   abbrev field : List ℤ
   field = fieldOf (walk log)
@@ -104,7 +104,7 @@ module _ (log : List ℕ) (bytes : Each (λ (b : ℕ). b < 256) log) (list : Lis
       ∙ rw same-log)
 
 accepted-alike : (log : List ℕ) (list : List ℤ)
-    → (readLog log list .answer .refusal ≡ 0) ↔ ((commandNumber (lastOf (walk log)) ≡ 34) × (3 * headBlocks (headIn log 0) ≤ length list))
+    → (readLog log list .answer .refusal ≡ 0) ↔ ((commandNumber (lastOf (walk log)) ≡ 34) × (3 * headBlocks (logHead log) ≤ length list))
 accepted-alike log list = (
   λ e. let p = ReadResult.passed log list e in (p .ended, p .room),
   λ p. rw (ReadResult.reads log list (record { ended = p .0; room = p .1 })),

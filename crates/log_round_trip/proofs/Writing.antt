@@ -13,7 +13,7 @@ use lib.ListN.{length, drop}
 use Rattle.refusals.specs.Refusals.{unless, unless-zero, first-refusal-zero, first-refusal-none}
 use Rattle.log_head.specs.declared.Head.{Head}
 use Rattle.log_head.specs.Heads.{headRefusal, headBlocks}
-use Rattle.log.specs.Logs.{logOf}
+use Rattle.log_command.specs.Logs.{logOf}
 use Rattle.log_writing.specs.Writing.{listRefusal, listedOk, firstWrong, WriteResult, writeResult, refusedWrite, writeListed, writeLog}
 
 -- ---- 16: the first wrong block

@@ -2,7 +2,7 @@
 -- From below come, as the contracts of the code cite them:
 --   writeLog      what writing answers, with the buffer afterwards (crates/log_writing); logOf, logCommands: the log of a head and a list, as bytes and as commands
 --   readLog   what reading answers, with the list afterwards (crates/log_reading); fieldOf: the list that a walk's blocks make
---   stepAt     one call of the walker, from any cursor (crates/log); commandsFrom: the commands of so many calls; walk: of all, from the log's start
+--   stepAt     one call of the walker, from any cursor (crates/log); commandsFrom: the commands of so many calls; walk: of all, from the log's start; logHead: the head that the first hands out
 --   answersFrom   the answers of the plain call, each from the place that the one before handed back, until a refusal (crates/log_plain); CommandsOf: they tell these commands
 use Prim.Native.Nat.{ℕ, _+_, _*_, _≤_, _<_}
 use mathlib.Core.Path.{_≡_}
@@ -14,12 +14,12 @@ use lib.ListN.{length, take, drop}
 use Rattle.base.specs.Lists.{Each}
 use Rattle.log_head.specs.declared.Head.{Head}
 use Rattle.log.specs.declared.Cursor.{Cursor}
-use Rattle.log.specs.declared.Command.the-variants as Cmd
-use Rattle.log.specs.Commands.{commandNumber, isRefused}
+use Rattle.log_command.specs.declared.Command.the-variants as Cmd
+use Rattle.log_command.specs.Commands.{commandNumber, isRefused}
 use Rattle.log_head.specs.Heads.{headBlocks}
-use Rattle.log.specs.Logs.{logCommands, logOf}
-use Rattle.log.specs.Step.{headIn, stepAt, startCursor}
-use Rattle.log.specs.Walk.{commandsFrom, walk, lastOf}
+use Rattle.log_command.specs.Logs.{logCommands, logOf}
+use Rattle.log.specs.Step.{stepAt, startCursor}
+use Rattle.log.specs.Walk.{commandsFrom, walk, logHead, lastOf}
 use Rattle.log_plain.specs.Plain.{plainOf, answersFrom, CommandsOf}
 use Rattle.log_writing.specs.Writing.{writeResult, writeLog}
 use Rattle.log_reading.specs.Reading.{fieldOf, acceptedRead, readResult, readLog}
@@ -37,12 +37,12 @@ pub record RoundTrip : Type 0 where
       → (buffer : List ℕ) → length log ≤ length buffer
       → writeLog (readLog log list .answer .head) (readLog log list .list) buffer
       ≡ writeResult (record { refusal = 0; place = 0; length = length log }) (log ++ drop (length log) buffer)
-  -- ReadResult accepts a log just where the walker does, by 34 at its end, and the list is long enough.
+  -- Reading accepts a log just where the walker does, by 34 at its end, and the list is long enough.
   pub accepted-alike : (log : List ℕ) (list : List ℤ)
-      → (readLog log list .answer .refusal ≡ 0) ↔ ((commandNumber (lastOf (walk log)) ≡ 34) × (3 * headBlocks (headIn log 0) ≤ length list))
+      → (readLog log list .answer .refusal ≡ 0) ↔ ((commandNumber (lastOf (walk log)) ≡ 34) × (3 * headBlocks (logHead log) ≤ length list))
   -- The walker's commands over an accepted log are the log's, one head, all grid blocks in order, one end, and then 34.
   pub accepted-walk : (log : List ℕ) → commandNumber (lastOf (walk log)) ≡ 34
-      → walk log ≡ logCommands (headIn log 0) (fieldOf (walk log)) ++ (Cmd.Refused 34 0 ∷ [])
+      → walk log ≡ logCommands (logHead log) (fieldOf (walk log)) ++ (Cmd.Refused 34 0 ∷ [])
   -- The walker ends: from any cursor, length + 1 calls meet a refusal,
   pub walker-ends : (log : List ℕ) (c : Cursor) → isRefused (lastOf (commandsFrom (length log + 1) log c)) ≡ true
   -- and after it the next call answers 34 and leaves the walker where it stood: so does every further call.

@@ -3,7 +3,7 @@
 --   told       what a call hands out
 --   nextWalker   the walker after it: the same lent log, at the next cursor
 use denote.Ref.{now}
-use Rattle.log.specs.declared.Command.{Command}
+use Rattle.log_command.specs.declared.Command.{Command}
 use Rattle.log.specs.Step.{stepAt}
 use Rattle.log_walker.specs.declared.Walker.{Walker}
 

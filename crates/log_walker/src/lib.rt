@@ -3,8 +3,8 @@
 ghost use mathlib.Core.Path.{_≡_};
 ghost use Rattle.log.specs.Step.{startCursor};
 ghost use Rattle.log_walker.specs.Walkers.{nextCommand, nextWalker};
-use log::Command;
 use log::Cursor;
+use log_command::Command;
 
 // A log that is walked, and where the walk stands.
 pub struct Walker<'a> {

@@ -15,35 +15,37 @@ use lib.ListN.{length, getD}
 use Rattle.log_head.specs.declared.Head.{Head}
 use Rattle.log.specs.declared.Phase.the-variants.{Body, Ended}
 use Rattle.log.specs.declared.Cursor.{Cursor}
-use Rattle.log.specs.declared.Command.{Command}
-use Rattle.log.specs.declared.Command.the-variants as Cmd
+use Rattle.log_command.specs.declared.Command.{Command}
+use Rattle.log_command.specs.declared.Command.the-variants as Cmd
 use Rattle.log.specs.declared.WalkStep.{WalkStep}
-use Rattle.log.specs.Numbers.{be4}
-use Rattle.log.specs.Commands.{commandNumber, isRefused, blockValues}
+use Rattle.log_command.specs.Numbers.{be4}
+use Rattle.log_command.specs.Commands.{commandNumber, commandSize, commandHead, isRefused, blockValues}
 use Rattle.log_head.specs.Heads.{headRefusal, headBlocks, entryOk, isStill}
-use Rattle.log.specs.Step.{headIn, standingOk, stepAt, startCursor, dyAt, dxAt, distortionAt}
-use Rattle.log.specs.Walk.{commandsFrom, walk, lastOf}
-use Rattle.log_walks.specs.Cases.{NoMore, past, unsound, ended, over, Kind, kinds}
+use Rattle.log.specs.Step.{commandStep, standingOk, stepAt, startCursor}
+use Rattle.log_command.specs.Operands.{headIn, blockIn, dyIn, dxIn, distortionIn}
+use Rattle.log.specs.Walk.{commandsFrom, walk, logHead, lastOf}
+use Rattle.log_walks.specs.Cases.{NoMore, Stands, past, unsound, ended, over, Kind, kinds}
 use Rattle.log_walks.specs.Cases as Cases
 use Rattle.log_walks.proofs.Ends.{last-after}
 
 pub data AcceptedFrom (log : List ℕ) (h : Head) : ℕ → ℕ → List Command → Type 0 where
-  last : {at k : ℕ} → k ≡ headBlocks h → getD log at 0 ≡ 4 → at + 5 ≡ length log → be4 log (at + 1) ≡ headBlocks h
+  last : {at k : ℕ} → k ≡ headBlocks h → Stands log at (Cmd.End (headBlocks h)) → at + commandSize (Cmd.End (headBlocks h)) ≡ length log
+      → be4 log (at + 1) ≡ headBlocks h
       → AcceptedFrom log h at k (Cmd.End (headBlocks h) ∷ Cmd.Refused 34 0 ∷ [])
-  block : {at k : ℕ} {cs : List Command} → k < headBlocks h → getD log at 0 ≡ 2 → at + 5 ≤ length log
-      → entryOk h k (dyAt log at) (dxAt log at) (pos (distortionAt log at)) ≡ true → isStill (dyAt log at) (dxAt log at) (pos (distortionAt log at)) ≡ false
-      → AcceptedFrom log h (at + 5) (k + 1) cs
-      → AcceptedFrom log h at k (Cmd.Block (dyAt log at) (dxAt log at) (distortionAt log at) ∷ cs)
-  still : {at k : ℕ} {cs : List Command} → k < headBlocks h → getD log at 0 ≡ 3 → at + 1 ≤ length log → AcceptedFrom log h (at + 1) (k + 1) cs
+  block : {at k : ℕ} {cs : List Command} → k < headBlocks h → Stands log at (blockIn log at)
+      → entryOk h k (dyIn log at) (dxIn log at) (pos (distortionIn log at)) ≡ true → isStill (dyIn log at) (dxIn log at) (pos (distortionIn log at)) ≡ false
+      → AcceptedFrom log h (at + commandSize (blockIn log at)) (k + 1) cs
+      → AcceptedFrom log h at k (blockIn log at ∷ cs)
+  still : {at k : ℕ} {cs : List Command} → k < headBlocks h → Stands log at Cmd.Still → AcceptedFrom log h (at + commandSize Cmd.Still) (k + 1) cs
       → AcceptedFrom log h at k (Cmd.Still ∷ cs)
 
 pub record Accepted (log : List ℕ) : Type 0 where
-  pub begins : getD log 0 0 ≡ 1
-  pub room : 8 ≤ length log
-  pub ok : headRefusal (headIn log 0) ≡ 0
+  pub begins : Stands log 0 (Cmd.Head (headIn log 0))
+  pub is : logHead log ≡ headIn log 0
+  pub ok : headRefusal (logHead log) ≡ 0
   pub commands : List Command
-  pub rest : AcceptedFrom log (headIn log 0) 8 0 commands
-  pub whole : walk log ≡ Cmd.Head (headIn log 0) ∷ commands
+  pub rest : AcceptedFrom log (logHead log) (commandSize (Cmd.Head (logHead log))) 0 commands
+  pub whole : walk log ≡ Cmd.Head (logHead log) ∷ commands
 
 -- ---- after the end
 
@@ -59,7 +61,7 @@ module _ (log : List ℕ) (at : ℕ) (inside : at ≤ length log) where
     where
       why : NoMore log at-end → length log ≤ at
       why (past l) = omega arith
-      why (unsound q) = let z : _≡_ {A = ℕ} 0 1 = cc in absurd (omega arith)
+      why (unsound h k q f) = let z : _≡_ {A = ℕ} 0 1 = cc in absurd (omega arith)
       why (ended q l) = l
       why (over q) = let z : _≡_ {A = ℕ} 0 1 = cc in absurd (omega arith)
 
@@ -67,10 +69,10 @@ module _ (log : List ℕ) (at : ℕ) (inside : at ≤ length log) where
           → commandNumber (lastOf (s .command ∷ cond (isRefused (s .command)) [] (commandsFrom calls log (s .next)))) ≡ 34
           → (s .command ∷ cond (isRefused (s .command)) [] (commandsFrom calls log (s .next)) ≡ Cmd.Refused 34 0 ∷ []) × (length log ≤ at)
       go s (Cases.refused number place a b w) e = ((let q : place ≡ 0 = w .over e .0 in rw (e, q)), why (w .over e .1))
-      go s (Cases.head q b f r) e = let z : _≡_ {A = ℕ} 0 1 = cc in absurd (omega arith)
-      go s (Cases.block h k q r g b f o t) e = let z : _≡_ {A = ℕ} 0 1 = cc in absurd (omega arith)
-      go s (Cases.still h k q r g b f) e = let z : _≡_ {A = ℕ} 0 1 = cc in absurd (omega arith)
-      go s (Cases.end h k q r g b f n) e = let z : _≡_ {A = ℕ} 0 1 = cc in absurd (omega arith)
+      go s (Cases.head q t r) e = let z : _≡_ {A = ℕ} 0 1 = cc in absurd (omega arith)
+      go s (Cases.block h k q r g t o u) e = let z : _≡_ {A = ℕ} 0 1 = cc in absurd (omega arith)
+      go s (Cases.still h k q r g t) e = let z : _≡_ {A = ℕ} 0 1 = cc in absurd (omega arith)
+      go s (Cases.end h k q r g t n) e = let z : _≡_ {A = ℕ} 0 1 = cc in absurd (omega arith)
 
 -- ---- among the blocks
 
@@ -90,7 +92,10 @@ module _ (log : List ℕ) (h : Head) (ok : headRefusal h ≡ 0) where
 
   not-over : (at k : ℕ) → k ≤ headBlocks h → at ≤ length log → NoMore log (body at k) → ⊥
   not-over at k l m (past q) = omega arith
-  not-over at k l m (unsound q) = let z : _≡_ {A = ℕ} 0 1 = cc (standing k l) in omega arith
+  not-over at k l m (unsound h′ k′ q f) =
+      let e : standingOk h k ≡ false = cc in
+      let z : _≡_ {A = ℕ} 0 1 = cc (standing k l) in
+      omega arith
   not-over at k l m (ended q n) = let z : _≡_ {A = ℕ} 0 1 = cc in omega arith
   not-over at k l m (over q) = let z : _≡_ {A = ℕ} 0 1 = cc in omega arith
 
@@ -114,22 +119,22 @@ module _ (log : List ℕ) (h : Head) (ok : headRefusal h ≡ 0) where
     one-more : Walked calls → (s : WalkStep) → Kind log (body at k) s → commandNumber (lastOf (called s)) ≡ 34 → AcceptedFrom log h at k (called s)
     unfolding lastOf
     one-more walked s (Cases.refused number place a b w) e = absurd (not-over at k l m (w .over e .1))
-    one-more walked s (Cases.head q b f r) e = let z : _≡_ {A = ℕ} 0 1 = cc in absurd (omega arith)
-    one-more walked s (Cases.block h′ k′ q r g b f o t) e =
+    one-more walked s (Cases.head q t r) e = let z : _≡_ {A = ℕ} 0 1 = cc in absurd (omega arith)
+    one-more walked s (Cases.block h′ k′ q r g t o u) e =
         let eh : h′ ≡ h = cc in
         let ek : k′ ≡ k = cc in
-        let x = after-block _ (at + 5) h′ k′ eh ek g (omega arith) f walked e in
-        block (x .0) b f (rw (eh, ek) at o) t (x .1)
-    one-more walked s (Cases.still h′ k′ q r g b f) e =
+        let x = after-block _ (at + commandSize (blockIn log at)) h′ k′ eh ek g (omega arith) (t .room) walked e in
+        block (x .0) t (rw (eh, ek) at o) u (x .1)
+    one-more walked s (Cases.still h′ k′ q r g t) e =
         let eh : h′ ≡ h = cc in
         let ek : k′ ≡ k = cc in
-        let x = after-block _ (at + 1) h′ k′ eh ek g (omega arith) f walked e in
-        still (x .0) b f (x .1)
-    one-more walked s (Cases.end h′ k′ q r g b f n) e =
+        let x = after-block _ (at + commandSize Cmd.Still) h′ k′ eh ek g (omega arith) (t .room) walked e in
+        still (x .0) t (x .1)
+    one-more walked s (Cases.end h′ k′ q r g t n) e =
         let eh : h′ ≡ h = cc in
         let ek : k′ ≡ k = cc in
-        let x = after-end log (at + 5) f calls (omega arith) (sym (ap commandNumber (last-after _ calls log _ (omega arith))) ∙ e) in
-        rw (eh, x .0) (last (rw (eh, ek) at g) b (omega arith) (rw eh at n))
+        let x = after-end log (at + commandSize (Cmd.End (headBlocks h′))) (t .room) calls (omega arith) (sym (ap commandNumber (last-after _ calls log _ (omega arith))) ∙ e) in
+        rw (eh, x .0) (last (rw (eh, ek) at g) (rw eh at t) (omega (arith, x .1, t .room)) (rw eh at n))
 
   walked-all : (calls : ℕ) → Walked calls
   unfolding Walked commandsFrom
@@ -146,53 +151,59 @@ walk-begins log = rw add-one
 
 -- a first call that is not refused hands out a head
 pub begun : (log : List ℕ) → isRefused (stepAt log startCursor .command) ≡ false
-    → (8 ≤ length log) × (headRefusal (headIn log 0) ≡ 0) × (stepAt log startCursor .next ≡ record { at = 8; phase = Body (headIn log 0) 0 })
+    → (headRefusal (logHead log) ≡ 0) × (commandSize (Cmd.Head (logHead log)) ≤ length log)
+    × (stepAt log startCursor ≡ commandStep (Cmd.Head (logHead log)) 0 (Body (logHead log) 0))
 begun log = go (stepAt log startCursor) (kinds log startCursor)
   where
     go : (s : WalkStep) → Kind log startCursor s → isRefused (s .command) ≡ false
-        → (8 ≤ length log) × (headRefusal (headIn log 0) ≡ 0) × (s .next ≡ record { at = 8; phase = Body (headIn log 0) 0 })
+        → let h = commandHead (s .command) in
+        (headRefusal h ≡ 0) × (commandSize (Cmd.Head h) ≤ length log) × (s ≡ commandStep (Cmd.Head h) 0 (Body h 0))
     go s (Cases.refused number place a b w) e = let z : _≡_ {A = ℕ} 0 1 = cc in absurd (omega arith)
-    go s (Cases.head q b f r) e = (f, r, refl)
-    go s (Cases.block h k q r g b f o t) e = let z : _≡_ {A = ℕ} 0 1 = cc in absurd (omega arith)
-    go s (Cases.still h k q r g b f) e = let z : _≡_ {A = ℕ} 0 1 = cc in absurd (omega arith)
-    go s (Cases.end h k q r g b f n) e = let z : _≡_ {A = ℕ} 0 1 = cc in absurd (omega arith)
+    go s (Cases.head q t r) e = (r, t .room, refl)
+    go s (Cases.block h k q r g t o u) e = let z : _≡_ {A = ℕ} 0 1 = cc in absurd (omega arith)
+    go s (Cases.still h k q r g t) e = let z : _≡_ {A = ℕ} 0 1 = cc in absurd (omega arith)
+    go s (Cases.end h k q r g t n) e = let z : _≡_ {A = ℕ} 0 1 = cc in absurd (omega arith)
 
 pub acceptedLog : (log : List ℕ) → commandNumber (lastOf (walk log)) ≡ 34 → Accepted log
 unfolding Walked lastOf
-acceptedLog log e = go (stepAt log startCursor) (kinds log startCursor) (walk-begins log) (ap (λ (cs : List Command). commandNumber (lastOf cs)) (sym (walk-begins log)) ∙ e)
+acceptedLog log e = go (stepAt log startCursor) (kinds log startCursor) refl (walk-begins log) (ap (λ (cs : List Command). commandNumber (lastOf cs)) (sym (walk-begins log)) ∙ e)
   where
     not-over-yet : NoMore log startCursor → ⊥
     not-over-yet (past q) = omega arith
-    not-over-yet (unsound q) = let z : _≡_ {A = ℕ} 0 1 = cc in omega arith
+    not-over-yet (unsound h k q f) = let z : _≡_ {A = ℕ} 0 1 = cc in omega arith
     not-over-yet (ended q n) = let z : _≡_ {A = ℕ} 0 1 = cc in omega arith
     not-over-yet (over q) = let z : _≡_ {A = ℕ} 0 1 = cc in omega arith
 
-    go : (s : WalkStep) → Kind log startCursor s → walk log ≡ s .command ∷ cond (isRefused (s .command)) [] (commandsFrom (length log) log (s .next))
+    go : (s : WalkStep) → Kind log startCursor s → logHead log ≡ commandHead (s .command)
+        → walk log ≡ s .command ∷ cond (isRefused (s .command)) [] (commandsFrom (length log) log (s .next))
         → commandNumber (lastOf (s .command ∷ cond (isRefused (s .command)) [] (commandsFrom (length log) log (s .next)))) ≡ 34 → Accepted log
-    go s (Cases.refused number place a b w) is e = absurd (not-over-yet (w .over e .1))
-    go s (Cases.head q b f r) is e =
+    go s (Cases.refused number place a b w) i is e = absurd (not-over-yet (w .over e .1))
+    go s (Cases.head q t r) i is e =
+        let h = headIn log 0 in
+        let from = commandSize (Cmd.Head h) in
         record {
-          begins = b;
-          room = f;
-          ok = r;
-          commands = commandsFrom (length log) log (body log (headIn log 0) r 8 0);
+          begins = t;
+          is = i;
+          ok = rw i r;
+          commands = commandsFrom (length log) log (body log h r from 0);
           rest =
-              walked-all log (headIn log 0) r (length log) 8 0 (omega arith) f (omega arith)
-              (sym (ap commandNumber (last-after _ (length log) log (body log (headIn log 0) r 8 0) (omega arith))) ∙ e);
-          whole = is;
+              rw i
+              (walked-all log h r (length log) from 0 (omega arith) (t .room) (omega arith)
+              (sym (ap commandNumber (last-after _ (length log) log (body log h r from 0) (omega arith))) ∙ e));
+          whole = rw i is;
         }
-    go s (Cases.block h k q r g b f o t) is e = let z : _≡_ {A = ℕ} 0 1 = cc in absurd (omega arith)
-    go s (Cases.still h k q r g b f) is e = let z : _≡_ {A = ℕ} 0 1 = cc in absurd (omega arith)
-    go s (Cases.end h k q r g b f n) is e = let z : _≡_ {A = ℕ} 0 1 = cc in absurd (omega arith)
+    go s (Cases.block h k q r g t o u) i is e = let z : _≡_ {A = ℕ} 0 1 = cc in absurd (omega arith)
+    go s (Cases.still h k q r g t) i is e = let z : _≡_ {A = ℕ} 0 1 = cc in absurd (omega arith)
+    go s (Cases.end h k q r g t n) i is e = let z : _≡_ {A = ℕ} 0 1 = cc in absurd (omega arith)
 
 -- ---- how long its field is
 
 rest-values : {log : List ℕ} {h : Head} {at k : ℕ} {cs : List Command} → AcceptedFrom log h at k cs → length (flatMap blockValues cs) + 3 * k ≡ 3 * headBlocks h
 unfolding flatMap
-rest-values (last e b f n) = omega arith
-rest-values (block l b f o t rest) = omega (arith, rest-values rest)
-rest-values (still l b f rest) = omega (arith, rest-values rest)
+rest-values (last e t f n) = omega arith
+rest-values (block l t o u rest) = omega (arith, rest-values rest)
+rest-values (still l t rest) = omega (arith, rest-values rest)
 
-pub field-length : (log : List ℕ) → commandNumber (lastOf (walk log)) ≡ 34 → length (flatMap blockValues (walk log)) ≡ 3 * headBlocks (headIn log 0)
+pub field-length : (log : List ℕ) → commandNumber (lastOf (walk log)) ≡ 34 → length (flatMap blockValues (walk log)) ≡ 3 * headBlocks (logHead log)
 unfolding flatMap
 field-length log e = let a = acceptedLog log e in rw (a .whole) (omega (arith, rest-values (a .rest)))

@@ -5,7 +5,7 @@ use mathlib.Core.List.{List, [], _∷_, _++_}
 use native.Mathlib.Omega.{arith}
 use lib.ListN.{getD}
 use Rattle.base.specs.Lists.{Each, none, more}
-use Rattle.log.specs.Numbers.{be2, be4, bytes2, bytes4}
+use Rattle.log_command.specs.Numbers.{be2, be4, bytes2, bytes4}
 
 -- every number of the list is a byte
 abbrev pub Bytes : List ℕ → Type 0

@@ -10,11 +10,11 @@ use Rattle.base.specs.Lists.{listTo}
 use Rattle.log_head.specs.declared.Head.{Head}
 use Rattle.log.specs.declared.Phase.the-variants.{Body, Ended}
 use Rattle.log.specs.declared.Cursor.{Cursor}
-use Rattle.log.specs.declared.Command.{Command}
-use Rattle.log.specs.declared.Command.the-variants as Cmd
-use Rattle.log.specs.Commands.{commandBytes, isRefused}
+use Rattle.log_command.specs.declared.Command.{Command}
+use Rattle.log_command.specs.declared.Command.the-variants as Cmd
+use Rattle.log_command.specs.Commands.{commandBytes, commandSize, isRefused}
 use Rattle.log_head.specs.Heads.{headRefusal, headBlocks, entryOk}
-use Rattle.log.specs.Logs.{valueOf, blockCommand, logCommands, logOf}
+use Rattle.log_command.specs.Logs.{valueOf, blockCommand, logCommands, logOf}
 use Rattle.log.specs.Step.{commandStep, refusedStep, stepAt, startCursor}
 use Rattle.log.specs.Walk.{commandsFrom, walk}
 use Rattle.base.specs.Fronts.{listFrom, listTo-from}
@@ -59,10 +59,11 @@ module _ (h : Head) (list : List ℤ) (ok : headRefusal h ≡ 0)
       → commandsFrom calls log (body at k) ≡ listFrom (blockCommand list) k n ++ (Cmd.End (headBlocks h) ∷ Cmd.Refused 34 0 ∷ [])
   unfolding listFrom flatMap
   rest-walked zero at k calls e enough goes =
-      let m : at + 5 ≤ length log = room log at (commandBytes (Cmd.End (headBlocks h))) [] goes (omega arith) in
-      let n : length log ≤ at + 5 = omega (arith, length-drop at log, ap length goes) in
+      let to = at + commandSize (Cmd.End (headBlocks h)) in
+      let m : to ≤ length log = room log at (commandBytes (Cmd.End (headBlocks h))) [] goes (omega arith) in
+      let n : length log ≤ to = omega (arith, length-drop at log, ap length goes) in
       call-on calls log (body at k) _ _ (omega arith) (end-step log at h k ok (omega arith) [] goes) refl
-      ∙ ap (_∷_ (Cmd.End (headBlocks h))) (call-away (calls - 1) log (record { at = at + 5; phase = Ended }) _ 34 0 (omega arith) (ended-step log (at + 5) (omega arith)))
+      ∙ ap (_∷_ (Cmd.End (headBlocks h))) (call-away (calls - 1) log (record { at = to; phase = Ended }) _ 34 0 (omega arith) (ended-step log to (omega arith)))
   rest-walked (suc n) at k calls e enough goes =
       let bytes = commandBytes (blockCommand list k) in
       let rest = flatMap commandBytes (listFrom (blockCommand list) (k + 1) n ++ (Cmd.End (headBlocks h) ∷ [])) in
@@ -83,7 +84,7 @@ complete h list ok entries =
     let from = listTo-from (blockCommand list) (headBlocks h) in
     call-on (length log + 1) log startCursor (Cmd.Head h) _ (omega arith) (head-step h rest ok) refl
     ∙ ap (_∷_ (Cmd.Head h))
-    (rest-walked h list ok entries log (headBlocks h) 8 0 (length log + 1 - 1) (omega arith) (omega arith)
+    (rest-walked h list ok entries log (headBlocks h) (commandSize (Cmd.Head h)) 0 (length log + 1 - 1) (omega arith) (omega arith)
     (ap (λ (cs : List Command). flatMap commandBytes (cs ++ end)) from)
     ∙ ap (λ (cs : List Command). cs ++ (Cmd.End (headBlocks h) ∷ Cmd.Refused 34 0 ∷ [])) (sym from)
     ∙ sym (append-assoc blocks end (Cmd.Refused 34 0 ∷ [])))

@@ -7,10 +7,10 @@ use native.Mathlib.Omega.{arith}
 use lib.Dec.{ltb}
 use lib.ListN.{length}
 use Rattle.log.specs.declared.Cursor.{Cursor}
-use Rattle.log.specs.declared.Command.{Command}
-use Rattle.log.specs.declared.Command.the-variants as Cmd
+use Rattle.log_command.specs.declared.Command.{Command}
+use Rattle.log_command.specs.declared.Command.the-variants as Cmd
 use Rattle.log.specs.declared.WalkStep.{WalkStep}
-use Rattle.log.specs.Commands.{commandNumber, isRefused}
+use Rattle.log_command.specs.Commands.{commandNumber, isRefused}
 use Rattle.log.specs.Step.{refusedStep, stepAt}
 use Rattle.log.specs.Walk.{commandsFrom, walk, lastOf}
 use Rattle.log_walks.specs.Cases.{Kind, refused, head, block, still, end, kinds}
@@ -19,10 +19,10 @@ use Rattle.log_walks.specs.Cases.{Kind, refused, head, block, still, end
 pub goes-on : (log : List ℕ) (c : Cursor) (s : WalkStep) → Kind log c s → isRefused (s .command) ≡ false
     → (c .at < s .next .at) × (s .next .at ≤ length log)
 goes-on log c s (refused number place a b w) e = let z : _≡_ {A = ℕ} 0 1 = cc in absurd (omega arith)
-goes-on log c s (head p b f r) e = (omega arith, f)
-goes-on log c s (block h k p r g b f o q) e = (omega arith, f)
-goes-on log c s (still h k p r g b f) e = (omega arith, f)
-goes-on log c s (end h k p r g b f n) e = (omega arith, f)
+goes-on log c s (head p t r) e = (omega arith, t .room)
+goes-on log c s (block h k p r g t o q) e = (omega arith, t .room)
+goes-on log c s (still h k p r g t) e = (omega arith, t .room)
+goes-on log c s (end h k p r g t n) e = (omega arith, t .room)
 
 -- a refusal's number is 13 or more
 pub refused-number : (log : List ℕ) (c : Cursor) → isRefused (stepAt log c .command) ≡ true → 13 ≤ commandNumber (stepAt log c .command)
@@ -30,10 +30,10 @@ refused-number log c = go (stepAt log c) (kinds log c)
   where
     go : (s : WalkStep) → Kind log c s → isRefused (s .command) ≡ true → 13 ≤ commandNumber (s .command)
     go s (refused number place a b w) e = w .least
-    go s (head p b f r) e = let z : _≡_ {A = ℕ} 0 1 = cc in absurd (omega arith)
-    go s (block h k p r g b f o q) e = let z : _≡_ {A = ℕ} 0 1 = cc in absurd (omega arith)
-    go s (still h k p r g b f) e = let z : _≡_ {A = ℕ} 0 1 = cc in absurd (omega arith)
-    go s (end h k p r g b f n) e = let z : _≡_ {A = ℕ} 0 1 = cc in absurd (omega arith)
+    go s (head p t r) e = let z : _≡_ {A = ℕ} 0 1 = cc in absurd (omega arith)
+    go s (block h k p r g t o q) e = let z : _≡_ {A = ℕ} 0 1 = cc in absurd (omega arith)
+    go s (still h k p r g t) e = let z : _≡_ {A = ℕ} 0 1 = cc in absurd (omega arith)
+    go s (end h k p r g t n) e = let z : _≡_ {A = ℕ} 0 1 = cc in absurd (omega arith)
 
 -- "34 walker called after a refusal": it answers 34 and stands where it stood, and so at every further call
 pub over-stays : (log : List ℕ) (c : Cursor) → isRefused (stepAt log c .command) ≡ true
@@ -47,10 +47,10 @@ over-stays log c = go (stepAt log c) (kinds log c)
 
     go : (s : WalkStep) → Kind log c s → isRefused (s .command) ≡ true → stepAt log (s .next) ≡ record { command = Cmd.Refused 34 0; next = s .next }
     go s (refused number place a b w) e = same (ltb (length log) (c .at))
-    go s (head p b f r) e = cc
-    go s (block h k p r g b f o q) e = cc
-    go s (still h k p r g b f) e = cc
-    go s (end h k p r g b f n) e = cc
+    go s (head p t r) e = cc
+    go s (block h k p r g t o q) e = cc
+    go s (still h k p r g t) e = cc
+    go s (end h k p r g t n) e = cc
 
 -- the last of a walk that goes on
 pub last-after : (x : Command) (calls : ℕ) (log : List ℕ) (c : Cursor) → 0 < calls → lastOf (x ∷ commandsFrom calls log c) ≡ lastOf (commandsFrom calls log c)

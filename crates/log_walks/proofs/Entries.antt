@@ -12,12 +12,11 @@ use Rattle.frame.specs.Grid.{blockRow, blockColumn, block-down, block-across}
 use Rattle.frame.specs.Candidates.{candidate, still-candidate}
 use Rattle.order.specs.Vectors.{vec}
 use Rattle.log_head.specs.declared.Head.{Head}
-use Rattle.log.specs.declared.Command.{Command}
-use Rattle.log.specs.Commands.{commandNumber, blockValues}
+use Rattle.log_command.specs.declared.Command.{Command}
+use Rattle.log_command.specs.Commands.{commandNumber, blockValues}
 use Rattle.log_head.specs.Heads.{sizesIn, headRefusal, headed, headBlocks, entryOk}
-use Rattle.log.specs.Logs.{valueOf}
-use Rattle.log.specs.Step.{headIn}
-use Rattle.log.specs.Walk.{walk, lastOf}
+use Rattle.log_command.specs.Logs.{valueOf}
+use Rattle.log.specs.Walk.{walk, logHead, lastOf}
 use Rattle.log_walks.proofs.Accepted.{AcceptedFrom, last, block, still, acceptedLog}
 use Rattle.log_walks.proofs.Whole.{value-next}
 
@@ -43,13 +42,13 @@ passes-next h k i a b c list p =
 rest-entries : {log : List ℕ} {h : Head} {at k : ℕ} {cs : List Command} → headRefusal h ≡ 0 → AcceptedFrom log h at k cs → (i : ℕ) → k + i < headBlocks h
     → Passes h (k + i) (flatMap blockValues cs) i
 unfolding flatMap
-rest-entries ok (last e b f m) i l = absurd (omega arith)
-rest-entries ok (block g b f o t rest) zero l = rw add-zero o
-rest-entries {h} {k} ok (block {cs = cs} g b f o t rest) (suc i) l = passes-next h k i _ _ _ (flatMap blockValues cs) (rest-entries ok rest i (omega arith))
-rest-entries {h} {k} ok (still g b f rest) zero l = rw add-zero (still-ok h ok k g)
-rest-entries {h} {k} ok (still {cs = cs} g b f rest) (suc i) l = passes-next h k i _ _ _ (flatMap blockValues cs) (rest-entries ok rest i (omega arith))
+rest-entries ok (last e t f m) i l = absurd (omega arith)
+rest-entries ok (block g t o u rest) zero l = rw add-zero o
+rest-entries {h} {k} ok (block {cs = cs} g t o u rest) (suc i) l = passes-next h k i _ _ _ (flatMap blockValues cs) (rest-entries ok rest i (omega arith))
+rest-entries {h} {k} ok (still g t rest) zero l = rw add-zero (still-ok h ok k g)
+rest-entries {h} {k} ok (still {cs = cs} g t rest) (suc i) l = passes-next h k i _ _ _ (flatMap blockValues cs) (rest-entries ok rest i (omega arith))
 
-pub entries : (log : List ℕ) → commandNumber (lastOf (walk log)) ≡ 34 → (k : ℕ) → k < headBlocks (headIn log 0) → Passes (headIn log 0) k (flatMap blockValues (walk log)) k
+pub entries : (log : List ℕ) → commandNumber (lastOf (walk log)) ≡ 34 → (k : ℕ) → k < headBlocks (logHead log) → Passes (logHead log) k (flatMap blockValues (walk log)) k
 unfolding flatMap
 entries log e k l =
     let a = acceptedLog log e in

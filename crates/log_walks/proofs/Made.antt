@@ -5,10 +5,10 @@ use mathlib.Core.Bool.{Bool, true, false, cond}
 use mathlib.Core.List.{List}
 use lib.IntN.{ℤ}
 use Rattle.signed.specs.Int.{up}
-use Rattle.log.specs.declared.Command.{Command}
-use Rattle.log.specs.declared.Command.the-variants as Cmd
+use Rattle.log_command.specs.declared.Command.{Command}
+use Rattle.log_command.specs.declared.Command.the-variants as Cmd
 use Rattle.log_head.specs.Heads.{isStill}
-use Rattle.log.specs.Logs.{valueOf, blockCommand}
+use Rattle.log_command.specs.Logs.{valueOf, blockCommand}
 
 pub data Made (dy dx z : ℤ) : Command → Type 0 where
   as-still : isStill dy dx z ≡ true → Made dy dx z Cmd.Still

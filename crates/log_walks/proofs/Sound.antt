@@ -8,12 +8,12 @@ use lib.Seq.{drop-length}
 use Rattle.base.specs.Lists.{listTo}
 use Rattle.signed.specs.Values.{byte-of-signed}
 use Rattle.log_head.specs.declared.Head.{Head}
-use Rattle.log.specs.declared.Command.{Command}
-use Rattle.log.specs.declared.Command.the-variants as Cmd
-use Rattle.log.specs.Numbers.{be4}
-use Rattle.log.specs.Commands.{commandNumber, commandBytes}
+use Rattle.log_command.specs.declared.Command.{Command}
+use Rattle.log_command.specs.declared.Command.the-variants as Cmd
+use Rattle.log_command.specs.Numbers.{be4}
+use Rattle.log_command.specs.Commands.{commandNumber, commandBytes}
 use Rattle.log_head.specs.Heads.{headBlocks}
-use Rattle.log.specs.Step.{headIn, dyAt, dxAt, distortionAt}
+use Rattle.log_command.specs.Operands.{headIn, blockIn}
 use Rattle.log.specs.Walk.{walk, lastOf}
 use Rattle.base.specs.Fronts.{drop-front}
 use Rattle.log_walks.proofs.Bytes.{Bytes, byte-at, bytes-be2, bytes-be4}
@@ -22,7 +22,7 @@ use Rattle.log_walks.proofs.Accepted.{AcceptedFrom, last, block, still,
 module _ {log : List ℕ} (bytes : Bytes log) where
   -- the bytes at an offset are those of the command there
   block-bytes : (at : ℕ) → getD log at 0 ≡ 2
-      → listTo (λ i. getD log (at + i) 0) 5 ≡ commandBytes (Cmd.Block (dyAt log at) (dxAt log at) (distortionAt log at))
+      → listTo (λ i. getD log (at + i) 0) 5 ≡ commandBytes (blockIn log at)
   unfolding listTo
   block-bytes at e =
       let z : at + 0 ≡ at = omega arith in
@@ -52,13 +52,15 @@ module _ {log : List ℕ} (bytes : Bytes log) where
 
   rest-bytes : {h : Head} {at k : ℕ} {cs : List Command} → AcceptedFrom log h at k cs → drop at log ≡ flatMap commandBytes cs
   unfolding flatMap
-  rest-bytes {h} {at} (last e b f n) =
-      drop-front log at 5 0 (omega arith) ∙ ap₂ _++_ (end-bytes at (headBlocks h) b n) (rw f (drop-length log))
-  rest-bytes {at} (block l b f o t rest) = drop-front log at 5 0 f ∙ ap₂ _++_ (block-bytes at b) (rest-bytes rest)
-  rest-bytes {at} (still l b f rest) = drop-front log at 1 0 f ∙ ap₂ _++_ (still-bytes at b) (rest-bytes rest)
+  rest-bytes {h} {at} (last e t f n) =
+      drop-front log at 5 0 (t .room) ∙ ap₂ _++_ (end-bytes at (headBlocks h) (t .byte) n) (rw f (drop-length log))
+  rest-bytes {at} (block l t o u rest) = drop-front log at 5 0 (t .room) ∙ ap₂ _++_ (block-bytes at (t .byte)) (rest-bytes rest)
+  rest-bytes {at} (still l t rest) = drop-front log at 1 0 (t .room) ∙ ap₂ _++_ (still-bytes at (t .byte)) (rest-bytes rest)
 
 pub sound : (log : List ℕ) → Bytes log → commandNumber (lastOf (walk log)) ≡ 34 → log ≡ flatMap commandBytes (walk log)
 unfolding flatMap
 sound log bytes e =
     let a = acceptedLog log e in
-    drop-front log 0 8 0 (a .room) ∙ ap₂ _++_ (head-bytes bytes (a .begins)) (rest-bytes bytes (a .rest)) ∙ ap (flatMap commandBytes) (sym (a .whole))
+    drop-front log 0 8 0 (a .begins .room)
+    ∙ ap₂ _++_ (head-bytes bytes (a .begins .byte) ∙ ap (λ (h : Head). commandBytes (Cmd.Head h)) (sym (a .is))) (rest-bytes bytes (a .rest))
+    ∙ ap (flatMap commandBytes) (sym (a .whole))

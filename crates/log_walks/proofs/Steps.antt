@@ -14,11 +14,12 @@ use Rattle.signed.specs.Values.{signed-byte-of}
 use Rattle.log_head.specs.declared.Head.{Head}
 use Rattle.log.specs.declared.Phase.the-variants.{Body, Ended}
 use Rattle.log.specs.declared.Cursor.{Cursor}
-use Rattle.log.specs.declared.Command.the-variants as Cmd
-use Rattle.log.specs.Numbers.{be2, be4}
-use Rattle.log.specs.Commands.{commandBytes}
+use Rattle.log_command.specs.declared.Command.the-variants as Cmd
+use Rattle.log_command.specs.Numbers.{be2, be4}
+use Rattle.log_command.specs.Commands.{commandBytes}
 use Rattle.log_head.specs.Heads.{headRefusal, headBlocks, entryOk, isStill, entry}
-use Rattle.log.specs.Step.{refusedStep, commandStep, judged, headIn, headTaken, blockTaken, endTaken, byCommand, commandAt, standingOk, stepAt, startCursor}
+use Rattle.log.specs.Step.{refusedStep, commandStep, judged, headTaken, blockTaken, endTaken, startCommand, bodyCommand, bodyStep, standingOk, stepAt, startCursor}
+use Rattle.log_command.specs.Operands.{headIn}
 
 -- ---- a log that goes on with some bytes at an offset
 
@@ -50,16 +51,15 @@ module _ (log : List ℕ) (at : ℕ) (h : Head) (k : ℕ) (ok : headRefusal h �
   abbrev here : Cursor
   here = record { at = at; phase = Body h k }
 
-  -- the command byte decides
-  pub decides : k ≤ headBlocks h → at < length log → stepAt log here ≡ byCommand (getD log at 0) log at (Body h k)
-  unfolding stepAt standingOk commandAt
-  decides l m =
-      rw (le-ltb (length log) at (omega arith), eq-eqb (headRefusal h) 0 ok, le-leb k (headBlocks h) l, lt-leb (length log) at m)
+  -- the walk goes on with the command there
+  pub body-is : k ≤ headBlocks h → at ≤ length log → stepAt log here ≡ bodyStep log at h k
+  unfolding stepAt standingOk
+  body-is l m = rw (le-ltb (length log) at (omega arith), eq-eqb (headRefusal h) 0 ok, le-leb k (headBlocks h) l)
 
   pub block-step : k < headBlocks h → (dy dx z : ℤ) → entryOk h k dy dx z ≡ true → isStill dy dx z ≡ false → (rest : List ℕ)
       → drop at log ≡ commandBytes (Cmd.Block dy dx (up z)) ++ rest
       → stepAt log here ≡ commandStep (Cmd.Block dy dx (up z)) at (Body h (k + 1))
-  unfolding byCommand judged blockTaken
+  unfolding bodyCommand judged blockTaken
   block-step l dy dx z o s rest goes =
       let there = byte-there log at (commandBytes (Cmd.Block dy dx (up z))) rest goes in
       let m : at + 5 ≤ length log = room log at (commandBytes (Cmd.Block dy dx (up z))) rest goes (omega arith) in
@@ -68,8 +68,9 @@ module _ (log : List ℕ) (at : ℕ) (h : Head) (k : ℕ) (ok : headRefusal h �
       let value : pos (up z) ≡ z = same (pos (up z)) z (omega (arith, is .above)) in
       let command : getD log at 0 ≡ 2 = first-there log at (commandBytes (Cmd.Block dy dx (up z))) rest goes in
       let d : be2 log (at + 3) ≡ up z = be2-there log (at + 3) (up z) (there 3) (rw n (there 4)) in
-      decides (omega arith) (omega arith)
+      body-is (omega arith) (omega arith)
       ∙ rw (
+        lt-leb (length log) at (omega arith),
         command,
         lt-ltb k (headBlocks h) l,
         le-leb (at + 5) (length log) m,
@@ -84,14 +85,14 @@ module _ (log : List ℕ) (at : ℕ) (h : Head) (k : ℕ) (ok : headRefusal h �
       )
 
   pub still-step : k < headBlocks h → (rest : List ℕ) → drop at log ≡ commandBytes Cmd.Still ++ rest → stepAt log here ≡ commandStep Cmd.Still at (Body h (k + 1))
-  unfolding byCommand judged
+  unfolding bodyCommand judged
   still-step l rest goes =
       let m : at + 1 ≤ length log = room log at (commandBytes Cmd.Still) rest goes (omega arith) in
       let command : getD log at 0 ≡ 3 = first-there log at (commandBytes Cmd.Still) rest goes in
-      decides (omega arith) (omega arith) ∙ rw (command, lt-ltb k (headBlocks h) l, le-leb (at + 1) (length log) m)
+      body-is (omega arith) (omega arith) ∙ rw (lt-leb (length log) at (omega arith), command, lt-ltb k (headBlocks h) l, le-leb (at + 1) (length log) m)
 
   pub end-step : k ≡ headBlocks h → (rest : List ℕ) → drop at log ≡ commandBytes (Cmd.End (headBlocks h)) ++ rest → stepAt log here ≡ commandStep (Cmd.End (headBlocks h)) at Ended
-  unfolding byCommand judged endTaken
+  unfolding bodyCommand judged endTaken
   end-step l rest goes =
       let there = byte-there log at (commandBytes (Cmd.End (headBlocks h))) rest goes in
       let m : at + 5 ≤ length log = room log at (commandBytes (Cmd.End (headBlocks h))) rest goes (omega arith) in
@@ -102,8 +103,8 @@ module _ (log : List ℕ) (at : ℕ) (h : Head) (k : ℕ) (ok : headRefusal h �
       let high : be2 log (at + 1) ≡ headBlocks h / 65536 = be2-there log (at + 1) (headBlocks h / 65536) (there 1) (rw a (there 2)) in
       let low : be2 log (at + 3) ≡ headBlocks h % 65536 = be2-there log (at + 3) (headBlocks h % 65536) (there 3) (rw c (there 4)) in
       let n : be4 log (at + 1) ≡ headBlocks h = be4-there log (at + 1) (headBlocks h) high (rw b low) in
-      decides (omega arith) (omega arith)
-      ∙ rw (command, le-leb (headBlocks h) k (omega arith), le-leb (at + 5) (length log) m, eq-eqb (be4 log (at + 1)) (headBlocks h) n)
+      body-is (omega arith) (omega arith)
+      ∙ rw (lt-leb (length log) at (omega arith), command, le-leb (headBlocks h) k (omega arith), le-leb (at + 5) (length log) m, eq-eqb (be4 log (at + 1)) (headBlocks h) n)
 
 -- after the end, with no byte left
 pub ended-step : (log : List ℕ) (at : ℕ) → at ≡ length log → stepAt log (record { at = at; phase = Ended }) ≡ refusedStep at 34 0
@@ -117,7 +118,7 @@ headIn-there h rest = rw (div-add-mod' (h .width) 256, div-add-mod' (h .height) 
 
 pub head-step : (h : Head) (rest : List ℕ) → headRefusal h ≡ 0
     → stepAt (commandBytes (Cmd.Head h) ++ rest) startCursor ≡ commandStep (Cmd.Head h) 0 (Body h 0)
-unfolding stepAt commandAt byCommand judged headTaken
+unfolding stepAt startCommand judged headTaken
 head-step h rest ok =
     let log = commandBytes (Cmd.Head h) ++ rest in
     rw (

@@ -4,10 +4,10 @@ use mathlib.Core.Path.{_≡_}
 use mathlib.Core.List.{List, [], flatMap}
 use mathlib.Core.Bool.{Bool, cond}
 use Rattle.put.specs.Put.{Put, StillToPut, rest-more}
-use Rattle.log.specs.declared.Command.{Command}
+use Rattle.log_command.specs.declared.Command.{Command}
 use Rattle.log.specs.declared.Cursor.{Cursor}
 use Rattle.log.specs.declared.WalkStep.{WalkStep}
-use Rattle.log.specs.Commands.{isRefused}
+use Rattle.log_command.specs.Commands.{isRefused}
 use Rattle.log.specs.Step.{stepAt}
 use Rattle.log.specs.Walk.{commandsFrom, commands-next}
 

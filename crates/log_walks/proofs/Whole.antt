@@ -7,13 +7,13 @@ use native.Mathlib.Omega.{arith}
 use lib.IntN.{ℤ, pos}
 use Rattle.base.specs.Lists.{listTo, listTo-ext}
 use Rattle.log_head.specs.declared.Head.{Head}
-use Rattle.log.specs.declared.Command.{Command}
-use Rattle.log.specs.declared.Command.the-variants as Cmd
-use Rattle.log.specs.Commands.{commandNumber, blockValues}
+use Rattle.log_command.specs.declared.Command.{Command}
+use Rattle.log_command.specs.declared.Command.the-variants as Cmd
+use Rattle.log_command.specs.Commands.{commandNumber, blockValues}
 use Rattle.log_head.specs.Heads.{headBlocks, isStill}
-use Rattle.log.specs.Logs.{valueOf, blockCommand, logCommands}
-use Rattle.log.specs.Step.{headIn, dyAt, dxAt, distortionAt}
-use Rattle.log.specs.Walk.{walk, lastOf}
+use Rattle.log_command.specs.Logs.{valueOf, blockCommand, logCommands}
+use Rattle.log_command.specs.Operands.{blockIn, dyIn, dxIn, distortionIn}
+use Rattle.log.specs.Walk.{walk, logHead, lastOf}
 use Rattle.base.specs.Fronts.{listTo-front}
 use Rattle.log_walks.proofs.Accepted.{AcceptedFrom, last, block, still, acceptedLog}
 
@@ -41,23 +41,23 @@ one-more x a b c list n cs end e f = ap₂ _∷_ (sym e) f ∙ ap (λ (l : List 
 rest-commands : {log : List ℕ} {h : Head} {at k : ℕ} {cs : List Command} → AcceptedFrom log h at k cs → (n : ℕ) → n + k ≡ headBlocks h
     → cs ≡ listTo (blockCommand (flatMap blockValues cs)) n ++ (Cmd.End (headBlocks h) ∷ Cmd.Refused 34 0 ∷ [])
 unfolding flatMap listTo blockCommand isStill
-rest-commands (last e b f m) zero p = refl
-rest-commands (last e b f m) (suc n) p = absurd (omega arith)
-rest-commands (block l b f o t rest) zero p = absurd (omega arith)
-rest-commands {log} {at} (block {cs = cs} l b f o t rest) (suc n) p =
-    one-more (Cmd.Block (dyAt log at) (dxAt log at) (distortionAt log at)) (dyAt log at) (dxAt log at) (pos (distortionAt log at)) (flatMap blockValues cs) n cs _
-    (rw t)
+rest-commands (last e t f m) zero p = refl
+rest-commands (last e t f m) (suc n) p = absurd (omega arith)
+rest-commands (block l t o u rest) zero p = absurd (omega arith)
+rest-commands {log} {at} (block {cs = cs} l t o u rest) (suc n) p =
+    one-more (blockIn log at) (dyIn log at) (dxIn log at) (pos (distortionIn log at)) (flatMap blockValues cs) n cs _
+    (rw u)
     (rest-commands rest n (omega arith))
-rest-commands (still l b f rest) zero p = absurd (omega arith)
-rest-commands (still {cs = cs} l b f rest) (suc n) p =
+rest-commands (still l t rest) zero p = absurd (omega arith)
+rest-commands (still {cs = cs} l t rest) (suc n) p =
     one-more Cmd.Still (pos 0) (pos 0) (pos 0) (flatMap blockValues cs) n cs _ refl (rest-commands rest n (omega arith))
 
 pub whole : (log : List ℕ) → commandNumber (lastOf (walk log)) ≡ 34
-    → walk log ≡ logCommands (headIn log 0) (flatMap blockValues (walk log)) ++ (Cmd.Refused 34 0 ∷ [])
+    → walk log ≡ logCommands (logHead log) (flatMap blockValues (walk log)) ++ (Cmd.Refused 34 0 ∷ [])
 unfolding logCommands flatMap
 whole log e =
     let a = acceptedLog log e in
     rw (a .whole)
-    (ap (_∷_ (Cmd.Head (headIn log 0)))
-    (rest-commands (a .rest) (headBlocks (headIn log 0)) (omega arith)
-    ∙ sym (append-assoc (listTo (blockCommand (flatMap blockValues (a .commands))) (headBlocks (headIn log 0))) (Cmd.End (headBlocks (headIn log 0)) ∷ []) (Cmd.Refused 34 0 ∷ []))))
+    (ap (_∷_ (Cmd.Head (logHead log)))
+    (rest-commands (a .rest) (headBlocks (logHead log)) (omega arith)
+    ∙ sym (append-assoc (listTo (blockCommand (flatMap blockValues (a .commands))) (headBlocks (logHead log))) (Cmd.End (headBlocks (logHead log)) ∷ []) (Cmd.Refused 34 0 ∷ []))))

@@ -10,9 +10,9 @@ use Rattle.base.specs.Lists.{listTo, concatTo, concatTo-more}
 use Rattle.base.specs.Fronts.{flatMap-append, flatMap-listTo}
 use Rattle.put.specs.Put.{Put, put-over, over-fits}
 use Rattle.log_head.specs.declared.Head.{Head}
-use Rattle.log.specs.Commands.{commandBytes}
+use Rattle.log_command.specs.Commands.{commandBytes}
 use Rattle.log_head.specs.Heads.{headBlocks, isStill}
-use Rattle.log.specs.Logs.{valueOf, blockCommand, logCommands, logOf}
+use Rattle.log_command.specs.Logs.{valueOf, blockCommand, logCommands, logOf}
 use Rattle.log_writing.specs.Writing.{writeResult}
 use Rattle.log_writing.specs.Parts.{headBytes, numbersBytes, endBytes, blockBytes}
 

@@ -11,10 +11,10 @@ use lib.IntN.{ℤ}
 use lib.ListN.{length}
 use Rattle.signed.specs.Int.{up}
 use Rattle.log_head.specs.declared.Head.{Head}
-use Rattle.log.specs.declared.Command.the-variants as Cmd
-use Rattle.log.specs.Commands.{commandBytes}
+use Rattle.log_command.specs.declared.Command.the-variants as Cmd
+use Rattle.log_command.specs.Commands.{commandBytes}
 use Rattle.log_head.specs.Heads.{headRefusal, headBlocks}
-use Rattle.log.specs.Logs.{blockCommand}
+use Rattle.log_command.specs.Logs.{blockCommand}
 use Rattle.log_writing.specs.Writing.{listedOk}
 
 unfoldable pub headBytes : Head → List ℕ

@@ -13,7 +13,7 @@ use lib.ListN.{length, drop}
 use Rattle.refusals.specs.Refusals.{unless, firstRefusal}
 use Rattle.log_head.specs.declared.Head.{Head}
 use Rattle.log_head.specs.Heads.{headRefusal, headBlocks, entryOk}
-use Rattle.log.specs.Logs.{valueOf, logOf}
+use Rattle.log_command.specs.Logs.{valueOf, logOf}
 use Rattle.log_writing.specs.declared.Written.{Written}
 
 -- the list comes in by its length

@@ -5,9 +5,9 @@ ghost use Prim.Native.Nat.{_+_, _*_, _≤_, _<_};
 ghost use lib.ListN.{length};
 ghost use Rattle.base.specs.Lists.{concatTo};
 ghost use Rattle.put.specs.Put.{Put};
-ghost use Rattle.log.specs.Numbers.{bytes2};
+ghost use Rattle.log_command.specs.Numbers.{bytes2};
 ghost use Rattle.log_head.specs.Heads.{headRefusal, headBlocks, isStill, Entry};
-ghost use Rattle.log.specs.Logs.{valueOf, logOf};
+ghost use Rattle.log_command.specs.Logs.{valueOf, logOf};
 ghost use Rattle.log_writing.specs.Writing.{listRefusal, listedOk, firstWrong, writeResult, refusedWrite, writeListed, writeLog};
 ghost use Rattle.log_writing.specs.Parts.{headBytes, numbersBytes, endBytes, blockBytes, Writable, Passed};
 use log_head::Head;
@@ -96,13 +96,13 @@ fn block_size(list: &[i32], k: usize) -> usize
     ensures { λ r. ⌜ (r ≡ length (blockBytes (now (list .entry)) k)) × (r ≤ 5) ⌝ }
 {
     if still_at(list, k) {
-        return log::STILL_SIZE;
+        return log_command::STILL_SIZE;
     }
-    log::BLOCK_SIZE
+    log_command::BLOCK_SIZE
 }
 
 // The bytes around the blocks: head and end.
-const AROUND: usize = log::HEAD_SIZE + log::END_SIZE;
+const AROUND: usize = log_command::HEAD_SIZE + log_command::END_SIZE;
 
 // How many bytes the log takes.
 fn log_size(head: Head, list: &[i32]) -> usize
@@ -133,7 +133,7 @@ fn put_head(out: &mut [u8], h: Head) -> usize
     requires { ⌜ headRefusal h ≡ 0 ⌝ }
     ensures { λ r. ⌜ Put (now (out .entry)) 0 (headBytes h) (now (out .exit)) r ⌝ }
 {
-    let width = put::put_byte(out, 0, log::HEAD);
+    let width = put::put_byte(out, 0, log_command::HEAD);
     let height = put_two(out, width, h.width);
     let n = put_two(out, height, h.height);
     let w = put::put_byte(out, n, h.n as u8);
@@ -146,7 +146,7 @@ fn put_numbers(out: &mut [u8], at: usize, dy: i32, dx: i32, distortion: i32) -> 
     requires { ⌜ (at < 100000000000) × Entry dy dx distortion ⌝ }
     ensures { λ r. ⌜ Put (now (out .entry)) at (numbersBytes dy dx distortion) (now (out .exit)) r ⌝ }
 {
-    let a = put::put_byte(out, at, log::BLOCK);
+    let a = put::put_byte(out, at, log_command::BLOCK);
     let b = put::put_byte(out, a, signed::to_byte(dy));
     let c = put::put_byte(out, b, signed::to_byte(dx));
     put_two(out, c, signed::magnitude(distortion) as usize)
@@ -159,7 +159,7 @@ fn put_block(out: &mut [u8], at: usize, list: &[i32], k: usize) -> usize
     ensures { λ r. ⌜ Put (now (out .entry)) at (blockBytes (now (list .entry)) k) (now (out .exit)) r × (r ≤ at + 5) ⌝ }
 {
     if still_at(list, k) {
-        return put::put_byte(out, at, log::STILL);
+        return put::put_byte(out, at, log_command::STILL);
     }
     put_numbers(
         out,
@@ -190,7 +190,7 @@ fn put_end(out: &mut [u8], at: usize, n: usize) -> usize
     requires { ⌜ (at ≤ 10000000) × (n ≤ 1048576) ⌝ }
     ensures { λ r. ⌜ Put (now (out .entry)) at (endBytes n) (now (out .exit)) r ⌝ }
 {
-    let high = put::put_byte(out, at, log::END);
+    let high = put::put_byte(out, at, log_command::END);
     let low = put_two(out, high, n / 65536);
     put_two(out, low, n % 65536)
 }

@@ -27,13 +27,16 @@ use Rattle.reading.specs.Reading.{votes}
 use Rattle.field.specs.Field.{fieldRefusal, entries, tableOf}
 use Rattle.track.specs.Track.{trackHome, stepRefusal, arrived}
 use Rattle.log_head.specs.Heads.{headRefusal, entryOk, isStill}
-use Rattle.log.specs.Numbers.{be2, be4}
-use Rattle.log.specs.Step.{judged, headIn, headTaken, blockTaken, endTaken, standingOk, byCommand, commandAt, stepAt}
+use Rattle.log_command.specs.Numbers.{be2, be4}
+use Rattle.log.specs.Step.{judged, headTaken, blockTaken, endTaken, standingOk, startCommand, bodyCommand, stepAt}
+use Rattle.log_command.specs.Operands.{headIn}
 use Rattle.log.specs.Walk.{commandsFrom, walk as logWalk, lastOf}
-use Rattle.log.specs.Logs.{blockCommand, logCommands, logOf}
+use Rattle.log_command.specs.Logs.{blockCommand, logCommands, logOf}
 use Rattle.log_writing.specs.Writing.{listRefusal, firstWrong, writeListed, writeLog}
 use Rattle.log_reading.specs.Reading.{fieldOf, logRead, readLog}
-use Rattle.log_text.specs.Text.{digits, numberText, spaced, endWord, refusedWord, atWord, worded, printLog}
+use Rattle.put.specs.Digits.{digits}
+use Rattle.log_line.specs.Line.{numberText, spaced, endWord, refusedWord, atWord, worded}
+use Rattle.log_text.specs.Text.{printLog}
 use Rattle.worked.specs.Table.{pairA, pairB, pairC, pairD, Call, search, measuring, distance, everyBlock, travelling, calls, writing, reading, walking, printing, Answer, found, filled, travels, results, answer, Row, Right, table}
 use Rattle.worked.proofs.Places.{walk, after}
 use Rattle.worked.proofs.Alike.{every, alike}
@@ -89,7 +92,7 @@ unfolding
     searchRefusal walk after
     rows columns blocks blockRow blockColumn listTo concatTo summed fieldRefusal entries tableOf votes every alike
     runFrom trackHome stepRefusal arrived
-    signedByte byteOf headRefusal entryOk isStill be2 be4 judged headIn headTaken blockTaken endTaken standingOk byCommand commandAt stepAt
+    signedByte byteOf headRefusal entryOk isStill be2 be4 judged headIn headTaken blockTaken endTaken standingOk startCommand bodyCommand stepAt
     commandsFrom logWalk lastOf blockCommand logCommands logOf flatMap
     listRefusal firstWrong writeListed writeLog fieldOf logRead readLog digits numberText spaced endWord refusedWord atWord worded printLog
 computed = refl

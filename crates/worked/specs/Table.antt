@@ -34,8 +34,8 @@ use Rattle.field.specs.Field.{requestOf, refusedField, FieldResult, fieldResult
 use Rattle.track.specs.declared.Track.{Track}
 use Rattle.track.specs.Track.{homedAt, stepResult}
 use Rattle.log_head.specs.declared.Head.{Head}
-use Rattle.log.specs.declared.Command.{Command}
-use Rattle.log.specs.declared.Command.the-variants as Cmd
+use Rattle.log_command.specs.declared.Command.{Command}
+use Rattle.log_command.specs.declared.Command.the-variants as Cmd
 use Rattle.log.specs.Walk.{walk}
 use Rattle.log_writing.specs.Writing.{WriteResult, writeResult, writeLog}
 use Rattle.log_reading.specs.Reading.{ReadResult, readResult, refusedRead, acceptedRead, readLog}

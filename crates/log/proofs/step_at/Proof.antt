@@ -1,8 +1,9 @@
 -- `step_at`: the place first, then the phase, then the numbers of a walk among the blocks.
-use mathlib.Core.Path.{ap, sym, _∙_}
+use mathlib.Core.Path.{sym, _∙_}
+use native.Mathlib.Omega.{arith}
 use borrow.Author.Needs.{needs}
 use borrow.Author.Tests.{lt-ltb, le-ltb}
-use Rattle.log.specs.Step.{stepAt, commandAt}
+use Rattle.log.specs.Step.{stepAt, start-within, end-within}
 use Rattle.log.proofs.step_at.Statement.{statement}
 use Rattle.log.proofs.step_at.Tie as tie
 
@@ -16,17 +17,22 @@ returns c = simp (lt-ltb _ _ (c .before .if1 .taken)) (c .refused-step .ensures)
 enum-told : tie.Need-enum-told
 enum-told c = search needs
 
-command-at-requires : tie.Need-command-at-requires
-command-at-requires c κs = search needs
+start-command-requires : tie.Need-start-command-requires
+start-command-requires c κs = search needs
+
+step-of-requires : tie.Need-step-of-requires
+step-of-requires c κs =
+    let e = c .before .before .before in
+    rw (c .start-command .ensures) (omega (arith, start-within {log = e .before .before .args .log .now} (e .if1 .left) .size))
 
 enum-known-phase : tie.Need-enum-known-phase
 enum-known-phase c = search needs
 
-standing-requires : tie.Need-standing-requires
-standing-requires c κs = search needs
+standing-ok-requires : tie.Need-standing-ok-requires
+standing-ok-requires c κs = search needs
 
-command-at-requires-2 : tie.Need-command-at-requires-2
-command-at-requires-2 c κs = (c .before .before .before .before .before .if1 .left, sym (c .before .standing .ensures) ∙ c .if2 .taken)
+body-step-requires : tie.Need-body-step-requires
+body-step-requires c κs = (c .before .before .before .before .before .if1 .left, sym (c .before .standing-ok .ensures) ∙ c .if2 .taken)
 
 refused-step-requires-2 : tie.Need-refused-step-requires-2
 refused-step-requires-2 c κs = search needs
@@ -37,6 +43,11 @@ enum-told-2 c = search needs
 after-end-requires : tie.Need-after-end-requires
 after-end-requires c κs = search needs
 
+step-of-requires-2 : tie.Need-step-of-requires-2
+step-of-requires-2 c κs =
+    let e = c .before .before .before in
+    rw (c .after-end .ensures) (omega (arith, end-within {log = e .before .before .args .log .now} (e .if1 .left) .size))
+
 enum-told-3 : tie.Need-enum-told-3
 enum-told-3 c = search needs
 
@@ -45,19 +56,29 @@ refused-step-requires-3 c κs = search needs
 
 returns-2 : tie.Need-returns-2
 unfolding stepAt
-returns-2 c = simp (le-ltb _ _ (c .before .before .before .if1 .left), c .before .enum-told .given .1) (c .command-at .ensures ∙ ap (commandAt _ _) (c .before .enum-told .given .1))
+returns-2 c =
+    let k = c .before .before in
+    simp (le-ltb _ _ (k .before .before .if1 .left), k .enum-told .given .1, ← c .before .start-command .ensures) (c .step-of .ensures)
 
 returns-3 : tie.Need-returns-3
 unfolding stepAt
-returns-3 c = let d = c .before .before in simp (le-ltb _ _ (d .before .before .before .before .if1 .left), d .before .before .phase .given .1, sym (d .standing .ensures), c .before .if2 .taken) (c .command-at2 .ensures)
+returns-3 c =
+    let d = c .before .before in
+    let k = d .before .before in
+    simp (le-ltb _ _ (k .before .before .if1 .left), k .phase .given .1, sym (d .standing-ok .ensures), c .before .if2 .taken) (c .body-step .ensures)
 
 returns-4 : tie.Need-returns-4
 unfolding stepAt
-returns-4 c = let d = c .before .before in simp (le-ltb _ _ (d .before .before .before .before .if1 .left), d .before .before .phase .given .1, sym (d .standing .ensures), c .before .if2 .left) (c .refused-step2 .ensures)
+returns-4 c =
+    let d = c .before .before in
+    let k = d .before .before in
+    simp (le-ltb _ _ (k .before .before .if1 .left), k .phase .given .1, sym (d .standing-ok .ensures), c .before .if2 .left) (c .refused-step2 .ensures)
 
 returns-5 : tie.Need-returns-5
 unfolding stepAt
-returns-5 c = simp (le-ltb _ _ (c .before .before .before .if1 .left), c .before .enum-told2 .given .1) (c .after-end .ensures)
+returns-5 c =
+    let k = c .before .before in
+    simp (le-ltb _ _ (k .before .before .if1 .left), k .enum-told2 .given .1, ← c .before .after-end .ensures) (c .step-of2 .ensures)
 
 returns-6 : tie.Need-returns-6
 unfolding stepAt
@@ -70,13 +91,15 @@ step-at-spec =
     refused-step-requires
     returns
     enum-told
-    command-at-requires
+    start-command-requires
+    step-of-requires
     enum-known-phase
-    standing-requires
-    command-at-requires-2
+    standing-ok-requires
+    body-step-requires
     refused-step-requires-2
     enum-told-2
     after-end-requires
+    step-of-requires-2
     enum-told-3
     refused-step-requires-3
     returns-2

@@ -9,7 +9,7 @@ use Rattle.log.specs.Walk.{commandsFrom, walk}
 use Rattle.log_reading.specs.Reading.{fieldOf}
 use Rattle.put.specs.Put.{StillToPut, rest-first}
 use Rattle.log_walks.proofs.Turns.{turn}
-use Rattle.log.specs.Commands.{blockValues}
+use Rattle.log_command.specs.Commands.{blockValues}
 use lib.ListN.{length}
 use Rattle.log_reading.proofs.fill.Statement.{statement}
 use Rattle.log_reading.proofs.fill.Tie as tie

@@ -4,8 +4,8 @@ use native.Mathlib.Omega.{arith}
 use borrow.Author.Needs.{needs}
 use mir.Syntax.{w32}
 use mir.Val.{toZ, ofZ}
-use Rattle.log.specs.Commands.{blockValues}
-use Rattle.log_reading.specs.Storing.{distortionIn}
+use Rattle.log_command.specs.Commands.{blockValues}
+use Rattle.log_reading.specs.Storing.{storedDistortion}
 use Rattle.put.specs.Put.{put-none}
 use lib.ListN.{length}
 use Rattle.log_reading.proofs.store.Statement.{statement}
@@ -21,7 +21,7 @@ put-entry-requires : tie.Need-put-entry-requires
 put-entry-requires c κs =
     let s = c .before .before .before .before in
     let e = c .before .before .command .given .1 in
-    (omega (arith, s .pre .0, ap (λ x. length (blockValues x)) e), omega (arith, s .pre .1, ap distortionIn e))
+    (omega (arith, s .pre .0, ap (λ x. length (blockValues x)) e), omega (arith, s .pre .1, ap storedDistortion e))
 
 enum-told-2 : tie.Need-enum-told-2
 enum-told-2 c = search needs

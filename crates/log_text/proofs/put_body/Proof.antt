@@ -1,96 +1,124 @@
--- `put_body`: while blocks pass, a turn puts the line of the next; what is still to be put, put from here on, makes the whole.
-use Prim.Native.Nat.{_+_, _-_, _*_, _≤_, _<_}
-use mathlib.Core.Path.{_≡_, _∙_}
+-- `put_body`: a turn puts the line of the next block; what is still to be put, put from here on, makes the whole.
+use Prim.Native.Nat.{_+_, _-_, _≤_, _<_}
+use mathlib.Core.Path.{_≡_, sym, _∙_}
 use native.Mathlib.Omega.{arith}
 use borrow.Author.Needs.{needs}
 use lib.ListN.{length}
-use mathlib.Core.List.{flatMap}
-use Rattle.put.specs.Put.{StillToPut, rest-first, rest-all}
-use Rattle.log.specs.Walk.{commandsFrom}
-use Rattle.log_text.specs.Text.{lineOf}
-use Rattle.log_text.specs.Quick.{among, Quick}
 use mathlib.Core.Bool.{false}
-use Rattle.base.specs.Tests.{failed}
-use Rattle.log.specs.Commands.{commandBytes, isRefused}
-use Rattle.log_text.proofs.Blocks.{quick-on, quick-turn}
+use Rattle.put.specs.Put.{rest-all}
+use Rattle.log_command.specs.Commands.{commandSize, isRefused}
+use Rattle.log_head.specs.Heads.{headBlocks}
+use Rattle.log_text.proofs.Blocks.{Printing, printing-first, printing-more, printing-last, block-on}
 use Rattle.log_text.proofs.put_body.Statement.{statement}
 use Rattle.log_text.proofs.put_body.Tie as tie
 
 abbrev Inv-loop : tie.InvT-loop
-Inv-loop log out₀ from head all next₀ k₀ at₀ command₀ out next k at command = (8 + k ≤ next) × (next ≤ length log) × (at ≤ from + 128 * k) × Quick log next head k command × StillToPut out at (flatMap lineOf (commandsFrom (length log - k) log (among head next k))) out₀ from (flatMap lineOf (commandsFrom (length log) log (among head 8 0)))
+Inv-loop log out₀ from first head all next₀ k₀ at₀ out next k at = Printing log head out₀ from first out at next k
 
 abbrev μ-loop : tie.MeasureT-loop
-μ-loop log out₀ from head all next₀ k₀ at₀ command₀ out next k at command = length log - next
+μ-loop log out₀ from first head all next₀ k₀ at₀ out next k at = all - k
 
--- a turn is made where the look said something
-said : (d : tie.Then1 Inv-loop μ-loop) → isRefused (d .before .before .loop .command) ≡ false
-said d = failed (d .before .is-refused .ensures) (d .if1 .taken)
+abbrev start : tie.At-loop Inv-loop μ-loop → tie.Start Inv-loop μ-loop
+start l = l .before .before .before .before
 
--- and goes on inside the log
-on : (d : tie.Then1 Inv-loop μ-loop) →
-    let l = d .before .before .loop in
-    let log = d .before .before .before .before .before .before .before .args .log .now in
-    (l .next < l .next + length (commandBytes (l .command))) × (l .next + length (commandBytes (l .command)) ≤ length log)
-on d = let l = d .before .before .loop in quick-on _ (l .next) _ (l .k) (l .command) (l .inv .3) (said d)
+-- a turn: where it began, and where it put its line
+abbrev turned : tie.After-is-refused Inv-loop μ-loop → tie.After-put-line Inv-loop μ-loop
+turned c = c .before .before .before
+
+abbrev loop : tie.After-body-command Inv-loop μ-loop → tie.At-loop Inv-loop μ-loop
+loop b = b .before .before
+
+abbrev there : tie.After-put-line Inv-loop μ-loop → tie.After-body-command Inv-loop μ-loop
+there w = w .before .before
+
+due : (b : tie.After-body-command Inv-loop μ-loop) → loop b .loop .k < headBlocks (start (loop b) .args .head)
+due b = rw (loop b .before .head-blocks .ensures .0) at (b .before .loop-test .taken)
+
+-- a turn that goes on
+handed : (c : tie.Else1 Inv-loop μ-loop) → isRefused (there (turned (c .before)) .body-command .result) ≡ false
+handed c = sym (c .before .is-refused .ensures) ∙ c .if1 .left
+
+-- and stays inside the log
+on : (c : tie.Else1 Inv-loop μ-loop) →
+    let b = there (turned (c .before)) in
+    let next = loop b .loop .next in
+    let size = commandSize (b .body-command .result) in
+    (next < next + size) × (next + size ≤ length (start (loop b) .args .log .now))
+on c =
+    let b = there (turned (c .before)) in
+    let s = start (loop b) in
+    block-on (loop b .loop .inv) (s .pre .4) (due b) (s .pre .0) _ (b .body-command .ensures) (handed c)
 
 head-blocks-requires : tie.Need-head-blocks-requires Inv-loop μ-loop
-head-blocks-requires c κs = c .before .before .pre .3
-
-block-here-requires : tie.Need-block-here-requires Inv-loop μ-loop
-block-here-requires c κs = let a = c .before .before .before in (a .pre .0, a .pre .3, c .head-blocks .ensures .0)
+head-blocks-requires c κs = c .before .before .pre .4
 
 loop-holds : tie.Need-loop-holds Inv-loop μ-loop
-loop-holds c = let a = c .before .before .before .before in
-    let e : length (a .args .log .now) - 0 ≡ length (a .args .log .now) = omega arith in
-    (omega arith, a .pre .0, omega arith, c .block-here .ensures, rw e (rest-first _ _ _))
+loop-holds c = printing-first _ _ _ _ _ (c .before .before .before .pre .1)
+
+body-command-requires : tie.Need-body-command-requires Inv-loop μ-loop
+body-command-requires c κs =
+    let l = c .before in
+    (l .loop .inv .inside, start l .pre .4, l .before .head-blocks .ensures .0)
+
+put-line-requires : tie.Need-put-line-requires Inv-loop μ-loop
+put-line-requires c κs =
+    let l = loop (c .before) in
+    omega (arith, l .loop .inv .on, l .loop .inv .inside, l .loop .inv .short, start l .pre)
 
 is-refused-requires : tie.Need-is-refused-requires Inv-loop μ-loop
 is-refused-requires c κs = search needs
 
-put-block-line-requires : tie.Need-put-block-line-requires Inv-loop μ-loop
-put-block-line-requires c κs = let l = c .before .before .before .loop in let a = c .before .before .before .before .before .before .before .before in
-    (omega (arith, l .inv .0, l .inv .1, l .inv .2, a .pre .1, a .pre .2), said (c .before))
+same-length : tie.Need-same-length Inv-loop μ-loop
+same-length c =
+    let w = turned (c .before) in
+    w .put-line .kept .0 ∙ loop (there w) .loop .inv .rest .long
+
+returns : tie.Need-returns Inv-loop μ-loop
+returns c =
+    let w = turned (c .before) in
+    let b = there w in
+    let s = start (loop b) in
+    printing-last (loop b .loop .inv) (s .pre .4) (due b) (s .pre .0) _ (b .body-command .ensures) (w .put-line .ensures .0) (sym (c .before .is-refused .ensures) ∙ c .if1 .taken)
 
 command-size-requires : tie.Need-command-size-requires Inv-loop μ-loop
 command-size-requires c κs = search needs
 
 add-next : tie.Need-add-next Inv-loop μ-loop
-add-next c = omega (arith, c .command-size .ensures, on (c .before .before .before .before .before) .1, c .before .before .before .before .before .before .before .before .before .before .before .before .pre .1)
+add-next c =
+    let b = there (turned (c .before .before)) in
+    omega (arith, c .command-size .ensures, on (c .before) .1, start (loop b) .pre .2)
 
 add-k : tie.Need-add-k Inv-loop μ-loop
-add-k c = let l = c .before .before .before .before .before .before .before .loop in omega (arith, l .inv .0, l .inv .1, c .before .before .before .before .before .before .before .before .before .before .before .before .pre .1)
-
-block-here-requires-2 : tie.Need-block-here-requires-2 Inv-loop μ-loop
-block-here-requires-2 c κs = let g = c .before .before .before .before .before .before .before .before .before in let a = g .before .before .before in
-    (omega (arith, c .command-size .ensures, on (c .before .before .before .before .before) .1), a .pre .3, g .head-blocks .ensures .0)
+add-k c = let l = loop (there (turned (c .before .before))) in omega (arith, l .loop .inv .on, l .loop .inv .inside, start l .pre .2)
 
 loop-less : tie.Need-loop-less Inv-loop μ-loop
-loop-less c = omega (arith, c .before .command-size .ensures, on (c .before .before .before .before .before .before) .0, on (c .before .before .before .before .before .before) .1)
+loop-less c = let b = there (turned (c .before .before)) in omega (arith, b .before .loop-test .taken)
 
 loop-again : tie.Need-loop-again Inv-loop μ-loop
-loop-again c = let d = c .before .before .before .before .before .before in
-    let l = d .before .before .loop in
-    let p = c .before .before .before .before .put-block-line in
-    let z = c .before .command-size .ensures in (
-      omega (arith, z, on d .0, l .inv .0),
-      omega (arith, z, on d .1),
-      omega (arith, p .ensures .1, l .inv .2),
-      c .block-here2 .ensures,
-      rw z (quick-turn _ (l .next) _ (l .k) (l .command) (l .inv .3) (said d) (omega (arith, l .inv .0, l .inv .1)) (l .inv .4) (p .ensures .0)),
-    )
+loop-again c =
+    let w = turned (c .before .before) in
+    let b = there w in
+    let s = start (loop b) in
+    rw (c .command-size .ensures)
+    (printing-more (loop b .loop .inv) (s .pre .4) (due b) (s .pre .0) _ (b .body-command .ensures) (w .put-line .ensures .0) (handed (c .before)) (w .put-line .ensures .1))
 
 sub-put-from : tie.Need-sub-put-from Inv-loop μ-loop
-sub-put-from c = let l = c .before .before .before .loop in omega (arith, l .inv .0, l .inv .1)
+sub-put-from c = let l = c .before .before in omega (arith, l .loop .inv .on, l .loop .inv .inside)
 
 put-from-requires : tie.Need-put-from-requires Inv-loop μ-loop
-put-from-requires c κs = let l = c .before .before .before .loop in let a = c .before .before .before .before .before .before .before .before in
-    omega (arith, l .inv .0, l .inv .1, l .inv .2, a .pre .1, a .pre .2)
+put-from-requires c κs =
+    let l = c .before .before in
+    omega (arith, l .loop .inv .on, l .loop .inv .inside, l .loop .inv .short, start l .pre)
 
-same-length : tie.Need-same-length Inv-loop μ-loop
-same-length c = c .before .before .put-from .kept .1 .0 ∙ c .before .before .before .before .before .before .loop .inv .4 .long
+same-length-2 : tie.Need-same-length-2 Inv-loop μ-loop
+same-length-2 c =
+    let f = c .before .before in
+    f .put-from .kept .1 .0 ∙ f .before .before .before .loop .inv .rest .long
 
-returns : tie.Need-returns Inv-loop μ-loop
-returns c = let l = c .before .before .before .before .before .before .loop in rest-all (l .inv .4) (c .before .before .put-from .ensures)
+returns-2 : tie.Need-returns-2 Inv-loop μ-loop
+returns-2 c =
+    let f = c .before .before in
+    rest-all (f .before .before .before .loop .inv .rest) (f .put-from .ensures)
 
 pub put-body-spec : {M : Type 1} → statement M
 put-body-spec =
@@ -99,17 +127,18 @@ put-body-spec =
     Inv-loop
     μ-loop
     head-blocks-requires
-    block-here-requires
     loop-holds
+    body-command-requires
+    put-line-requires
     is-refused-requires
-    put-block-line-requires
+    same-length
+    returns
     command-size-requires
     add-next
     add-k
-    block-here-requires-2
     loop-less
     loop-again
     sub-put-from
     put-from-requires
-    same-length
-    returns)
+    same-length-2
+    returns-2)

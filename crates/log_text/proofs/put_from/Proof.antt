@@ -7,7 +7,7 @@ use mathlib.Core.List.{flatMap}
 use Rattle.put.specs.Put.{StillToPut, rest-first, rest-last}
 use Rattle.log.specs.Walk.{commandsFrom}
 use Rattle.log_walks.proofs.Turns.{turn}
-use Rattle.log_text.specs.Text.{lineOf}
+use Rattle.log_line.specs.Line.{lineOf}
 use Rattle.log_text.proofs.put_from.Statement.{statement}
 use Rattle.log_text.proofs.put_from.Tie as tie
 

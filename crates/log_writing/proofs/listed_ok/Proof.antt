@@ -1,7 +1,7 @@
 -- `listed_ok`: the rule for the block's three numbers.
 use mathlib.Core.Path.{_≡_}
 use borrow.Author.Needs.{needs}
-use Rattle.log.specs.Logs.{valueOf}
+use Rattle.log_command.specs.Logs.{valueOf}
 use mir.Val.{toZ, ofZ}
 use mir.Syntax.{w32}
 use denote.Ref.{now}

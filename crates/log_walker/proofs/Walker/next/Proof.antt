@@ -52,8 +52,8 @@ use Rattle.log.proofs.WalkStep as S
 use Rattle.log.proofs.WalkStep.Laws as S′
 use Rattle.log.proofs.Cursor as K
 use Rattle.log.proofs.Cursor.Laws as K′
-use Rattle.log.proofs.Command as C
-use Rattle.log.proofs.Command.Laws as C′
+use Rattle.log_command.proofs.Command as C
+use Rattle.log_command.proofs.Command.Laws as C′
 use Rattle.log.proofs.step_at as step
 use Rattle.log.proofs.step_at.Symbol as step-def
 use Rattle.log.proofs.step_at.Symbol.{name as #log·step-at}

@@ -1,0 +1,161 @@
+// What a command of a log is: its number, its size, and its operands in the bytes of a log.
+
+ghost use mathlib.Core.Path.{_≡_};
+ghost use Prim.Native.Nat.{_+_, _≤_, _<_};
+ghost use lib.ListN.{length};
+ghost use Rattle.log_command.specs.Numbers.{be2, be4};
+ghost use Rattle.log_command.specs.Commands.{commandNumber, commandSize, commandPlace, commandHead, isRefused};
+ghost use Rattle.log_command.specs.Operands.{headIn};
+use log_head::Head;
+
+// What a call of the walker hands out. `commandNumber` and `commandValues` of specs/Commands.antt are 01's number and values of each case.
+pub enum Command {
+    Head(Head),
+    Block { dy: i32, dx: i32, distortion: u32 },
+    Still,
+    End(usize),
+    Refused { number: u32, place: usize },
+}
+
+// The command bytes, and how many bytes each command takes with its operands.
+pub const HEAD: u8 = 1;
+
+pub const BLOCK: u8 = 2;
+
+pub const STILL: u8 = 3;
+
+pub const END: u8 = 4;
+
+pub const HEAD_SIZE: usize = 8;
+
+pub const BLOCK_SIZE: usize = 5;
+
+pub const STILL_SIZE: usize = 1;
+
+pub const END_SIZE: usize = 5;
+
+// A command's number: its byte, or the refusal's.
+pub fn command_number(command: Command) -> u32
+    ensures { λ r. ⌜ r ≡ commandNumber command ⌝ }
+{
+    match command {
+        Command::Head(_) => HEAD as u32,
+        Command::Block {
+            dy: _,
+            dx: _,
+            distortion: _,
+        } => BLOCK as u32,
+        Command::Still => STILL as u32,
+        Command::End(_) => END as u32,
+        Command::Refused { number, place: _ } => number,
+    }
+}
+
+// A refusal's place.
+pub fn command_place(command: Command) -> usize
+    ensures { λ r. ⌜ r ≡ commandPlace command ⌝ }
+{
+    match command {
+        Command::Head(_) => 0,
+        Command::Block {
+            dy: _,
+            dx: _,
+            distortion: _,
+        } => 0,
+        Command::Still => 0,
+        Command::End(_) => 0,
+        Command::Refused { number: _, place } => place,
+    }
+}
+
+// The numbers of a head.
+pub fn command_head(command: Command) -> Head
+    ensures { λ r. ⌜ r ≡ commandHead command ⌝ }
+{
+    match command {
+        Command::Head(head) => head,
+        Command::Block {
+            dy: _,
+            dx: _,
+            distortion: _,
+        } => log_head::no_head(),
+        Command::Still => log_head::no_head(),
+        Command::End(_) => log_head::no_head(),
+        Command::Refused {
+            number: _,
+            place: _,
+        } => log_head::no_head(),
+    }
+}
+
+// How many bytes a command takes.
+pub fn command_size(command: Command) -> usize
+    ensures { λ r. ⌜ r ≡ commandSize command ⌝ }
+{
+    match command {
+        Command::Head(_) => HEAD_SIZE,
+        Command::Block {
+            dy: _,
+            dx: _,
+            distortion: _,
+        } => BLOCK_SIZE,
+        Command::Still => STILL_SIZE,
+        Command::End(_) => END_SIZE,
+        Command::Refused {
+            number: _,
+            place: _,
+        } => 0,
+    }
+}
+
+// The command is a refusal.
+pub fn is_refused(command: Command) -> bool
+    ensures { λ r. ⌜ r ≡ isRefused command ⌝ }
+{
+    match command {
+        Command::Head(_) => false,
+        Command::Block {
+            dy: _,
+            dx: _,
+            distortion: _,
+        } => false,
+        Command::Still => false,
+        Command::End(_) => false,
+        Command::Refused {
+            number: _,
+            place: _,
+        } => true,
+    }
+}
+
+// ---- bytes
+
+// Two bytes, highest first.
+pub fn two(log: &[u8], i: usize) -> usize
+    requires { ⌜ i + 1 < length (now log) ⌝ }
+    ensures { λ r. ⌜ (r ≡ be2 (now (log .entry)) i) × (r < 65536) ⌝ }
+{
+    (signed::wide_u8(log[i]) * 256 + signed::wide_u8(log[i + 1])) as usize
+}
+
+// Four bytes, highest first.
+pub fn four(log: &[u8], i: usize) -> usize
+    requires { ⌜ i + 3 < length (now log) ⌝ }
+    ensures { λ r. ⌜ r ≡ be4 (now (log .entry)) i ⌝ }
+{
+    two(log, i) * 65536 + two(log, i + 2)
+}
+
+// The numbers of a head command.
+pub fn head_in(log: &[u8], at: usize) -> Head
+    requires { ⌜ at + 8 ≤ length (now log) ⌝ }
+    ensures { λ r. ⌜ r ≡ headIn (now (log .entry)) at ⌝ }
+{
+    Head {
+        width: two(log, at + 1),
+        height: two(log, at + 3),
+        n: signed::wide_u8(log[at + 5]) as usize,
+        w: signed::wide_u8(log[at + 6]) as usize,
+        search: signed::wide_u8(log[at + 7]),
+    }
+}
