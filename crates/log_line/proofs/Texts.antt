@@ -1,9 +1,11 @@
 -- What the text of a number is made of.
 --   number-below, number-kept   the text of a number below 0, and of another
 --   word-more                   one byte more of a word
+--   still-number                number 3 is a still block's
 use Prim.Native.Nat.{ℕ, _+_, _<_}
 use native.Mathlib.Omega.{arith}
 use native.Mathlib.Numerals.{add-one}
+use mathlib.Core.Bool.{false}
 use mathlib.Core.Path.{_≡_, refl}
 use mathlib.Core.List.{List, [], _∷_}
 use lib.ListN.{length, take, getD}
@@ -11,6 +13,9 @@ use lib.Seq.{take-suc}
 use lib.IntN.{ℤ, pos, negsuc, natAbs}
 use Rattle.signed.specs.Int.{dn}
 use Rattle.put.specs.Put.{Put, put-then}
+use Rattle.log_command.specs.declared.Command.{Command}
+use Rattle.log_command.specs.declared.Command.the-variants as Cmd
+use Rattle.log_command.specs.Commands.{commandNumber, isRefused}
 use Rattle.log_line.specs.Line.{numberText}
 
 pub number-below : (z : ℤ) (after : ℕ) → 0 < dn z → numberText z after ≡ 45 ∷ numberText (pos (natAbs z)) after
@@ -25,3 +30,11 @@ number-kept (negsuc n) after h = absurd (omega arith)
 
 pub word-more : {l m n : List ℕ} {i j k : ℕ} (word : List ℕ) (e : ℕ) → e < length word → Put l i (take e word) m j → Put m j (getD word e 0 ∷ []) n k → Put l i (take (e + 1) word) n k
 word-more word e h a b = rw (add-one, take-suc word e 0) (put-then a b)
+
+-- a command that is no refusal and has number 3
+pub still-number : (c : Command) → isRefused c ≡ false → commandNumber c ≡ 3 → c ≡ Cmd.Still
+still-number (Cmd.Head h) e n = absurd (omega arith)
+still-number (Cmd.Block dy dx d) e n = absurd (omega arith)
+still-number Cmd.Still e n = refl
+still-number (Cmd.End b) e n = absurd (omega arith)
+still-number (Cmd.Refused r p) e n = cc

@@ -1,11 +1,13 @@
 // The line of a command: its words and numbers, put into a lent buffer. A byte past the buffer's end is counted and not put.
 
 ghost use mathlib.Core.Path.{_≡_};
+ghost use mathlib.Core.Bool.{false};
 ghost use Prim.Native.Nat.{_+_, _≤_};
 ghost use lib.ListN.{length};
 ghost use lib.IntN.{pos};
 ghost use Rattle.put.specs.Put.{Put};
 ghost use Rattle.log_command.specs.declared.Command.the-variants as Cmd;
+ghost use Rattle.log_command.specs.Commands.{isRefused};
 ghost use Rattle.log_line.specs.Line.{numberText, worded, lineOf};
 use log_command::Command;
 use log_head::Head;
@@ -106,4 +108,15 @@ pub fn put_line(out: &mut [u8], at: usize, command: Command) -> usize
             }
         }
     }
+}
+
+// The line of a block of either kind; a still block's is at hand, for a log may have thousands of them.
+pub fn put_block_line(out: &mut [u8], at: usize, command: Command) -> usize
+    requires { ⌜ (at ≤ 1000000000) × (isRefused command ≡ false) ⌝ }
+    ensures { λ r. ⌜ (Put (now (out .entry)) at (lineOf command) (now (out .exit)) r) × (r ≤ at + 128) ⌝ }
+{
+    if log_command::command_number(command) == log_command::STILL as u32 {
+        return put_word(out, at, b"0 0 0\n");
+    }
+    put_line(out, at, command)
 }

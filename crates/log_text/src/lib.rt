@@ -52,10 +52,10 @@ fn put_body(log: &[u8], out: &mut [u8], from: usize, first: usize, head: Head) -
     let mut at = from;
     while k < all {
         let command = log::body_command(log, next, head, all, k);
-        at = log_line::put_line(out, at, command);
         if log_command::is_refused(command) {
-            return at;
+            return log_line::put_line(out, at, command);
         }
+        at = log_line::put_block_line(out, at, command);
         next += log_command::command_size(command);
         k += 1;
     }

@@ -21,33 +21,39 @@ abbrev μ-loop : tie.MeasureT-loop
 abbrev start : tie.At-loop Inv-loop μ-loop → tie.Start Inv-loop μ-loop
 start l = l .before .before .before .before
 
--- a turn: where it began, and where it put its line
-abbrev turned : tie.After-is-refused Inv-loop μ-loop → tie.After-put-line Inv-loop μ-loop
-turned c = c .before .before .before
-
+-- a turn: where it began, where it has its command, where it goes on, where it put its line
 abbrev loop : tie.After-body-command Inv-loop μ-loop → tie.At-loop Inv-loop μ-loop
 loop b = b .before .before
 
-abbrev there : tie.After-put-line Inv-loop μ-loop → tie.After-body-command Inv-loop μ-loop
-there w = w .before .before
+abbrev there : tie.Else1 Inv-loop μ-loop → tie.After-body-command Inv-loop μ-loop
+there e = e .before .before
+
+abbrev going : tie.After-put-block-line Inv-loop μ-loop → tie.Else1 Inv-loop μ-loop
+going w = w .before .before
+
+abbrev written : tie.After-command-size Inv-loop μ-loop → tie.After-put-block-line Inv-loop μ-loop
+written c = c .before .before .before
+
+room : (b : tie.After-body-command Inv-loop μ-loop) → loop b .loop .at ≤ 1000000000
+room b = let l = loop b in omega (arith, l .loop .inv .on, l .loop .inv .inside, l .loop .inv .short, start l .pre)
 
 due : (b : tie.After-body-command Inv-loop μ-loop) → loop b .loop .k < headBlocks (start (loop b) .args .head)
 due b = rw (loop b .before .head-blocks .ensures .0) at (b .before .loop-test .taken)
 
--- a turn that goes on
-handed : (c : tie.Else1 Inv-loop μ-loop) → isRefused (there (turned (c .before)) .body-command .result) ≡ false
-handed c = sym (c .before .is-refused .ensures) ∙ c .if1 .left
+-- a turn that goes on has a block,
+handed : (e : tie.Else1 Inv-loop μ-loop) → isRefused (there e .body-command .result) ≡ false
+handed e = sym (e .before .is-refused .ensures) ∙ e .if1 .left
 
 -- and stays inside the log
-on : (c : tie.Else1 Inv-loop μ-loop) →
-    let b = there (turned (c .before)) in
+on : (e : tie.Else1 Inv-loop μ-loop) →
+    let b = there e in
     let next = loop b .loop .next in
     let size = commandSize (b .body-command .result) in
     (next < next + size) × (next + size ≤ length (start (loop b) .args .log .now))
-on c =
-    let b = there (turned (c .before)) in
+on e =
+    let b = there e in
     let s = start (loop b) in
-    block-on (loop b .loop .inv) (s .pre .4) (due b) (s .pre .0) _ (b .body-command .ensures) (handed c)
+    block-on (loop b .loop .inv) (s .pre .4) (due b) (s .pre .0) _ (b .body-command .ensures) (handed e)
 
 head-blocks-requires : tie.Need-head-blocks-requires Inv-loop μ-loop
 head-blocks-requires c κs = c .before .before .pre .4
@@ -60,47 +66,51 @@ body-command-requires c κs =
     let l = c .before in
     (l .loop .inv .inside, start l .pre .4, l .before .head-blocks .ensures .0)
 
-put-line-requires : tie.Need-put-line-requires Inv-loop μ-loop
-put-line-requires c κs =
-    let l = loop (c .before) in
-    omega (arith, l .loop .inv .on, l .loop .inv .inside, l .loop .inv .short, start l .pre)
-
 is-refused-requires : tie.Need-is-refused-requires Inv-loop μ-loop
 is-refused-requires c κs = search needs
 
+put-line-requires : tie.Need-put-line-requires Inv-loop μ-loop
+put-line-requires c κs = room (c .before .before .before)
+
 same-length : tie.Need-same-length Inv-loop μ-loop
 same-length c =
-    let w = turned (c .before) in
-    w .put-line .kept .0 ∙ loop (there w) .loop .inv .rest .long
+    let w = c .before .before in
+    w .put-line .kept .0 ∙ loop (w .before .before .before .before) .loop .inv .rest .long
 
 returns : tie.Need-returns Inv-loop μ-loop
 returns c =
-    let w = turned (c .before) in
-    let b = there w in
+    let w = c .before .before in
+    let i = w .before .before in
+    let b = i .before .before in
     let s = start (loop b) in
-    printing-last (loop b .loop .inv) (s .pre .4) (due b) (s .pre .0) _ (b .body-command .ensures) (w .put-line .ensures .0) (sym (c .before .is-refused .ensures) ∙ c .if1 .taken)
+    printing-last (loop b .loop .inv) (s .pre .4) (due b) (s .pre .0) _ (b .body-command .ensures) (w .put-line .ensures .0)
+    (sym (i .before .is-refused .ensures) ∙ i .if1 .taken)
+
+put-block-line-requires : tie.Need-put-block-line-requires Inv-loop μ-loop
+put-block-line-requires c κs = (room (c .before .before .before), handed (c .before))
 
 command-size-requires : tie.Need-command-size-requires Inv-loop μ-loop
 command-size-requires c κs = search needs
 
 add-next : tie.Need-add-next Inv-loop μ-loop
 add-next c =
-    let b = there (turned (c .before .before)) in
-    omega (arith, c .command-size .ensures, on (c .before) .1, start (loop b) .pre .2)
+    let e = going (written c) in
+    omega (arith, c .command-size .ensures, on e .1, start (loop (there e)) .pre .2)
 
 add-k : tie.Need-add-k Inv-loop μ-loop
-add-k c = let l = loop (there (turned (c .before .before))) in omega (arith, l .loop .inv .on, l .loop .inv .inside, start l .pre .2)
+add-k c = let l = loop (there (going (written c))) in omega (arith, l .loop .inv .on, l .loop .inv .inside, start l .pre .2)
 
 loop-less : tie.Need-loop-less Inv-loop μ-loop
-loop-less c = let b = there (turned (c .before .before)) in omega (arith, b .before .loop-test .taken)
+loop-less c = omega (arith, there (going (written c)) .before .loop-test .taken)
 
 loop-again : tie.Need-loop-again Inv-loop μ-loop
 loop-again c =
-    let w = turned (c .before .before) in
-    let b = there w in
+    let w = written c in
+    let e = going w in
+    let b = there e in
     let s = start (loop b) in
-    rw (c .command-size .ensures)
-    (printing-more (loop b .loop .inv) (s .pre .4) (due b) (s .pre .0) _ (b .body-command .ensures) (w .put-line .ensures .0) (handed (c .before)) (w .put-line .ensures .1))
+    let l = w .put-block-line .ensures in
+    rw (c .command-size .ensures) (printing-more (loop b .loop .inv) (s .pre .4) (due b) (s .pre .0) _ (b .body-command .ensures) (l .0) (handed e) (l .1))
 
 sub-put-from : tie.Need-sub-put-from Inv-loop μ-loop
 sub-put-from c = let l = c .before .before in omega (arith, l .loop .inv .on, l .loop .inv .inside)
@@ -129,10 +139,11 @@ put-body-spec =
     head-blocks-requires
     loop-holds
     body-command-requires
-    put-line-requires
     is-refused-requires
+    put-line-requires
     same-length
     returns
+    put-block-line-requires
     command-size-requires
     add-next
     add-k
