@@ -7,3 +7,4 @@ pub mod Tests
 pub mod Least
 pub mod Picks
 pub mod Calls
+pub mod FirstWrong

@@ -154,7 +154,7 @@ pub fn body_command(log: &[u8], at: usize, head: Head, all: usize, blocks: usize
         2 => block_due(log, at, head, all, blocks),
         3 => still_due(log, at, head, all, blocks),
         4 => end_due(log, at, head, all, blocks),
-        5..=255 => refused(14, at),
+        5..=255 => refused(14, at), // unknown
     }
 }
 

@@ -2,22 +2,18 @@
 --   blockCommand   the command of block k: a still block for (0,0) with distortion 0, "which a block command may not carry"
 --   logCommands    the commands of the log
 --   logOf          its bytes
-use Prim.Native.Nat.{ℕ, _+_, _*_}
+use Prim.Native.Nat.{ℕ}
 use mathlib.Core.List.{List, [], _∷_, _++_, flatMap}
 use mathlib.Core.Bool.{cond}
-use lib.ListN.{getD}
-use lib.IntN.{ℤ, pos}
+use lib.IntN.{ℤ}
 use Rattle.base.specs.Lists.{listTo}
 use Rattle.signed.specs.Int.{up}
 use Rattle.log_head.specs.declared.Head.{Head}
+use Rattle.log_list.specs.Listed.{valueOf}
 use Rattle.log_command.specs.declared.Command.{Command}
 use Rattle.log_command.specs.declared.Command.the-variants as Cmd
 use Rattle.log_command.specs.Commands.{commandBytes}
 use Rattle.log_head.specs.Heads.{headBlocks, isStill}
-
--- the number at place i of block k's three
-abbrev pub valueOf : List ℤ → ℕ → ℕ → ℤ
-valueOf list k i = getD list (3 * k + i) (pos 0)
 
 unfoldable pub blockCommand : List ℤ → ℕ → Command
 blockCommand list k =

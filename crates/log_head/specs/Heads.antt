@@ -4,7 +4,8 @@
 --   headRefusal   1 3 4 5: what turns head numbers away
 --   headOk        15 lets the head pass: "head that 1, 3, 4 or 5 would turn away"
 --   headBlocks    how many blocks the head's grid has
---   entryOk       16, "block vector no candidate, distortion below 0 or over 255 × N²", of grid block k
+--   candidateOk   the vector is a candidate of window w for grid block k; distortionOk: 0 to 255 × N²
+--   entryOk       both: 16, "block vector no candidate, distortion below 0 or over 255 × N²", of grid block k
 --   isStill       "a still block": (0,0) with distortion 0
 use Prim.Native.Nat.{ℕ, suc, _+_, _*_, _≤_, _<_}
 use mathlib.Core.Path.{_≡_, refl, sym}
@@ -50,10 +51,11 @@ abbrev pub distortionOk : ℕ → ℤ → Bool
 distortionOk n (pos d) = leb d (255 * (n * n))
 distortionOk n (negsuc d) = false
 
+abbrev pub candidateOk : Sizes → ℕ → ℕ → ℤ → ℤ → Bool
+candidateOk s w k dy dx = candidate s w (blockRow s k) (blockColumn s k) (vec dy dx)
+
 unfoldable pub entryOk : Head → ℕ → ℤ → ℤ → ℤ → Bool
-entryOk h k dy dx distortion =
-    let s = sizesIn h in
-    candidate s (h .w) (blockRow s k) (blockColumn s k) (vec dy dx) && distortionOk (h .n) distortion
+entryOk h k dy dx distortion = candidateOk (sizesIn h) (h .w) k dy dx && distortionOk (h .n) distortion
 
 unfoldable pub isStill : ℤ → ℤ → ℤ → Bool
 isStill dy dx distortion = eqZ dy (pos 0) && (eqZ dx (pos 0) && eqZ distortion (pos 0))

@@ -2,7 +2,9 @@
 
 ghost use mathlib.Core.Path.{_≡_};
 ghost use Prim.Native.Nat.{_≤_, _<_};
-ghost use Rattle.log_head.specs.Heads.{noHead, sizesIn, headRefusal, headBlocks, distortionOk, entryOk, isStill};
+ghost use Rattle.frame.specs.Pictures.{Fitting};
+ghost use Rattle.frame.specs.Grid.{blocks};
+ghost use Rattle.log_head.specs.Heads.{noHead, sizesIn, headRefusal, headBlocks, candidateOk, distortionOk, entryOk, isStill};
 use frame::Sizes;
 use signed::Shifted;
 
@@ -84,15 +86,22 @@ fn distortion_ok(n: usize, distortion: i32) -> bool
     }
 }
 
+// The vector is a candidate of window w for grid block k.
+pub fn candidate_ok(s: Sizes, w: usize, k: usize, dy: i32, dx: i32) -> bool
+    requires { ⌜ Fitting s × (k < blocks s) ⌝ }
+    ensures { λ r. ⌜ r ≡ candidateOk s w k dy dx ⌝ }
+{
+    let row = frame::block_row(s, k);
+    let column = frame::block_column(s, k);
+    frame::is_candidate(s, w, row, column, dy, dx)
+}
+
 // 16: what grid block k may have: a candidate and its distortion.
 pub fn entry_ok(h: Head, k: usize, dy: i32, dx: i32, distortion: i32) -> bool
     requires { ⌜ (headRefusal h ≡ 0) × (k < headBlocks h) ⌝ }
     ensures { λ r. ⌜ r ≡ entryOk h k dy dx distortion ⌝ }
 {
-    let s = sizes_in(h);
-    let row = frame::block_row(s, k);
-    let column = frame::block_column(s, k);
-    if !frame::is_candidate(s, h.w, row, column, dy, dx) {
+    if !candidate_ok(sizes_in(h), h.w, k, dy, dx) {
         return false;
     }
     distortion_ok(h.n, distortion)

@@ -16,9 +16,10 @@ use Rattle.log_command.specs.declared.Command.{Command}
 use Rattle.log_command.specs.declared.Command.the-variants as Cmd
 use Rattle.log_command.specs.Commands.{commandBytes, blockValues}
 use Rattle.log_head.specs.Heads.{headRefusal, headBlocks, isStill, entry}
-use Rattle.log_command.specs.Logs.{valueOf, blockCommand, logCommands, logOf}
+use Rattle.log_command.specs.Logs.{blockCommand, logCommands, logOf}
+use Rattle.log_list.specs.Listed.{valueOf}
 use Rattle.log.specs.Walk.{lastOf}
-use Rattle.log_writing.specs.Writing.{listedOk}
+use Rattle.log_list.specs.Listed.{listedOk}
 use Rattle.log_reading.specs.Reading.{fieldOf}
 use Rattle.base.specs.Fronts.{drop-front, flatMap-append}
 use Rattle.log_walks.proofs.Made.{Made, as-still, as-block, made}

@@ -19,21 +19,21 @@ use Rattle.log_reading.specs.Reading.{fieldOf, refusedRead, refusedBy, accepted
 use Rattle.log_walks.proofs.Accepted.{walk-begins, acceptedLog}
 use Rattle.log_walks.proofs.Ends.{refused-number, ends}
 
-pub record Passed (log : List ℕ) (list : List ℤ) : Type 0 where
+pub record Accepted (log : List ℕ) (list : List ℤ) : Type 0 where
   pub ended : commandNumber (lastOf (walk log)) ≡ 34
   pub room : 3 * headBlocks (logHead log) ≤ length list
 
 module _ (log : List ℕ) (list : List ℤ) where
-  pub passed : readLog log list .answer .refusal ≡ 0 → Passed log list
+  pub accepted : readLog log list .answer .refusal ≡ 0 → Accepted log list
   unfolding readLog logRead
-  passed =
+  accepted =
       go (isRefused (stepAt log startCursor .command)) refl (ltb (length list) (3 * headBlocks (logHead log))) refl (eqb (commandNumber (lastOf (walk log))) 34) refl
     where
       go : (a : Bool) → isRefused (stepAt log startCursor .command) ≡ a → (b : Bool) → ltb (length list) (3 * headBlocks (logHead log)) ≡ b
           → (c : Bool) → eqb (commandNumber (lastOf (walk log))) 34 ≡ c
           → cond {A = LogRead} a (refusedBy (stepAt log startCursor .command))
           (cond b (refusedRead 10 (stepAt log startCursor .next .at)) (cond c (acceptedRead (logHead log)) (refusedBy (lastOf (walk log))))) .refusal ≡ 0
-          → Passed log list
+          → Accepted log list
       go true e b f c g z = absurd (omega (arith, refused-number log startCursor e))
       go false e true f c g z = absurd (omega arith)
       go false e false f true g z = record { ended = eqb-true _ _ g; room = ltb-false _ _ f }
@@ -46,7 +46,7 @@ module _ (log : List ℕ) (list : List ℤ) where
       let q : stepAt log startCursor .command ≡ Cmd.Head (logHead log) = cc (walk-begins log, a .whole) in
       rw q
 
-  pub reads : Passed log list → readLog log list ≡ readResult (acceptedRead (logHead log)) (fieldOf (walk log) ++ drop (length (fieldOf (walk log))) list)
+  pub reads : Accepted log list → readLog log list ≡ readResult (acceptedRead (logHead log)) (fieldOf (walk log) ++ drop (length (fieldOf (walk log))) list)
   unfolding readLog logRead
   reads p =
       rw (

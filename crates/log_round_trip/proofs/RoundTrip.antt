@@ -12,7 +12,9 @@ use Rattle.base.specs.Lists.{Each}
 use Rattle.log_head.specs.declared.Head.{Head}
 use Rattle.log_command.specs.declared.Command.the-variants as Cmd
 use Rattle.log_command.specs.Commands.{commandNumber, commandBytes, commandHead}
-use Rattle.log_head.specs.Heads.{headBlocks}
+use Rattle.frame.specs.Grid.{blocks-few}
+use Rattle.log_head.specs.Heads.{sizesIn, headBlocks, headed}
+use Rattle.log_list.specs.Listed.{AllPass}
 use Rattle.log_command.specs.Logs.{logCommands, logOf}
 use Rattle.log.specs.declared.WalkStep.{WalkStep}
 use Rattle.log.specs.Walk.{walk, logHead, lastOf}
@@ -27,41 +29,44 @@ use Rattle.log_walks.proofs.Entries.{entries}
 use Rattle.log_walks.proofs.Steps.{head-step}
 use Rattle.log_walks.proofs.Complete.{complete}
 use Rattle.log_round_trip.specs.RoundTrip.{RoundTrip}
-use Rattle.log_round_trip.proofs.Writing as WriteResult
-use Rattle.log_round_trip.proofs.Reading as ReadResult
+use Rattle.log_round_trip.proofs.Writing as Writing
+use Rattle.log_round_trip.proofs.Reading as Reading
 use Rattle.log_round_trip.proofs.Plain.{plain-walk}
 use Rattle.log_round_trip.proofs.Fields.{field-is, last-is, front-entry, front-log}
 
 -- ---- what is written reads back
 
 module _ (h : Head) (list : List ℤ) (buffer : List ℕ) (e : writeLog h list buffer .answer .refusal ≡ 0) where
-  passed : WriteResult.Passed h list buffer
-  passed = WriteResult.passed h list buffer e
+  written : Writing.Accepted h list buffer
+  written = Writing.accepted h list buffer e
+
+  passes : AllPass h list
+  passes = written .pass
 
   written-log : take (writeLog h list buffer .answer .length) (writeLog h list buffer .buffer) ≡ logOf h list
-  written-log = rw (WriteResult.writes h list buffer passed) (take-append-seam (logOf h list) (drop (length (logOf h list)) buffer))
+  written-log = rw (Writing.writes h list buffer written) (take-append-seam (logOf h list) (drop (length (logOf h list)) buffer))
 
   walked : walk (logOf h list) ≡ logCommands h list ++ (Cmd.Refused 34 0 ∷ [])
-  walked = complete h list (passed .head) (passed .entries)
+  walked = complete h list (passes .listed .fine) (passes .each)
 
   head-back : logHead (logOf h list) ≡ h
   unfolding logOf logCommands flatMap
-  head-back = ap (λ (s : WalkStep). commandHead (s .command)) (head-step h _ (passed .head))
+  head-back = ap (λ (s : WalkStep). commandHead (s .command)) (head-step h _ (passes .listed .fine))
 
   field-back : fieldOf (walk (logOf h list)) ≡ take (3 * headBlocks h) list
-  field-back = rw walked (field-is h list (passed .head) (passed .entries) (passed .listed))
+  field-back = rw walked (field-is h list (passes .listed .fine) (passes .each) (passes .listed .room))
 
   reads-back : (other : List ℤ) → 3 * headBlocks h ≤ length other
       → readLog (logOf h list) other ≡ readResult (acceptedRead h) (take (3 * headBlocks h) list ++ drop (3 * headBlocks h) other)
   reads-back other m =
-      ReadResult.reads (logOf h list) other (record { ended = rw (walked, last-is (logCommands h list) (Cmd.Refused 34 0)); room = rw head-back m })
-      ∙ rw (head-back, field-back, length-take-le (3 * headBlocks h) list (passed .listed))
+      Reading.reads (logOf h list) other (record { ended = rw (walked, last-is (logCommands h list) (Cmd.Refused 34 0)); room = rw head-back m })
+      ∙ rw (head-back, field-back, length-take-le (3 * headBlocks h) list (passes .listed .room))
 
 -- ---- what is read writes back
 
 module _ (log : List ℕ) (bytes : Each (λ (b : ℕ). b < 256) log) (list : List ℤ) (e : readLog log list .answer .refusal ≡ 0) where
   ended : commandNumber (lastOf (walk log)) ≡ 34
-  ended = ReadResult.passed log list e .ended
+  ended = Reading.accepted log list e .ended
 
   abbrev head : Head
   head = logHead log
@@ -91,14 +96,16 @@ module _ (log : List ℕ) (bytes : Each (λ (b : ℕ). b < 256) log) (list : Lis
   unfolding fieldOf
   writes-back buffer m =
       let behind = drop (length field) list in
+      let ok = acceptedLog log ended .ok in
       let front : 3 * headBlocks head ≤ length field = omega (arith, three) in
       let listed : 3 * headBlocks head ≤ length after = omega (arith, length-append field behind) in
-      rw (ReadResult.reads log list (ReadResult.passed log list e))
-      (WriteResult.writes head after buffer
+      rw (Reading.reads log list (Reading.accepted log list e))
+      (Writing.writes head after buffer
       (record {
-        head = acceptedLog log ended .ok;
-        listed = listed;
-        entries = λ k l. front-entry head field behind front k l ∙ entries log ended k l;
+        pass = record {
+          listed = record { fine = ok; few = blocks-few (sizesIn head) (headed head ok .fitting); room = listed };
+          each = λ k l. front-entry head field behind front k l ∙ entries log ended k l;
+        };
         fits = rw same-log m;
       })
       ∙ rw same-log)
@@ -106,8 +113,8 @@ module _ (log : List ℕ) (bytes : Each (λ (b : ℕ). b < 256) log) (list : Lis
 accepted-alike : (log : List ℕ) (list : List ℤ)
     → (readLog log list .answer .refusal ≡ 0) ↔ ((commandNumber (lastOf (walk log)) ≡ 34) × (3 * headBlocks (logHead log) ≤ length list))
 accepted-alike log list = (
-  λ e. let p = ReadResult.passed log list e in (p .ended, p .room),
-  λ p. rw (ReadResult.reads log list (record { ended = p .0; room = p .1 })),
+  λ e. let p = Reading.accepted log list e in (p .ended, p .room),
+  λ p. rw (Reading.reads log list (record { ended = p .0; room = p .1 })),
 )
 
 pub round-trip : RoundTrip

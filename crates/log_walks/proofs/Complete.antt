@@ -14,7 +14,8 @@ use Rattle.log_command.specs.declared.Command.{Command}
 use Rattle.log_command.specs.declared.Command.the-variants as Cmd
 use Rattle.log_command.specs.Commands.{commandBytes, commandSize, isRefused}
 use Rattle.log_head.specs.Heads.{headRefusal, headBlocks, entryOk}
-use Rattle.log_command.specs.Logs.{valueOf, blockCommand, logCommands, logOf}
+use Rattle.log_command.specs.Logs.{blockCommand, logCommands, logOf}
+use Rattle.log_list.specs.Listed.{valueOf}
 use Rattle.log.specs.Step.{commandStep, refusedStep, stepAt, startCursor}
 use Rattle.log.specs.Walk.{commandsFrom, walk}
 use Rattle.base.specs.Fronts.{listFrom, listTo-from}

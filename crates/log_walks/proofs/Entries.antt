@@ -15,7 +15,7 @@ use Rattle.log_head.specs.declared.Head.{Head}
 use Rattle.log_command.specs.declared.Command.{Command}
 use Rattle.log_command.specs.Commands.{commandNumber, blockValues}
 use Rattle.log_head.specs.Heads.{sizesIn, headRefusal, headed, headBlocks, entryOk}
-use Rattle.log_command.specs.Logs.{valueOf}
+use Rattle.log_list.specs.Listed.{valueOf}
 use Rattle.log.specs.Walk.{walk, logHead, lastOf}
 use Rattle.log_walks.proofs.Accepted.{AcceptedFrom, last, block, still, acceptedLog}
 use Rattle.log_walks.proofs.Whole.{value-next}

@@ -8,7 +8,8 @@ use Rattle.signed.specs.Int.{up}
 use Rattle.log_command.specs.declared.Command.{Command}
 use Rattle.log_command.specs.declared.Command.the-variants as Cmd
 use Rattle.log_head.specs.Heads.{isStill}
-use Rattle.log_command.specs.Logs.{valueOf, blockCommand}
+use Rattle.log_command.specs.Logs.{blockCommand}
+use Rattle.log_list.specs.Listed.{valueOf}
 
 pub data Made (dy dx z : ℤ) : Command → Type 0 where
   as-still : isStill dy dx z ≡ true → Made dy dx z Cmd.Still

@@ -11,7 +11,8 @@ use Rattle.log_command.specs.declared.Command.{Command}
 use Rattle.log_command.specs.declared.Command.the-variants as Cmd
 use Rattle.log_command.specs.Commands.{commandNumber, blockValues}
 use Rattle.log_head.specs.Heads.{headBlocks, isStill}
-use Rattle.log_command.specs.Logs.{valueOf, blockCommand, logCommands}
+use Rattle.log_command.specs.Logs.{blockCommand, logCommands}
+use Rattle.log_list.specs.Listed.{valueOf}
 use Rattle.log_command.specs.Operands.{blockIn, dyIn, dxIn, distortionIn}
 use Rattle.log.specs.Walk.{walk, logHead, lastOf}
 use Rattle.base.specs.Fronts.{listTo-front}

@@ -12,7 +12,8 @@ use Rattle.put.specs.Put.{Put, put-over, over-fits}
 use Rattle.log_head.specs.declared.Head.{Head}
 use Rattle.log_command.specs.Commands.{commandBytes}
 use Rattle.log_head.specs.Heads.{headBlocks, isStill}
-use Rattle.log_command.specs.Logs.{valueOf, blockCommand, logCommands, logOf}
+use Rattle.log_command.specs.Logs.{blockCommand, logCommands, logOf}
+use Rattle.log_list.specs.Listed.{valueOf}
 use Rattle.log_writing.specs.Writing.{writeResult}
 use Rattle.log_writing.specs.Parts.{headBytes, numbersBytes, endBytes, blockBytes}
 

@@ -1,4 +1,4 @@
-// WriteResult a log of document 01: head numbers and a list of three numbers a block, as bytes in a lent buffer.
+// Writes a log of document 01: head numbers and a list of three numbers a block, as bytes in a lent buffer.
 
 ghost use mathlib.Core.Path.{_≡_};
 ghost use Prim.Native.Nat.{_+_, _*_, _≤_, _<_};
@@ -7,9 +7,10 @@ ghost use Rattle.base.specs.Lists.{concatTo};
 ghost use Rattle.put.specs.Put.{Put};
 ghost use Rattle.log_command.specs.Numbers.{bytes2};
 ghost use Rattle.log_head.specs.Heads.{headRefusal, headBlocks, isStill, Entry};
-ghost use Rattle.log_command.specs.Logs.{valueOf, logOf};
-ghost use Rattle.log_writing.specs.Writing.{listRefusal, listedOk, firstWrong, writeResult, refusedWrite, writeListed, writeLog};
-ghost use Rattle.log_writing.specs.Parts.{headBytes, numbersBytes, endBytes, blockBytes, Writable, Passed};
+ghost use Rattle.log_command.specs.Logs.{logOf};
+ghost use Rattle.log_list.specs.Listed.{valueOf, Writable, AllPass};
+ghost use Rattle.log_writing.specs.Writing.{writeResult, refusedWrite, writeLog};
+ghost use Rattle.log_writing.specs.Parts.{headBytes, numbersBytes, endBytes, blockBytes};
 use log_head::Head;
 
 // What writing answers: the log's length, or a refusal with its place.
@@ -30,64 +31,16 @@ fn refused_write(refusal: u32, place: usize) -> Written
     }
 }
 
-// The first of 1 3 4 5 10 that applies, or 0; the list by its length.
-fn list_refusal(head: Head, list: usize) -> u32
-    ensures { λ r. ⌜ r ≡ listRefusal head list ⌝ }
-{
-    let refusal = log_head::head_refusal(head);
-    if refusal != 0 {
-        return refusal;
-    }
-    if list < 3 * log_head::head_blocks(head) {
-        return 10;
-    }
-    0
-}
-
-// The number at place i of block k's three.
-fn value(list: &[i32], k: usize, i: usize) -> i32
-    requires { ⌜ (3 * k + i < length (now list)) × (k < 1048576) × (i < 3) ⌝ }
-    ensures { λ r. ⌜ r ≡ valueOf (now (list .entry)) k i ⌝ }
-{
-    list[3 * k + i]
-}
-
-// 16 lets block k pass.
-fn listed_ok(head: Head, list: &[i32], k: usize) -> bool
-    requires { ⌜ Writable head (length (now list)) × (k < headBlocks head) ⌝ }
-    ensures { λ r. ⌜ r ≡ listedOk head (now (list .entry)) k ⌝ }
-{
-    log_head::entry_ok(
-        head,
-        k,
-        value(list, k, 0),
-        value(list, k, 1),
-        value(list, k, 2),
-    )
-}
-
-// The first block that 16 turns away, or the number of blocks.
-fn first_wrong(head: Head, list: &[i32]) -> usize
-    requires { ⌜ Writable head (length (now list)) ⌝ }
-    ensures { λ r. ⌜ r ≡ firstWrong (listedOk head (now (list .entry))) 0 (headBlocks head) ⌝ }
-{
-    let n = log_head::head_blocks(head);
-    let mut k: usize = 0;
-    while k < n {
-        if !listed_ok(head, list, k) {
-            return k;
-        }
-        k += 1;
-    }
-    k
-}
-
 // Block k is a still block.
 fn still_at(list: &[i32], k: usize) -> bool
     requires { ⌜ (3 * k + 3 ≤ length (now list)) × (k < 1048576) ⌝ }
     ensures { λ r. ⌜ r ≡ isStill (valueOf (now (list .entry)) k 0) (valueOf (now (list .entry)) k 1) (valueOf (now (list .entry)) k 2) ⌝ }
 {
-    log_head::is_still(value(list, k, 0), value(list, k, 1), value(list, k, 2))
+    log_head::is_still(
+        log_list::value(list, k, 0),
+        log_list::value(list, k, 1),
+        log_list::value(list, k, 2),
+    )
 }
 
 // How many bytes block k takes.
@@ -164,15 +117,15 @@ fn put_block(out: &mut [u8], at: usize, list: &[i32], k: usize) -> usize
     put_numbers(
         out,
         at,
-        value(list, k, 0),
-        value(list, k, 1),
-        value(list, k, 2),
+        log_list::value(list, k, 0),
+        log_list::value(list, k, 1),
+        log_list::value(list, k, 2),
     )
 }
 
 // All blocks.
 fn put_blocks(out: &mut [u8], at: usize, head: Head, list: &[i32]) -> usize
-    requires { ⌜ (at ≤ 8) × Passed head (now list) ⌝ }
+    requires { ⌜ (at ≤ 8) × AllPass head (now list) ⌝ }
     ensures { λ r. ⌜ Put (now (out .entry)) at (concatTo (blockBytes (now (list .entry))) (headBlocks head)) (now (out .exit)) r × (r ≤ 10000000) ⌝ }
 {
     let n = log_head::head_blocks(head);
@@ -197,7 +150,7 @@ fn put_end(out: &mut [u8], at: usize, n: usize) -> usize
 
 // The log, at the buffer's start. Answers with its length.
 fn put_log(out: &mut [u8], head: Head, list: &[i32]) -> usize
-    requires { ⌜ Passed head (now list) ⌝ }
+    requires { ⌜ AllPass head (now list) ⌝ }
     ensures { λ r. ⌜ Put (now (out .entry)) 0 (logOf head (now (list .entry))) (now (out .exit)) r ⌝ }
 {
     let blocks = put_head(out, head);
@@ -205,14 +158,13 @@ fn put_log(out: &mut [u8], head: Head, list: &[i32]) -> usize
     put_end(out, end, log_head::head_blocks(head))
 }
 
-// WriteResult once 1 3 4 5 10 are passed.
-fn write_listed(head: Head, list: &[i32], buffer: &mut [u8]) -> Written
-    requires { ⌜ Writable head (length (now list)) ⌝ }
-    ensures { λ r. ⌜ writeResult r (now (buffer .exit)) ≡ writeListed head (now (list .entry)) (now (buffer .entry)) ⌝ }
+// Writes the log of these head numbers and this list over the front of the buffer.
+pub fn write_log(head: Head, list: &[i32], buffer: &mut [u8]) -> Written
+    ensures { λ r. ⌜ writeResult r (now (buffer .exit)) ≡ writeLog head (now (list .entry)) (now (buffer .entry)) ⌝ }
 {
-    let wrong = first_wrong(head, list);
-    if wrong < log_head::head_blocks(head) {
-        return refused_write(16, wrong);
+    let verdict = log_list::list_verdict(head, list);
+    if verdict.refusal != 0 {
+        return refused_write(verdict.refusal, verdict.place);
     }
     if buffer.len() < log_size(head, list) {
         return refused_write(19, 0);
@@ -222,15 +174,4 @@ fn write_listed(head: Head, list: &[i32], buffer: &mut [u8]) -> Written
         place: 0,
         length: put_log(buffer, head, list),
     }
-}
-
-// Writes the log of these head numbers and this list over the front of the buffer.
-pub fn write_log(head: Head, list: &[i32], buffer: &mut [u8]) -> Written
-    ensures { λ r. ⌜ writeResult r (now (buffer .exit)) ≡ writeLog head (now (list .entry)) (now (buffer .entry)) ⌝ }
-{
-    let refusal = list_refusal(head, list.len());
-    if refusal != 0 {
-        return refused_write(refusal, 0);
-    }
-    write_listed(head, list, buffer)
 }

@@ -32,7 +32,9 @@ use Rattle.log.specs.Step.{judged, headTaken, blockTaken, endTaken, standingOk,
 use Rattle.log_command.specs.Operands.{headIn}
 use Rattle.log.specs.Walk.{commandsFrom, walk as logWalk, lastOf}
 use Rattle.log_command.specs.Logs.{blockCommand, logCommands, logOf}
-use Rattle.log_writing.specs.Writing.{listRefusal, firstWrong, writeListed, writeLog}
+use Rattle.base.specs.FirstWrong.{firstWrong}
+use Rattle.log_list.specs.Listed.{listRefusal, listVerdict}
+use Rattle.log_writing.specs.Writing.{writeLog}
 use Rattle.log_reading.specs.Reading.{fieldOf, logRead, readLog}
 use Rattle.put.specs.Digits.{digits}
 use Rattle.log_line.specs.Line.{numberText, spaced, endWord, refusedWord, atWord, worded}
@@ -94,7 +96,7 @@ unfolding
     runFrom trackHome stepRefusal arrived
     signedByte byteOf headRefusal entryOk isStill be2 be4 judged headIn headTaken blockTaken endTaken standingOk startCommand bodyCommand stepAt
     commandsFrom logWalk lastOf blockCommand logCommands logOf flatMap
-    listRefusal firstWrong writeListed writeLog fieldOf logRead readLog digits numberText spaced endWord refusedWord atWord worded printLog
+    listRefusal firstWrong listVerdict writeLog fieldOf logRead readLog digits numberText spaced endWord refusedWord atWord worded printLog
 computed = refl
 
 pub worked : Each Right table

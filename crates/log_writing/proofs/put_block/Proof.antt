@@ -5,8 +5,8 @@ use borrow.Author.Needs.{needs}
 use denote.Ref.{now}
 use mir.Syntax.{w32}
 use mir.Val.{toZ, ofZ}
-use Rattle.log_command.specs.Logs.{valueOf}
-use Rattle.log_writing.proofs.Sound.{through}
+use Rattle.log_list.specs.Listed.{valueOf}
+use Rattle.log_list.proofs.Sound.{through}
 use Rattle.log_writing.specs.Parts.{numbersBytes}
 use Rattle.log_writing.proofs.Bytes.{block-still, block-moved}
 use Rattle.log_writing.proofs.put_block.Statement.{statement}

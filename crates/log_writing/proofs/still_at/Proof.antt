@@ -4,8 +4,8 @@ use borrow.Author.Needs.{needs}
 use denote.Ref.{now}
 use mir.Syntax.{w32}
 use mir.Val.{toZ, ofZ}
-use Rattle.log_command.specs.Logs.{valueOf}
-use Rattle.log_writing.proofs.Sound.{through}
+use Rattle.log_list.specs.Listed.{valueOf}
+use Rattle.log_list.proofs.Sound.{through}
 use Rattle.log_writing.proofs.still_at.Statement.{statement}
 use Rattle.log_writing.proofs.still_at.Tie as tie
 

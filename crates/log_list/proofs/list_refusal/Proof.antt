@@ -4,9 +4,9 @@ use native.Mathlib.Omega.{arith}
 use borrow.Author.Needs.{needs}
 use borrow.Author.Tests.{lt-leb, le-leb}
 use Rattle.refusals.specs.Refusals.{first-refusal-none, first-refusal-some}
-use Rattle.log_writing.specs.Writing.{listRefusal}
-use Rattle.log_writing.proofs.list_refusal.Statement.{statement}
-use Rattle.log_writing.proofs.list_refusal.Tie as tie
+use Rattle.log_list.specs.Listed.{listRefusal}
+use Rattle.log_list.proofs.list_refusal.Statement.{statement}
+use Rattle.log_list.proofs.list_refusal.Tie as tie
 
 head-refusal-requires : tie.Need-head-refusal-requires
 head-refusal-requires c κs = search needs

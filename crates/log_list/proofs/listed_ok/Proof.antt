@@ -1,13 +1,13 @@
 -- `listed_ok`: the rule for the block's three numbers.
 use mathlib.Core.Path.{_≡_}
 use borrow.Author.Needs.{needs}
-use Rattle.log_command.specs.Logs.{valueOf}
+use Rattle.log_list.specs.Listed.{valueOf}
 use mir.Val.{toZ, ofZ}
 use mir.Syntax.{w32}
 use denote.Ref.{now}
-use Rattle.log_writing.proofs.Sound.{through}
-use Rattle.log_writing.proofs.listed_ok.Statement.{statement}
-use Rattle.log_writing.proofs.listed_ok.Tie as tie
+use Rattle.log_list.proofs.Sound.{through}
+use Rattle.log_list.proofs.listed_ok.Statement.{statement}
+use Rattle.log_list.proofs.listed_ok.Tie as tie
 
 value-requires : tie.Need-value-requires
 value-requires c κs = search needs

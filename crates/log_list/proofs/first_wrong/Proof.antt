@@ -1,4 +1,4 @@
--- `first_wrong`: what is left, searchBy from here, answers for the whole.
+-- `first_wrong`: what is left, searched from here, answers for the whole.
 use Prim.Native.Nat.{_-_, _≤_, _<_}
 use mathlib.Core.Path.{_≡_, refl, sym, _∙_}
 use native.Mathlib.Omega.{arith}
@@ -6,10 +6,10 @@ use borrow.Author.Needs.{needs}
 use native.Mathlib.Nat.{sub-zero}
 use Rattle.base.specs.Tests.{passed, failed}
 use Rattle.log_head.specs.Heads.{headBlocks}
-use Rattle.log_writing.specs.Writing.{listedOk, firstWrong}
-use Rattle.log_writing.proofs.Sound.{wrong-next, wrong-here, wrong-none}
-use Rattle.log_writing.proofs.first_wrong.Statement.{statement}
-use Rattle.log_writing.proofs.first_wrong.Tie as tie
+use Rattle.base.specs.FirstWrong.{firstWrong, wrong-more, wrong-here, wrong-last}
+use Rattle.log_list.specs.Listed.{listedOk}
+use Rattle.log_list.proofs.first_wrong.Statement.{statement}
+use Rattle.log_list.proofs.first_wrong.Tie as tie
 
 abbrev Inv-loop : tie.InvT-loop
 Inv-loop head list n k₀ k = (k ≤ n) × (n ≡ headBlocks head) × (firstWrong (listedOk head list) k (n - k) ≡ firstWrong (listedOk head list) 0 (headBlocks head))
@@ -42,13 +42,13 @@ loop-again : tie.Need-loop-again Inv-loop μ-loop
 loop-again c =
     let l = c .before .before .before .loop in
     let t : l .k < c .before .before .before .before .head-blocks .result = omega arith in
-    (omega arith, l .inv .1, sym (wrong-next _ _ _ t (passed (c .before .listed-ok .ensures) (c .if1 .left))) ∙ l .inv .2)
+    (omega arith, l .inv .1, sym (wrong-more _ _ _ t (passed (c .before .listed-ok .ensures) (c .if1 .left))) ∙ l .inv .2)
 
 returns-2 : tie.Need-returns-2 Inv-loop μ-loop
 returns-2 c =
     let l = c .before .loop in
     let t : c .before .before .head-blocks .result ≤ l .k = omega arith in
-    sym (wrong-none _ _ _ t) ∙ l .inv .2
+    sym (wrong-last _ _ _ t) ∙ l .inv .2
 
 pub first-wrong-spec : {M : Type 1} → statement M
 first-wrong-spec =
