@@ -17,7 +17,7 @@ use Rattle.search.specs.Target.{Target, target}
 use Rattle.search.specs.Exhaustive.{Best}
 use Rattle.probe.specs.Probe.{origin, Seen, atOrigin, around, widened, OwnDistortion}
 use Rattle.probe.proofs.Probe.{probe-own-distortion, at-origin-own-distortion, never-lower, probe-count, length-around}
-use Rattle.cross.specs.Cross.{diagonalCross, plusCross, pass, passes, onDiagonal, ended, finished, cross}
+use Rattle.cross.specs.Cross.{diagonalCross, plusCross, pass, allPasses, onDiagonal, ended, finished, cross}
 use Rattle.cross.proofs.Passes.{passesIn, passes-many, log2-some}
 
 -- ---- honest
@@ -27,12 +27,12 @@ module _ (t : Target) where
   unfolding pass
   pass-own-distortion p s h = probe-own-distortion t s (around (s .best) (widened p diagonalCross)) h
 
-  passes-own-distortion : (n p : ℕ) (s : Seen) → OwnDistortion t s → OwnDistortion t (passes n t p s)
-  unfolding passes
+  passes-own-distortion : (n p : ℕ) (s : Seen) → OwnDistortion t s → OwnDistortion t (allPasses n t p s)
+  unfolding allPasses
   passes-own-distortion zero p s h = h
   passes-own-distortion (suc n) p s h = go (leb p 1) (passes-own-distortion n (p / 2) (pass t p s) (pass-own-distortion p s h))
     where
-      go : (k : Bool) → OwnDistortion t (passes n t (p / 2) (pass t p s)) → OwnDistortion t (cond k s (passes n t (p / 2) (pass t p s)))
+      go : (k : Bool) → OwnDistortion t (allPasses n t (p / 2) (pass t p s)) → OwnDistortion t (cond k s (allPasses n t (p / 2) (pass t p s)))
       go true f = h
       go false f = f
 
@@ -45,9 +45,9 @@ module _ (t : Target) where
   unfolding cross
   cross-own-distortion limit w c = go (ltb (t .cost origin) limit)
     where
-      go : (k : Bool) → OwnDistortion t (cond k (atOrigin t) (finished t (passes w t (w / 2) (atOrigin t))))
+      go : (k : Bool) → OwnDistortion t (cond k (atOrigin t) (finished t (allPasses w t (w / 2) (atOrigin t))))
       go true = at-origin-own-distortion t c
-      go false = finished-own-distortion (passes w t (w / 2) (atOrigin t)) (passes-own-distortion w (w / 2) (atOrigin t) (at-origin-own-distortion t c))
+      go false = finished-own-distortion (allPasses w t (w / 2) (atOrigin t)) (passes-own-distortion w (w / 2) (atOrigin t) (at-origin-own-distortion t c))
 
 -- a block that stands wholly inside the newer frame
 module _ (p : Pair) (limit w y x : ℕ) (down : y + p .sizes .n ≤ p .sizes .height) (across : x + p .sizes .n ≤ p .sizes .width) where
@@ -92,7 +92,7 @@ module _ (t : Target) where
       c : T (crossWindow w)
       c = true-T (crossWindow w) e
 
-      go : (k : Bool) → cond k (atOrigin t) (finished t (passes w t (w / 2) (atOrigin t))) .count ≤ 5 + 4 * log2 w
+      go : (k : Bool) → cond k (atOrigin t) (finished t (allPasses w t (w / 2) (atOrigin t))) .count ≤ 5 + 4 * log2 w
       go true = omega arith
       go false =
           rw (← (passes-many t (atOrigin t) w c))

@@ -11,7 +11,7 @@ use Rattle.search.specs.Target.{Target}
 use Rattle.probe.specs.declared.BestSoFar.{BestSoFar}
 use Rattle.probe.specs.Probe.{origin, Seen, atOrigin}
 use Rattle.probe.specs.BestSoFar.{seenOf, Holds}
-use Rattle.cross.specs.Cross.{pass, passes, finished, cross}
+use Rattle.cross.specs.Cross.{pass, allPasses, finished, cross}
 
 -- n passes, p halved after each
 unfoldable pub passesIn : ℕ → Target → ℕ → Seen → Seen
@@ -29,9 +29,9 @@ pass-more zero t p s h = absurd (omega arith)
 pass-more (suc n) t p s h = let e : suc n - 1 ≡ n = omega arith in rw e
 
 -- of a window of cross: document 000's passes, p from w / 2 down to 2, are log2 w - 1
-pub passes-many : (t : Target) (s : Seen) (w : ℕ) → T (crossWindow w) → passesIn (log2 w - 1) t (w / 2) s ≡ passes w t (w / 2) s
-unfolding passes passesIn trailingZeros
-passes-many t s = cross-elim (λ w. passesIn (log2 w - 1) t (w / 2) s ≡ passes w t (w / 2) s) refl refl refl refl
+pub passes-many : (t : Target) (s : Seen) (w : ℕ) → T (crossWindow w) → passesIn (log2 w - 1) t (w / 2) s ≡ allPasses w t (w / 2) s
+unfolding allPasses passesIn trailingZeros
+passes-many t s = cross-elim (λ w. passesIn (log2 w - 1) t (w / 2) s ≡ allPasses w t (w / 2) s) refl refl refl refl
 
 pub log2-some : (w : ℕ) → T (crossWindow w) → 1 ≤ log2 w
 unfolding trailingZeros
@@ -42,7 +42,7 @@ pub record Passing (t : Target) (w : ℕ) (at-origin best : BestSoFar) (p left :
   pub down : best .y ≤ 32
   pub across : best .x ≤ 32
   pub few : best .count + 9 * left ≤ at-origin .count + 27
-  pub leads : passesIn left t p (seenOf best) ≡ passes w t (w / 2) (seenOf at-origin)
+  pub leads : passesIn left t p (seenOf best) ≡ allPasses w t (w / 2) (seenOf at-origin)
 
 module _ (t : Target) (w : ℕ) (at-origin : BestSoFar) where
   pub passing-none : T (crossWindow w) → at-origin .y ≤ 32 → at-origin .x ≤ 32 → Passing t w at-origin at-origin (w / 2) (log2 w - 1)
@@ -65,7 +65,7 @@ module _ (t : Target) (w : ℕ) (at-origin : BestSoFar) where
           leads = ap (passesIn (left - 1) t (p / 2)) (k .is) ∙ sym (pass-more left t p (seenOf best) h) ∙ g .leads;
         }
 
-    pub passing-done : left ≤ 0 → Holds best (passes w t (w / 2) (seenOf at-origin)) (at-origin .count + 27)
+    pub passing-done : left ≤ 0 → Holds best (allPasses w t (w / 2) (seenOf at-origin)) (at-origin .count + 27)
     passing-done h =
         record {
           is = sym (pass-done left t p (seenOf best) h) ∙ g .leads;
@@ -83,6 +83,6 @@ module _ (t : Target) (limit w : ℕ) (s : Seen) (e : s ≡ atOrigin t) where
   unfolding cross
   cross-stops h = let l = at-start in rw (lt-ltb (t .cost origin) limit (omega arith)) e
 
-  pub cross-goes : limit ≤ s .least → finished t (passes w t (w / 2) s) ≡ cross t limit w
+  pub cross-goes : limit ≤ s .least → finished t (allPasses w t (w / 2) s) ≡ cross t limit w
   unfolding cross
-  cross-goes h = let l = at-start in rw (le-ltb (t .cost origin) limit (omega arith)) (ap (λ q. finished t (passes w t (w / 2) q)) e)
+  cross-goes h = let l = at-start in rw (le-ltb (t .cost origin) limit (omega arith)) (ap (λ q. finished t (allPasses w t (w / 2) q)) e)

@@ -3,7 +3,7 @@
 -- smaller replaces." The centre is not measured again.
 --   diagonalCross      steps 4 and 8: the ends of a cross (X), at step size 1; plusCross: step 7: the ends of a cross (+)
 --   pass        steps 3 and 4: the best by now is the centre, and the ends of a cross (X) at step size p are probePoint at
---   passes      step 5: passes, p halved after each, until p is 1
+--   allPasses   step 5: allPasses, p halved after each, until p is 1
 --   onDiagonal  step 6: the minimum m is the centre i, or the point above and left of it, or the one below and right
 --   ended       steps 7 and 8
 --   finished    the pass at p = 1, then steps 6 to 8
@@ -31,9 +31,9 @@ unfoldable pub pass : Target → ℕ → Seen → Seen
 pass t p s = probe t s (around (s .best) (widened p diagonalCross))
 
 -- n is at least the number of passes
-unfoldable pub passes : ℕ → Target → ℕ → Seen → Seen
-passes zero t p s = s
-passes (suc n) t p s = cond (leb p 1) s (passes n t (p / 2) (pass t p s))
+unfoldable pub allPasses : ℕ → Target → ℕ → Seen → Seen
+allPasses zero t p s = s
+allPasses (suc n) t p s = cond (leb p 1) s (allPasses n t (p / 2) (pass t p s))
 
 -- (i,j), (i-1,j-1), (i+1,j+1)
 unfoldable pub diagonal : List Vector
@@ -49,4 +49,4 @@ unfoldable pub finished : Target → Seen → Seen
 finished t s = ended t (onDiagonal (s .best) (pass t 1 s .best)) (pass t 1 s)
 
 unfoldable pub cross : Target → ℕ → ℕ → Seen
-cross t limit w = cond (ltb (t .cost origin) limit) (atOrigin t) (finished t (passes w t (w / 2) (atOrigin t)))
+cross t limit w = cond (ltb (t .cost origin) limit) (atOrigin t) (finished t (allPasses w t (w / 2) (atOrigin t)))

@@ -6,7 +6,7 @@ ghost use lib.Dec.{T};
 ghost use Rattle.refusals.specs.Cross.{crossWindow};
 ghost use Rattle.search.specs.Target.{Ready, targetOf};
 ghost use Rattle.probe.specs.BestSoFar.{point, seenOf, Ongoing, Holds, resultOf};
-ghost use Rattle.cross.specs.Cross.{pass, passes, onDiagonal, ended, finished, cross};
+ghost use Rattle.cross.specs.Cross.{pass, allPasses, onDiagonal, ended, finished, cross};
 use frame::SearchBlock;
 use probe::BestSoFar;
 use search::SearchResult;
@@ -30,7 +30,7 @@ fn pass_at(older: &[u8], newer: &[u8], b: SearchBlock, s: BestSoFar, p: u32) -> 
 // Steps 2 to 5: passes at w / 2, w / 4 and so on, down to 2. w is halved log2 w times, the last time to 1.
 fn all_passes(older: &[u8], newer: &[u8], b: SearchBlock, s: BestSoFar) -> BestSoFar
     requires { ⌜ Ongoing (now older) (now newer) b s 27 × T (crossWindow (b .w)) ⌝ }
-    ensures { λ r. ⌜ Holds r (passes (b .w) (targetOf (now (older .entry)) (now (newer .entry)) b) (b .w / 2) (seenOf s)) (s .count + 27) ⌝ }
+    ensures { λ r. ⌜ Holds r (allPasses (b .w) (targetOf (now (older .entry)) (now (newer .entry)) b) (b .w / 2) (seenOf s)) (s .count + 27) ⌝ }
 {
     let mut best = s;
     let mut p = (b.w / 2) as u32;

@@ -19,7 +19,7 @@ use Rattle.pruned_rule.specs.Prune.{resolutions}
 use Rattle.pruned_rule.proofs.Blocks.{absolute-lawful}
 use Rattle.pruned_rule.proofs.Pruned.{Safe}
 use Rattle.pruned_rule.proofs.Search.{PowerOfTwo, resolutions-many, safe}
-use Rattle.pruned.specs.Answer.{distortionAt, distanceAt}
+use Rattle.pruned.specs.Answer.{placeDistortion, placeDistance}
 
 pub block-fillable : (older newer : List ℕ) (b : SearchBlock) → Ready older newer b → Fillable newer (b .sizes .width) (blockRegion b) blockTable
 block-fillable older newer b r =
@@ -44,6 +44,6 @@ few-rounds = block-size-elim (λ n. length (resolutions n) ≤ 3) (rw (resolutio
 pub two-least : (n : ℕ) → T (blockSizeOk n) → 2 ≤ n
 two-least = block-size-elim (λ n. 2 ≤ n) (omega arith) (omega arith) (omega arith)
 
-pub safe-at : (p : Pair) (y x m : ℕ) → m ∣ p .sizes .n → Safe (distortionAt p y x) (distanceAt p y x) (absolute .limit) m
+pub safe-at : (p : Pair) (y x m : ℕ) → m ∣ p .sizes .n → Safe (placeDistortion p y x) (placeDistance p y x) (absolute .limit) m
 unfolding distortion
 safe-at p y x m h = safe absolute absolute-lawful (p .sizes .n) (newerBlock p y x) (λ k. olderBlock p y x (preferred k)) m h

@@ -19,7 +19,7 @@ use Rattle.pruned_rule.proofs.Counts.{Counted, prune-counted, search-counts, co
 use Rattle.pruned_rule.proofs.Pruned.{Attained, still-attained, Holds, prune-holds}
 use Rattle.pruned_rule.proofs.Search.{PowerOfTwo, resolutions-divide, search-best, search-drops}
 use Rattle.pruned_steps.specs.Memory.{stillDistortion}
-use Rattle.pruned.specs.Answer.{distortionAt, pruning, chosen, prunedSearch}
+use Rattle.pruned.specs.Answer.{placeDistortion, pruning, prunedPlace, prunedSearch}
 use Rattle.pruned.proofs.Blocks.{few-rounds, safe-at}
 
 -- whatever the block is
@@ -54,22 +54,22 @@ module _ (p : Pair) (w y x : ℕ) where
 -- N a power of two, and the block wholly inside
 module _ (p : Pair) (w y x : ℕ) (power : PowerOfTwo (p .sizes .n)) (small : w ≤ 16) (down : y + p .sizes .n ≤ p .sizes .height) (across : x + p .sizes .n ≤ p .sizes .width) where
   -- E begins as the distortion of (0,0), the candidate at place 0
-  still-is : distortionAt p y x 0 ≡ stillDistortion p y x
+  still-is : placeDistortion p y x 0 ≡ stillDistortion p y x
   still-is = ap (distortion p y x) first-still
 
-  given : Attained (distortionAt p y x) (places (p .sizes) w y x) (stillDistortion p y x)
-  given = still-attained (distortionAt p y x) _ 1088 (stillDistortion p y x) (still-passes p w y x small down across) still-is
+  given : Attained (placeDistortion p y x) (places (p .sizes) w y x) (stillDistortion p y x)
+  given = still-attained (placeDistortion p y x) _ 1088 (stillDistortion p y x) (still-passes p w y x small down across) still-is
 
   -- what holds of the candidates left and those dropped
-  pub pruned-holds : Holds (distortionAt p y x) (places (p .sizes) w y x) (pruning p w y x)
+  pub pruned-holds : Holds (placeDistortion p y x) (places (p .sizes) w y x) (pruning p w y x)
   unfolding pruning
   pruned-holds = prune-holds _ _ _ _ _ _ _ given (λ m i. safe-at p y x m (resolutions-divide (p .sizes .n) power m i))
 
   -- the answer is the exhaustive best
   pub pruned-best : Best p w y x (vectorIn (prunedSearch p w y x))
-  unfolding prunedSearch chosen distortion
+  unfolding prunedSearch prunedPlace distortion
   pruned-best =
-      best-below p w y x small (chosen p w y x)
+      best-below p w y x small (prunedPlace p w y x)
       (search-best absolute absolute-lawful (p .sizes .n) (newerBlock p y x) (λ k. olderBlock p y x (preferred k)) (resolutions (p .sizes .n)) (stillDistortion p y x)
       (resolutions-divide (p .sizes .n) power) _ 1088 (still-passes p w y x small down across) still-is)
 
@@ -79,7 +79,7 @@ module _ (p : Pair) (w y x : ℕ) (power : PowerOfTwo (p .sizes .n)) (small : w 
 
   -- every candidate dropped has strictly more
   pub pruned-drops : {k : ℕ} → k ∈ pruning p w y x .dropped → prunedSearch p w y x .distortion < distortion p y x (preferred k)
-  unfolding prunedSearch chosen pruning distortion
+  unfolding prunedSearch prunedPlace pruning distortion
   pruned-drops i =
       search-drops absolute absolute-lawful (p .sizes .n) (newerBlock p y x) (λ k. olderBlock p y x (preferred k)) (resolutions (p .sizes .n))
       (places (p .sizes) w y x) (stillDistortion p y x) given (resolutions-divide (p .sizes .n) power) i

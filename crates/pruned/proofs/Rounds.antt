@@ -21,7 +21,7 @@ use Rattle.pruned_rule.proofs.Search.{halvings-more, halvings-none, rounds-more
 use Rattle.pruned_steps.specs.declared.PruneState.{PruneState}
 use Rattle.candidates.specs.Gathered.{candidateAt, Front, ListedCandidates}
 use Rattle.candidates.proofs.Listing.{front-take, gathered-long, listed-front}
-use Rattle.pruned_steps.specs.Memory.{Begun, finished}
+use Rattle.pruned_steps.specs.Memory.{Begun, measureRemaining}
 use Rattle.pruned.proofs.State.{InMemory}
 
 -- the last of the five counts
@@ -95,7 +95,7 @@ module _ {e : ℕ} {D : ℕ → ℕ} {d : ℕ → ℕ → ℕ} {N : ℕ} {p : �
       }
 
   -- no round is left: the answer made of memory is the search's
-  pub going-done : (all : ℕ) → m < 2 → length (pick p 1089) ≡ all → finished D remaining all r ≡ answered e D d N p
+  pub going-done : (all : ℕ) → m < 2 → length (pick p 1089) ≡ all → measureRemaining D remaining all r ≡ answered e D d N p
   unfolding prunedBest counts
   going-done all h same =
       let at-end : ended e D d N p ≡ g .state = g .ahead ∙ rounds-none D d (absolute .limit) m (g .state) h in

@@ -1,9 +1,9 @@
 -- 01, "The four searches", search 2, of the block at row y, column x of a pair, for window w: its steps (pruned_rule/specs/Prune.antt) over the block's
 -- candidates, each known by its place in the preference table.
---   distortionAt  the distortion of the vector at place k of the preference table
---   distanceAt    its distance at m
+--   placeDistortion  the distortion of the vector at place k of the preference table
+--   placeDistance    its distance at m
 --   pruning       where search 2's steps end: what they leave, and what they drop
---   chosen        the place of the vector that they choose
+--   prunedPlace        the place of the vector that they choose
 --   prunedSearch   what search 2 answers
 use Prim.Native.Nat.{ℕ}
 use lib.ListN.{length}
@@ -17,18 +17,18 @@ use Rattle.pruned_rule.specs.Distance.{distances}
 use Rattle.pruned_steps.specs.Memory.{stillDistortion}
 use Rattle.pruned_rule.specs.Prune.{Pruning, prune, prunedBest, counts, resolutions}
 
-abbrev pub distortionAt : Pair → ℕ → ℕ → ℕ → ℕ
-distortionAt p y x k = distortion p y x (preferred k)
+abbrev pub placeDistortion : Pair → ℕ → ℕ → ℕ → ℕ
+placeDistortion p y x k = distortion p y x (preferred k)
 
-abbrev pub distanceAt : Pair → ℕ → ℕ → ℕ → ℕ → ℕ
-distanceAt p y x = distances absolute (p .sizes .n) (newerBlock p y x) (λ k. olderBlock p y x (preferred k))
+abbrev pub placeDistance : Pair → ℕ → ℕ → ℕ → ℕ → ℕ
+placeDistance p y x = distances absolute (p .sizes .n) (newerBlock p y x) (λ k. olderBlock p y x (preferred k))
 
 module _ (p : Pair) (w y x : ℕ) where
   unfoldable pub pruning : Pruning
-  pruning = prune (stillDistortion p y x) (distortionAt p y x) (distanceAt p y x) (absolute .limit) (p .sizes .n) (resolutions (p .sizes .n)) (places (p .sizes) w y x)
+  pruning = prune (stillDistortion p y x) (placeDistortion p y x) (placeDistance p y x) (absolute .limit) (p .sizes .n) (resolutions (p .sizes .n)) (places (p .sizes) w y x)
 
-  unfoldable pub chosen : ℕ
-  chosen = prunedBest (stillDistortion p y x) (distortionAt p y x) (distanceAt p y x) (absolute .limit) (p .sizes .n) (resolutions (p .sizes .n)) (places (p .sizes) w y x)
+  unfoldable pub prunedPlace : ℕ
+  prunedPlace = prunedBest (stillDistortion p y x) (placeDistortion p y x) (placeDistance p y x) (absolute .limit) (p .sizes .n) (resolutions (p .sizes .n)) (places (p .sizes) w y x)
 
   unfoldable pub prunedSearch : SearchResult
-  prunedSearch = searchResult (preferred chosen) (distortion p y x (preferred chosen)) (counts pruning) (length (pruning .dropped))
+  prunedSearch = searchResult (preferred prunedPlace) (distortion p y x (preferred prunedPlace)) (counts pruning) (length (pruning .dropped))

@@ -65,5 +65,5 @@ pub fn search(
         );
         m = m / 2;
     }
-    pruned_steps::finish(older, newer, order, b, &remaining, total, r)
+    pruned_steps::measure_remaining(older, newer, order, b, &remaining, total, r)
 }

@@ -84,7 +84,7 @@ module _ (older newer : List ℕ) (b : SearchBlock) (sums : List ℕ) (a : Regio
         across = o .across;
       }
 
-  -- counted from any origin at or before all of them
+  -- cornerOrigin from any origin at or before all of them
   pub reached : (i top left stride : ℕ) → At i → top ≤ olderRow (b .y) (vector i) → left ≤ olderColumn (b .x) (vector i) → stride ≤ 1025
       → Reached (record { y = b .y; x = b .x; top = top; left = left; stride = stride }) (vector i)
   reached i top left stride p ht hl hs = record {
@@ -168,8 +168,8 @@ module _ (older newer : List ℕ) (b : SearchBlock) (sums : List ℕ) (a : Regio
       abbrev corner : ℕ
       corner = (w .top - a .top) * (a .columns + 1) + (w .left - a .left)
 
-      abbrev counted : Origin
-      counted = record { y = b .y; x = b .x; top = w .top; left = w .left; stride = w .columns }
+      abbrev cornerOrigin : Origin
+      cornerOrigin = record { y = b .y; x = b .x; top = w .top; left = w .left; stride = w .columns }
 
       pub corner-region-is : Reach b a w
       unfolding cornerRegion
@@ -205,13 +205,13 @@ module _ (older newer : List ℕ) (b : SearchBlock) (sums : List ℕ) (a : Regio
             let p = at-candidate i h in
             rw e (omega (arith, p .above), omega (arith, p .before), omega (arith, p .above, p .below, p .down), omega (arith, p .before, p .behind, p .across))
 
-        pub reached-corner-region : Reached counted (vector i)
+        pub reached-corner-region : Reached cornerOrigin (vector i)
         reached-corner-region = let p = within in reached i (w .top) (w .left) (w .columns) (at-candidate i h) (p .0) (p .1) (omega (arith, corner-region-is .few-columns))
 
-        pub place-corner-region : placeOf counted (vector i) < 1089
+        pub place-corner-region : placeOf cornerOrigin (vector i) < 1089
         place-corner-region = let p = within in omega (arith, few, p .3, row-fits (R i h - w .top) (w .rows) (w .columns) (p .2))
 
-        -- the same place of the table, counted from the part's corner
+        -- the same place of the table, cornerOrigin from the part's corner
         same-place : corner + (R i h - w .top) * (a .columns + 1) + (C i h - w .left) ≡ placeOf origin (vector i)
         same-place =
             let p = within in
@@ -220,7 +220,7 @@ module _ (older newer : List ℕ) (b : SearchBlock) (sums : List ℕ) (a : Regio
             sym (place-is (R i h - w .top) (C i h - w .left)) ∙ ap₂ (λ r c. r * (a .columns + 1) + c) rise run
 
         pub number-corner-region : (part d : List ℕ) → part ≡ inRows (λ r c. number (corner + r * (a .columns + 1) + c)) (w .rows) (w .columns) ++ d
-            → getD part (placeOf counted (vector i)) 0 ≡ distanceOf older newer b m (getD remaining i 0)
+            → getD part (placeOf cornerOrigin (vector i)) 0 ≡ distanceOf older newer b m (getD remaining i 0)
         number-corner-region part d s =
             let p = within in
             rw s (in-rows-at (λ r c. number (corner + r * (a .columns + 1) + c)) (w .columns) (w .rows) (R i h - w .top) (C i h - w .left) d (p .2) (p .3)) ∙ ap number same-place ∙ number-table i h

@@ -12,14 +12,14 @@ use Rattle.base.specs.Rows.{inRows, length-in-rows, in-rows-ext, in-rows-at, in
 use Rattle.pruned_spread.specs.Spread.{raised}
 
 -- what a row of `columns` places from `from` on holds, once e is added
-abbrev pub row : (ℕ → ℕ) → List ℕ → ℕ → ℕ → ℕ
-row e before from c = getD before (from + c) 0 + e c
+abbrev pub raisedRow : (ℕ → ℕ) → List ℕ → ℕ → ℕ → ℕ
+raisedRow e before from c = getD before (from + c) 0 + e c
 
 -- e is added to the first c places from `from` on
 pub record Raising (e : ℕ → ℕ) (columns : ℕ) (before after : List ℕ) (from c : ℕ) : Type 0 where
   pub rowoffset : c ≤ columns
   pub long : length after ≡ length before
-  pub filled : after ≡ fillTo before from (row e before from) c
+  pub filled : after ≡ fillTo before from (raisedRow e before from) c
 
 module _ (e : ℕ → ℕ) (columns : ℕ) (before : List ℕ) (from : ℕ) where
   pub raising-none : Raising e columns before before from 0
@@ -30,13 +30,13 @@ module _ (e : ℕ → ℕ) (columns : ℕ) (before : List ℕ) (from : ℕ) wher
     pub raising-read : getD after (from + c) 0 ≡ getD before (from + c) 0
     raising-read =
         let p : from + c + 0 ≡ from + c = omega arith in
-        rw (g .filled) (rw p at (fill-after before from (row e before from) c 0 0 (omega (arith, g .rowoffset))))
+        rw (g .filled) (rw p at (fill-after before from (raisedRow e before from) c 0 0 (omega (arith, g .rowoffset))))
 
     pub raising-step : (x : ℕ) → x ≡ e c → c < columns → Raising e columns before (set after (from + c) (getD after (from + c) 0 + x)) from (c + 1)
     raising-step x h l = record {
       rowoffset = omega arith;
       long = length-set after _ _ ∙ g .long;
-      filled = rw (raising-read, h, g .filled) (fill-more before from (row e before from) c (omega arith));
+      filled = rw (raising-read, h, g .filled) (fill-more before from (raisedRow e before from) c (omega arith));
     }
 
 -- f is added in the first i rows; the next row begins at place `here` of the table and at place `from` of the list
@@ -61,14 +61,14 @@ module _ (f : ℕ → ℕ → ℕ) (rows columns at stride : ℕ) (before : List
       adding-room = omega (arith, g .rowed .long, g .from-is, row-fits i rows columns h)
 
       pub adding-step : (e : ℕ → ℕ) → ((c : ℕ) → e c ≡ f i c)
-          → Adding f rows columns at stride before (fillTo after from (row e after from) columns) (i + 1) (here + stride) (from + columns)
+          → Adding f rows columns at stride before (fillTo after from (raisedRow e after from) columns) (i + 1) (here + stride) (from + columns)
       adding-step e same = record {
         rowoffset = omega arith;
         here-is = omega (arith, g .here-is, row-next i stride);
         from-is = omega (arith, g .from-is, row-next i columns);
         rowed =
             rowed-step _ columns before after _ i from (g .rowed) (g .from-is) adding-room
-            (fill-ext after from (row e after from) (raised f columns before i) columns (λ c l. ap₂ _+_ (adding-read c) (same c)));
+            (fill-ext after from (raisedRow e after from) (raised f columns before i) columns (λ c l. ap₂ _+_ (adding-read c) (same c)));
       }
 
 -- ---- one square more: after s squares each place holds the sum of the first s terms

@@ -7,7 +7,7 @@
 --   bounded       E lowered to e, if that is less
 --   Leveled       a resolution later: a candidate alone stays as it is; of more, the distances at m are worked out, E is lowered to the nearest's
 --                 distortion and those within it stay, in front of what sweeping leaves
---   finished      the answer made of what is in memory at the end
+--   measureRemaining   the answer made of what is in memory at the end
 use Prim.Native.Nat.{ℕ, _+_, _-_, _<_, min}
 use mathlib.Core.Path.{_≡_}
 use mathlib.Core.List.{List, [], _∷_, _++_}
@@ -54,7 +54,7 @@ pub record Leveled (D f : ℕ → ℕ) (remaining dist : List ℕ) (r : PruneSta
       let stay = keptWithin (low .bound) remaining measured (r .count) in
       (measured ≡ fillTo dist 0 (λ i. f (getD remaining i 0)) (r .count)) × (after ≡ stay ++ drop (length stay) (swept (low .bound) remaining measured (r .count))) × (q ≡ recounted (length stay) low)
 
-abbrev pub finished : (ℕ → ℕ) → List ℕ → ℕ → PruneState → SearchResult
-finished D remaining total r =
+abbrev pub measureRemaining : (ℕ → ℕ) → List ℕ → ℕ → PruneState → SearchResult
+measureRemaining D remaining total r =
     let best = leastOf D (take (r .count) remaining) in
     searchResult (preferred best) (D best) (set (r .counts) (r .slot) (r .count)) (total - r .count)

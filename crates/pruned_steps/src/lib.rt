@@ -14,7 +14,7 @@ ghost use Rattle.candidates.specs.Chosen.{distortionOf};
 ghost use Rattle.pruned_remaining.specs.Kept.{nearestOf, keptWithin, swept};
 ghost use Rattle.pruned_subblocks.specs.Squares.{BlockSums};
 ghost use Rattle.pruned_distance.specs.Remaining.{distanceOf, Tested};
-ghost use Rattle.pruned_steps.specs.Memory.{stillDistortion, firstSlot, Begun, recounted, testsCounted, bounded, Leveled, finished};
+ghost use Rattle.pruned_steps.specs.Memory.{stillDistortion, firstSlot, Begun, recounted, testsCounted, bounded, Leveled, measureRemaining};
 use frame::Region;
 use frame::SearchBlock;
 use search::SearchResult;
@@ -162,8 +162,8 @@ pub fn level(
     sifted(remaining, &*dist, q)
 }
 
-// Measures the rest, counts them, and answers.
-pub fn finish(
+// Measures the candidates that remain, counts them, and answers.
+pub fn measure_remaining(
     older: &[u8],
     newer: &[u8],
     order: &[i32; 2178],
@@ -174,7 +174,7 @@ pub fn finish(
 ) -> SearchResult
     requires { ⌜ Ready (now older) (now newer) b × (now order ≡ flat preference) ⌝ }
     requires { ⌜ ListedCandidates b (now remaining) (r .count) × (0 < r .count) × (r .slot < 5) × (r .count ≤ total) × (total ≤ 1089) ⌝ }
-    ensures { λ q. ⌜ q ≡ finished (distortionOf (now (older .entry)) (now (newer .entry)) b) (now (remaining .entry)) total r ⌝ }
+    ensures { λ q. ⌜ q ≡ measureRemaining (distortionOf (now (older .entry)) (now (newer .entry)) b) (now (remaining .entry)) total r ⌝ }
 {
     let count = r.count;
     let slot = r.slot;

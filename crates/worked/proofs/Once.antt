@@ -32,7 +32,7 @@ use Rattle.cross.specs.Cross.{cross}
 use Rattle.pruned_rule.specs.Prune.{Pruning, prune, prunedBest, counts, resolutions}
 use Rattle.full.specs.Full.{fullSearch}
 use Rattle.pruned_steps.specs.Memory.{stillDistortion}
-use Rattle.pruned.specs.Answer.{distortionAt, distanceAt, pruning, chosen, prunedSearch}
+use Rattle.pruned.specs.Answer.{placeDistortion, placeDistance, pruning, prunedPlace, prunedSearch}
 use Rattle.block.specs.Block.{searchRefusal, searchBy, searchBlock}
 use Rattle.reading.specs.Reading.{votes, majority}
 use Rattle.field.specs.Field.{requestOf, fieldRefusal, searchAt, entries, countsOver, droppedOver, listSize, filledTable, fieldAnswer, refusedField, FieldResult, fieldResult, field}
@@ -49,13 +49,13 @@ use Rattle.worked.proofs.Alike.{majorityOnce, majority-once}
 
 module _ (p : Pair) (w y x : ℕ) where
   abbrev D : ℕ → ℕ
-  D = distortionAt p y x
+  D = placeDistortion p y x
 
   abbrev pruningOf : List ℕ → Pruning
-  pruningOf = prune (stillDistortion p y x) D (distanceAt p y x) (absolute .limit) (p .sizes .n) (resolutions (p .sizes .n))
+  pruningOf = prune (stillDistortion p y x) D (placeDistance p y x) (absolute .limit) (p .sizes .n) (resolutions (p .sizes .n))
 
   abbrev chosenOf : List ℕ → ℕ
-  chosenOf = prunedBest (stillDistortion p y x) D (distanceAt p y x) (absolute .limit) (p .sizes .n) (resolutions (p .sizes .n))
+  chosenOf = prunedBest (stillDistortion p y x) D (placeDistance p y x) (absolute .limit) (p .sizes .n) (resolutions (p .sizes .n))
 
   abbrev once : {A : Type 0} → (List ℕ → A) → A
   once = after (walk (candidate (p .sizes) w y x) 0 preference)
@@ -78,7 +78,7 @@ module _ (p : Pair) (w y x : ℕ) where
   full-once = by-walk (p .sizes) w y x _
 
   pruned-once : prunedSearch p w y x ≡ prunedOnce
-  unfolding prunedSearch pruning chosen
+  unfolding prunedSearch pruning prunedPlace
   pruned-once = by-walk (p .sizes) w y x _
 
 module _ (p : Pair) (q : Request) (y x : ℕ) where

@@ -17,7 +17,7 @@ use Rattle.measuring.specs.Measured.{measureRefusal, measure}
 use Rattle.probe.specs.Probe.{countPoint, probePoint, probe, atOrigin, around, widened, isIn, fresh}
 use Rattle.probe.specs.BestSoFar.{resultOf}
 use Rattle.four_step.specs.FourStep.{square, ring, moved, step1, step23, step4, from3, from2, fourStep}
-use Rattle.cross.specs.Cross.{diagonalCross, plusCross, pass, passes, diagonal, onDiagonal, ended, finished, cross}
+use Rattle.cross.specs.Cross.{diagonalCross, plusCross, pass, allPasses, diagonal, onDiagonal, ended, finished, cross}
 use Rattle.pruned_rule.specs.Distance.{squareSum, distanceBy}
 use Rattle.pruned_rule.specs.Sift.{kept, exceeding}
 use Rattle.pruned_rule.specs.Prune.{allRemaining, lower, sift, rounds, prune, prunedBest, counts, halves}
@@ -89,7 +89,7 @@ unfolding
     table pairA pairB pairC pairD
     sumTo leastFrom leastOf preference candidate crossWindow firstRefusal blockSizeOk windowOk thresholdOk pairRefusal placedRefusal requestRefusal
     distortionBy distortion measureRefusal measure countPoint probePoint probe atOrigin around widened isIn fresh resultOf
-    square ring moved step1 step23 step4 from3 from2 fourStep diagonalCross plusCross pass passes diagonal onDiagonal ended finished cross
+    square ring moved step1 step23 step4 from3 from2 fourStep diagonalCross plusCross pass allPasses diagonal onDiagonal ended finished cross
     squareSum distanceBy kept exceeding allRemaining lower sift rounds prune prunedBest counts halves
     searchRefusal walk after
     rows columns blocks blockRow blockColumn listTo concatTo summed fieldRefusal entries tableOf votes every alike

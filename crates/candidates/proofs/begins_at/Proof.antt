@@ -10,9 +10,12 @@ use Rattle.frame.specs.Candidates.{olderRow, olderColumn}
 use Rattle.candidates.proofs.begins_at.Statement.{statement}
 use Rattle.candidates.proofs.begins_at.Tie as tie
 
+abbrev start : tie.After-struct-told2 → tie.Start
+start c = c .before .before .before .before .before
+
 -- the row and the column
 place : (c : tie.After-past2) →
-    let s = c .before .before .before .before .before .before in
+    let s = start (c .before) in
     (c .before .before .past .result ≡ olderRow (s .args .b .y) (preferred (s .args .k)))
     × (c .past2 .result ≡ olderColumn (s .args .b .x) (preferred (s .args .k)))
 place c =
@@ -23,8 +26,8 @@ place c =
     (omega (arith, row), omega (arith, column))
 
 -- at most 2 ^ 20
-small : (c : tie.After-past2) → c .before .before .past .result * c .before .before .before .before .before .before .args .b .sizes .width ≤ 1024 * 1024
-small c = mul-le-mul (c .before .before .past .ensures .1) (c .before .before .before .before .before .before .pre .0 .wide)
+small : (c : tie.After-past2) → c .before .before .past .result * start (c .before) .args .b .sizes .width ≤ 1024 * 1024
+small c = mul-le-mul (c .before .before .past .ensures .1) (start (c .before) .pre .0 .wide)
 
 vector-at-requires : tie.Need-vector-at-requires
 vector-at-requires c κs = (c .before .pre .1, c .before .pre .2)

@@ -10,6 +10,9 @@ use Rattle.candidates.proofs.Older.{stands, comparable, by-rows}
 use Rattle.candidates.proofs.distortion_of.Statement.{statement}
 use Rattle.candidates.proofs.distortion_of.Tie as tie
 
+abbrev start : tie.After-struct-known2 → tie.Start
+start c = c .before .before .before .before .before
+
 -- the two blocks can be compared
 pair-in : (s : tie.Start) → let b = s .args .b in
     let v = preferred (s .args .k) in
@@ -31,11 +34,11 @@ begins-at-requires c κs =
     (stands _ _ _ _ (s .pre .0 .0) (s .pre .1 .1), s .pre .0 .1, s .pre .1 .0)
 
 distortion-from-requires : tie.Need-distortion-from-requires
-distortion-from-requires c κs = rw (c .begins-at .ensures) (block-inside _ _ _ _ _ _ _ (pair-in (c .before .before .before .before .before .before)))
+distortion-from-requires c κs = rw (c .begins-at .ensures) (block-inside _ _ _ _ _ _ _ (pair-in (start (c .before))))
 
 returns : tie.Need-returns
 returns c =
-    let s = c .before .before .before .before .before .before .before in
+    let s = start (c .before .before) in
     let d = c .distortion-from .ensures in
     let there = c .before .begins-at .ensures in
     (rw (by-rows _ _ _ _) (rw there at (d .0)), omega (arith, d .1, distortion-small _ _ _ _ _ _ _ (pair-in s)), rw there at (d .2))

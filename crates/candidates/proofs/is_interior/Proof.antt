@@ -6,6 +6,9 @@ use Rattle.base.specs.Tests.{passed, failed}
 use Rattle.candidates.proofs.is_interior.Statement.{statement}
 use Rattle.candidates.proofs.is_interior.Tie as tie
 
+abbrev start : tie.After-has-margin → tie.Start
+start c = c .before .before .before .before
+
 returns : tie.Need-returns
 returns c = rw (lt-leb 16 (c .before .before .before .args .b .w) (omega (arith, c .if1 .taken)))
 
@@ -19,7 +22,7 @@ has-margin-requires-2 : tie.Need-has-margin-requires-2
 has-margin-requires-2 c κs = search needs
 
 returns-3 : tie.Need-returns-3
-returns-3 c = rw (le-leb 16 (c .before .before .before .before .before .before .args .b .w) (omega (arith, c .before .before .before .if1 .left)), passed (c .before .before .has-margin .ensures) (c .before .if2 .left)) (c .has-margin2 .ensures)
+returns-3 c = rw (le-leb 16 (start (c .before .before) .args .b .w) (omega (arith, c .before .before .before .if1 .left)), passed (c .before .before .has-margin .ensures) (c .before .if2 .left)) (c .has-margin2 .ensures)
 
 pub is-interior-spec : {M : Type 1} → statement M
 is-interior-spec =

@@ -12,6 +12,9 @@ Inv-loop older newer b best₀ p₀ left₀ best p left = Passing (targetOf olde
 abbrev μ-loop : tie.MeasureT-loop
 μ-loop older newer b best₀ p₀ left₀ best p left = left
 
+abbrev start : tie.At-loop Inv-loop μ-loop → tie.Start Inv-loop μ-loop
+start c = c .before .before .before .before .before
+
 cast-p : tie.Need-cast-p Inv-loop μ-loop
 cast-p c = search needs
 
@@ -29,7 +32,7 @@ loop-holds c =
 pass-at-requires : tie.Need-pass-at-requires Inv-loop μ-loop
 pass-at-requires c κs =
     let g = c .before .loop .inv in
-    let q = c .before .before .before .before .before .before .pre .0 in
+    let q = start (c .before) .pre .0 in
     (record { ready = q .ready; down = g .down; across = g .across; room = omega arith }, omega (arith, q .ready .window))
 
 sub-left-2 : tie.Need-sub-left-2 Inv-loop μ-loop

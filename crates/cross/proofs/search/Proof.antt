@@ -9,6 +9,9 @@ use Rattle.cross.proofs.Passes.{cross-stops, cross-goes}
 use Rattle.cross.proofs.search.Statement.{statement}
 use Rattle.cross.proofs.search.Tie as tie
 
+abbrev start : tie.After-struct-known → tie.Start
+start c = c .before .before .before .before
+
 at-origin-requires : tie.Need-at-origin-requires
 at-origin-requires c κs = search needs
 
@@ -17,7 +20,7 @@ result-of-requires c κs = search needs
 
 returns : tie.Need-returns
 returns c =
-    let a = c .before .before .before .before .before .before .args in
+    let a = start (c .before .before) .args in
     let f = c .before .before .before .at-origin in
     c .result-of .ensures
     ∙ ap resultOf (cross-stops (targetOf (now (a .older)) (now (a .newer)) (a .b)) (a .t) (a .b .w) (seenOf (f .result)) (f .ensures .is) (c .before .if1 .taken))
@@ -33,7 +36,7 @@ result-of-requires-2 c κs = search needs
 
 returns-2 : tie.Need-returns-2
 returns-2 c =
-    let a = c .before .before .before .before .before .before .before .before .args in
+    let a = start (c .before .before .before .before) .args in
     let t = targetOf (now (a .older)) (now (a .newer)) (a .b) in
     let f = c .before .before .before .before .before .at-origin in
     c .result-of2 .ensures

@@ -5,6 +5,9 @@ use Rattle.distortion.proofs.Rows.{rows-four}
 use Rattle.distortion.proofs.four_rows.Statement.{statement}
 use Rattle.distortion.proofs.four_rows.Tie as tie
 
+abbrev start : tie.After-row3 → tie.Start
+start c = c .before .before .before .before .before
+
 row-requires : tie.Need-row-requires
 row-requires c κs = omega arith
 
@@ -58,7 +61,7 @@ add-result-3 c = omega arith
 
 returns : tie.Need-returns
 returns c =
-    let a = c .before .before .before .before .before .before .args in
+    let a = start (c .before) .args in
     omega (arith, rows-four absolute (a .older .now) (a .newer .now) (a .across) (a .width) (a .a) (a .b) (a .n))
 
 pub four-rows-spec : {M : Type 1} → statement M

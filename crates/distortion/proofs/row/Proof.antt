@@ -13,6 +13,9 @@ Inv-loop older newer a b n sum₀ j₀ sum j = (j ≤ n) × (sum ≤ 255 * j) ×
 abbrev μ-loop : tie.MeasureT-loop
 μ-loop older newer a b n sum₀ j₀ sum j = n - j
 
+abbrev start : tie.After-shared-slice-known3 Inv-loop μ-loop → tie.Start Inv-loop μ-loop
+start c = c .before .before .before .before .before
+
 loop-holds : tie.Need-loop-holds Inv-loop μ-loop
 loop-holds c = (search needs, search needs, sym (row-none absolute _ _ _ _))
 
@@ -43,7 +46,7 @@ loop-less c = search needs
 loop-again : tie.Need-loop-again Inv-loop μ-loop
 loop-again c =
     let l = c .before .before .before .before .loop in
-    let a = c .before .before .before .before .before .before .before .args in
+    let a = start (c .before .before) .args in
     omega (arith, row-more absolute (a .older .now) (a .newer .now) (a .a) (a .b) (l .j))
 
 returns : tie.Need-returns Inv-loop μ-loop

@@ -15,6 +15,9 @@ Inv-loop older newer width a b n groups ceiling sum₀ p₀ q₀ g₀ sum p q g 
 abbrev μ-loop : tie.MeasureT-loop
 μ-loop older newer width a b n groups ceiling sum₀ p₀ q₀ g₀ sum p q g = groups - g
 
+abbrev start : tie.At-loop Inv-loop μ-loop → tie.Start Inv-loop μ-loop
+start c = c .before .before .before
+
 -- a turn's rows end above the last
 turn : (i : tie.In-loop Inv-loop μ-loop) → let a = i .before .before .before .before .args in
     let g = i .before .loop .g in
@@ -60,13 +63,13 @@ mul-p : tie.Need-mul-p Inv-loop μ-loop
 mul-p c = omega arith
 
 add-p : tie.Need-add-p Inv-loop μ-loop
-add-p c = omega (arith, turn (c .before .before), c .before .before .before .before .before .before .pre .in-newer)
+add-p c = omega (arith, turn (c .before .before), start (c .before .before .before) .pre .in-newer)
 
 mul-q : tie.Need-mul-q Inv-loop μ-loop
 mul-q c = omega arith
 
 add-q : tie.Need-add-q Inv-loop μ-loop
-add-q c = omega (arith, turn (c .before .before), c .before .before .before .before .before .before .pre .in-older)
+add-q c = omega (arith, turn (c .before .before), start (c .before .before .before) .pre .in-older)
 
 add-g : tie.Need-add-g Inv-loop μ-loop
 add-g c = omega arith

@@ -10,6 +10,9 @@ use Rattle.four_step.proofs.Steps.{from3-stays, from3-moves}
 use Rattle.four_step.proofs.from_three.Statement.{statement}
 use Rattle.four_step.proofs.from_three.Tie as tie
 
+abbrev start : tie.After-step-on → tie.Start
+start c = c .before .before .before .before .before
+
 stays-requires : tie.Need-stays-requires
 stays-requires c κs = search needs
 
@@ -27,7 +30,7 @@ step-last-requires-2 c κs = search needs
 
 returns-2 : tie.Need-returns-2
 returns-2 c =
-    let a = c .before .before .before .before .before .before .args in
+    let a = start (c .before) .args in
     let e = c .before .before in
     holds-by (c .step-last2 .ensures)
     (ap (step4 (targetOf (now (a .older)) (now (a .newer)) (a .b))) (c .before .step-on .ensures .is) ∙ from3-moves _ _ _ (sym (e .before .stays .ensures) ∙ e .if1 .left)) (omega arith)

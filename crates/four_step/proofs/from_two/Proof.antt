@@ -10,6 +10,9 @@ use Rattle.four_step.proofs.Steps.{from2-stays, from2-moves}
 use Rattle.four_step.proofs.from_two.Statement.{statement}
 use Rattle.four_step.proofs.from_two.Tie as tie
 
+abbrev start : tie.After-step-on → tie.Start
+start c = c .before .before .before .before .before
+
 stays-requires : tie.Need-stays-requires
 stays-requires c κs = search needs
 
@@ -27,7 +30,7 @@ from-three-requires c κs = search needs
 
 returns-2 : tie.Need-returns-2
 returns-2 c =
-    let a = c .before .before .before .before .before .before .args in
+    let a = start (c .before) .args in
     let e = c .before .before in
     holds-by (c .from-three .ensures)
     (ap (from3 (targetOf (now (a .older)) (now (a .newer)) (a .b)) _) (c .before .step-on .ensures .is) ∙ from2-moves _ _ _ (sym (e .before .stays .ensures) ∙ e .if1 .left)) (omega arith)

@@ -13,6 +13,9 @@ use Rattle.four_step.proofs.Steps.{step1-is}
 use Rattle.four_step.proofs.step_one.Statement.{statement}
 use Rattle.four_step.proofs.step_one.Tie as tie
 
+abbrev start : tie.After-pattern-arg → tie.Start
+start c = c .before .before .before .before .before
+
 at-origin-requires : tie.Need-at-origin-requires
 at-origin-requires c κs = search needs
 
@@ -34,7 +37,7 @@ pattern-requires c κs =
 returns : tie.Need-returns
 unfolding square fresh isIn widened pairs
 returns c =
-    let a = c .before .before .before .before .before .before .args in
+    let a = start (c .before) .args in
     let f = c .before .before .before .at-origin in
     holds-by (c .pattern .ensures) (step1-is (targetOf (now (a .older)) (now (a .newer)) (a .b)) (seenOf (f .result)) (f .ensures .is)) (omega arith)
 

@@ -16,6 +16,9 @@ use Rattle.full.specs.Full.{fullSearch}
 use Rattle.full.proofs.search.Statement.{statement}
 use Rattle.full.proofs.search.Tie as tie
 
+abbrev start : tie.After-remaining2 → tie.Start
+start c = c .before .before .before .before .before
+
 -- (0,0) is among them
 some : (g : tie.After-gather) → 0 < g .gather .result
 some g =
@@ -35,7 +38,7 @@ choose-of-many-requires c κs =
     (s .pre, (gathered-listed _ (g .gather .ensures) refl, some g))
 
 vector-at-requires : tie.Need-vector-at-requires
-vector-at-requires c κs = (c .before .before .before .before .before .before .pre .1, omega (arith, c .choose-of-many .ensures .small))
+vector-at-requires c κs = (start (c .before) .pre .1, omega (arith, c .choose-of-many .ensures .small))
 
 cast-t11 : tie.Need-cast-t11
 cast-t11 c = fits-under w32 _ 1090 (omega (arith, gathered-few _ (c .before .before .before .gather .ensures))) tt

@@ -16,6 +16,9 @@ use Rattle.measuring.specs.Measured.{refusedBy, measured-refused, measur
 use Rattle.measuring.proofs.measure.Statement.{statement}
 use Rattle.measuring.proofs.measure.Tie as tie
 
+abbrev start : tie.After-older-at → tie.Start
+start c = c .before .before .before .before .before
+
 -- the pair and the vector that are asked
 abbrev pairIn : tie.Start → Pair
 pairIn s = pairOf (now (s .args .older)) (now (s .args .newer)) (s .args .s)
@@ -38,7 +41,7 @@ found o =
     rw (toZ-ofZ (s .fits .dy), toZ-ofZ (s .fits .dx)) at (o .older-at .ensures)
 
 at-candidate : (k : tie.After-r) →
-    let s = k .before .before .before .before .before .before .before in
+    let s = start (k .before .before) in
     T (candidate (s .args .s) 16 (s .args .y) (s .args .x) (vectorIn s))
     × (k .r .given .0 .0 ≡ olderRow (s .args .y) (vectorIn s))
     × (k .r .given .0 .1 .0 ≡ olderColumn (s .args .x) (vectorIn s))
@@ -78,7 +81,7 @@ returns-2 c =
 block-distortion-requires : tie.Need-block-distortion-requires
 block-distortion-requires c κs =
     let k = c .before in
-    let s = k .before .before .before .before .before .before .before in
+    let s = start (k .before .before) in
     let h = at-candidate k in
     let i = candidate-older (s .args .s) 16 (s .args .y) (s .args .x) (vectorIn s) (h .0) in
     record { placed = placed _ _ _ _ _ (zero-is (k .before .before .before)); down = rw (h .1) (i .down); across = rw (h .2) (i .across) }
@@ -87,7 +90,7 @@ returns-3 : tie.Need-returns-3
 unfolding distortion
 returns-3 c =
     let k = c .before .before in
-    let s = k .before .before .before .before .before .before .before in
+    let s = start (k .before .before) in
     let h = at-candidate k in
     rw (c .block-distortion .ensures .0, h .1, h .2)
     (sym (measured-at (pairIn s) (s .args .y) (s .args .x) (vectorIn s) (zero-is (k .before .before .before)) (T-true _ (h .0))))

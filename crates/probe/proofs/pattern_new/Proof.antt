@@ -27,6 +27,12 @@ Inv-loop older newer b offsets p oy ox before cy cx best₀ i₀ best i =
 abbrev μ-loop : tie.MeasureT-loop
 μ-loop older newer b offsets p oy ox before cy cx best₀ i₀ best i = length offsets - i
 
+abbrev start : tie.After-scaled-arg Inv-loop μ-loop → tie.Start Inv-loop μ-loop
+start c = c .before .before .before .before .before
+
+abbrev at-loop : tie.After-scaled2 Inv-loop μ-loop → tie.At-loop Inv-loop μ-loop
+at-loop c = c .before .before .before .before .before
+
 loop-holds : tie.Need-loop-holds Inv-loop μ-loop
 loop-holds c =
     let q = c .before .before .pre in
@@ -41,12 +47,12 @@ small : (c : tie.In-loop Inv-loop μ-loop) →
 small c = within-more (lit≤ tt) (going-near _ _ _ _ _ _ _ _ _ (c .before .loop .inv .2) (omega arith))
 
 down : (c : tie.After-scaled Inv-loop μ-loop) →
-    let a = c .before .before .before .before .before .before .args in
+    let a = start (c .before) .args in
     toZ w32 (ofZ w32 (c .scaled .result)) ≡ pos (a .p) *ℤ (offset (getD (now (a .offsets)) (c .before .before .before .loop .i) []) .dy)
 down c = toZ-ofZ (sfits-of (c .scaled .ok)) ∙ (rw (toZ-ofZ (sfits-of (c .before .scaled-arg .given))) at (c .scaled .ensures))
 
 across : (c : tie.After-scaled2 Inv-loop μ-loop) →
-    let a = c .before .before .before .before .before .before .before .before .args in
+    let a = start (c .before .before .before) .args in
     toZ w32 (ofZ w32 (c .scaled2 .result)) ≡ pos (a .p) *ℤ (offset (getD (now (a .offsets)) (c .before .before .before .before .before .loop .i) []) .dx)
 across c = toZ-ofZ (sfits-of (c .scaled2 .ok)) ∙ (rw (toZ-ofZ (sfits-of (c .before .scaled-arg2 .given))) at (c .scaled2 .ensures))
 
@@ -76,7 +82,7 @@ scaled-requires-2 c κs = (omega arith, rw (toZ-ofZ (sfits-of (c .scaled-arg2 .g
 
 probe-new-requires : tie.Need-probe-new-requires Inv-loop μ-loop
 probe-new-requires c κs =
-    let q = c .before .before .before .before .before .before .before .before .pre in
+    let q = start (c .before .before .before) .pre in
     let i = c .before .before .before .before .before .loop .inv in
     let g = i .2 in (
       record { ready = q .0 .ready; down = g .down; across = g .across; room = omega arith },
@@ -95,7 +101,7 @@ loop-less c = search needs
 
 loop-again : tie.Need-loop-again Inv-loop μ-loop
 loop-again c =
-    let i = c .before .before .before .before .before .before .loop .inv in (
+    let i = at-loop (c .before) .loop .inv in (
       i .0,
       i .1,
       going-more _ _ _ _ _ _ _ _ _ (i .2) _ (omega arith) (rw (down (c .before .before .before), across (c .before)) at (c .probe-new .ensures)),

@@ -14,6 +14,12 @@ use Rattle.probe.proofs.Looks.{holds-same, moved-at, moved-out, far-dow
 use Rattle.probe.proofs.probe_new.Statement.{statement}
 use Rattle.probe.proofs.probe_new.Tie as tie
 
+abbrev start : tie.After-y → tie.Start
+start c = c .before .before .before .before .before
+
+abbrev after-shift : tie.At-match2-keys1 → tie.After-shift
+after-shift c = c .before .before .before .before .before
+
 shift-requires : tie.Need-shift-requires
 shift-requires c κs = search needs
 
@@ -27,8 +33,8 @@ enum-told c = search needs
 row : (c : tie.After-shift) → let a = c .before .before .before .args in c .shift .result ≡ shiftedBy (a .cy) (a .dy) 32
 row c = rw (toZ-ofZ (c .before .before .before .fits .dy)) at (c .shift .ensures)
 
-column : (c : tie.After-shift2) → let a = c .before .before .before .before .before .before .before .args in c .shift2 .result ≡ shiftedBy (a .cx) (a .dx) 32
-column c = rw (toZ-ofZ (c .before .before .before .before .before .before .before .fits .dx)) at (c .shift2 .ensures)
+column : (c : tie.After-shift2) → let a = start (c .before .before) .args in c .shift2 .result ≡ shiftedBy (a .cx) (a .dx) 32
+column c = rw (toZ-ofZ (start (c .before .before) .fits .dx)) at (c .shift2 .ensures)
 
 -- where the function began
 abbrev begun : tie.After-known-told2 → tie.Start
@@ -43,7 +49,7 @@ placed : (c : tie.After-known-told2) →
 placed c =
     let a = begun c .args in
     let q = begun c .pre in
-    let e = sym (row (c .before .before .before .before .before .before .before)) ∙ c .before .before .before .before .before .y .given .1 in
+    let e = sym (row (after-shift (c .before .before))) ∙ c .before .before .before .before .before .y .given .1 in
     let f = sym (column (c .before .before .before)) ∙ c .before .x .given .1 in (
       shifted-is (a .cy) (a .dy) 32 _ e .1,
       shifted-is (a .cx) (a .dx) 32 _ f .1,
@@ -68,7 +74,7 @@ enum-told-2 c = search needs
 
 returns-2 : tie.Need-returns-2
 returns-2 c =
-    let s = c .before .before .before .before .before .before .before .before .before in
+    let s = start (c .before .before .before .before) in
     let a = s .args in
     let q = s .pre in
     holds-same (q .0) (far-across _ _ _ _ (q .0 .ready .window) _ _ _ (moved-out (a .cx) (a .dx) (q .2) (sym (column (c .before .before)) ∙ c .enum-told2 .given .1)))

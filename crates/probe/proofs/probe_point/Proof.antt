@@ -10,6 +10,9 @@ use Rattle.probe.proofs.Looks.{holds-same, probe-point-none, probe-poin
 use Rattle.probe.proofs.probe_point.Statement.{statement}
 use Rattle.probe.proofs.probe_point.Tie as tie
 
+abbrev start : tie.After-measure-candidate → tie.Start
+start c = c .before .before .before .before .before
+
 unbiased-requires : tie.Need-unbiased-requires
 unbiased-requires c κs = search needs
 
@@ -38,7 +41,7 @@ enum-told : tie.Need-enum-told
 enum-told c = search needs
 
 returns : tie.Need-returns
-returns c = holds-same (c .before .before .before .before .before .before .before .pre .0) (probe-point-none _ _ _ (sym (answer (c .before .before)) ∙ c .enum-told .given .1))
+returns c = holds-same (start (c .before .before) .pre .0) (probe-point-none _ _ _ (sym (answer (c .before .before)) ∙ c .enum-told .given .1))
 
 add-t12 : tie.Need-add-t12
 add-t12 c = search needs
@@ -46,7 +49,7 @@ add-t12 c = search needs
 returns-2 : tie.Need-returns-2
 returns-2 c =
     let d = c .before .before .before .before in
-    let q = d .before .before .before .before .before .before .before .pre in
+    let q = start (d .before .before) .pre in
     record { is = probe-point-less _ _ _ _ (sym (answer (d .before .before)) ∙ d .d .given .1) (c .before .if1 .taken); down = q .1; across = q .2; few = omega arith }
 
 add-t13 : tie.Need-add-t13
@@ -55,7 +58,7 @@ add-t13 c = search needs
 returns-3 : tie.Need-returns-3
 returns-3 c =
     let d = c .before .before .before .before in
-    let q = d .before .before .before .before .before .before .before .pre .0 in
+    let q = start (d .before .before) .pre .0 in
     record { is = probe-point-more _ _ _ _ (sym (answer (d .before .before)) ∙ d .d .given .1) (c .before .if1 .left); down = q .down; across = q .across; few = omega arith }
 
 pub probe-point-spec : {M : Type 1} → statement M

@@ -17,7 +17,7 @@ use Rattle.distortion.specs.Blocks.{distortion}
 use Rattle.pruned_rule.proofs.Pruned.{still-attained}
 use Rattle.pruned_rule.proofs.Search.{resolutions-divide}
 use Rattle.pruned_steps.specs.Memory.{stillDistortion}
-use Rattle.pruned.specs.Answer.{pruning, chosen, prunedSearch}
+use Rattle.pruned.specs.Answer.{pruning, prunedPlace, prunedSearch}
 use Rattle.pruned_distance.specs.Remaining.{distanceOf}
 use Rattle.candidates.specs.Gathered.{candidateAt}
 use Rattle.candidates.specs.Chosen.{distortionOf}
@@ -148,8 +148,8 @@ loop-again c =
       l .1,
     )
 
-finish-requires : tie.Need-finish-requires Inv-loop μ-loop
-finish-requires c κs =
+measure-remaining-requires : tie.Need-measure-remaining-requires Inv-loop μ-loop
+measure-remaining-requires c κs =
     let i = c .before .before in
     let l = i .loop .inv in
     let few = gathered-few _ (i .before .before .before .before .before .before .before .before .before .gather .ensures) in
@@ -157,10 +157,10 @@ finish-requires c κs =
     ((s .pre .0 .ready, s .pre .1), (going-listed (l .0), going-some (l .0), omega (arith, l .0 .slots), omega (arith, going-few (l .0), l .1), few))
 
 returns : tie.Need-returns Inv-loop μ-loop
-unfolding prunedSearch chosen pruning
+unfolding prunedSearch prunedPlace pruning
 returns c =
     let l = c .before .before .before .loop .inv in
-    c .finish .ensures ∙ going-done (l .0) _ (omega (arith, c .before .before .loop-test .left)) (l .1)
+    c .measure-remaining .ensures ∙ going-done (l .0) _ (omega (arith, c .before .before .loop-test .left)) (l .1)
 
 pub search-spec : {M : Type 1} → statement M
 search-spec =
@@ -181,5 +181,5 @@ search-spec =
     level-requires
     loop-less
     loop-again
-    finish-requires
+    measure-remaining-requires
     returns)

@@ -14,6 +14,12 @@ use Rattle.pruned_distance.proofs.Candidates.{size, narrow, rowoffset-s
 use Rattle.pruned_distance.proofs.fill_distances.Statement.{statement}
 use Rattle.pruned_distance.proofs.fill_distances.Tie as tie
 
+abbrev few-cut : tie.After-steps3 → tie.After-cut
+few-cut c = c .before .before .before .before .before
+
+abbrev many-cut : tie.After-steps4 → tie.After-cut
+many-cut c = c .before .before .before .before .before
+
 -- ---- the facts of the start, where the newer block is cut
 
 abbrev given : tie.After-steps → tie.After-shared-slice-known4
@@ -82,7 +88,7 @@ mul-fill-few-2 c = let k = c .before .before .before .before .before in omega (a
 
 fill-few-requires : tie.Need-fill-few-requires
 fill-few-requires c κs =
-    let k = c .before .before .before .before .before .before in
+    let k = few-cut (c .before) in
     let t = tested k in
     let s = start k in (
       (s .pre .0, s .pre .1, t .listed .long, t .listed .few),
@@ -101,12 +107,12 @@ slice-aggregate-fill-many-2 c = search needs
 
 fill-many-requires : tie.Need-fill-many-requires
 fill-many-requires c κs =
-    let k = c .before .before .before .before .before .before in
+    let k = many-cut (c .before) in
     ((start k .pre .0, start k .pre .1, tested k), (tested k .whole, squares k))
 
 returns : tie.Need-returns
 returns c =
-    let k = c .before .before .before .before .before .before .before in
+    let k = few-cut (c .before .before) in
     c .fill-few .ensures ∙ fill-ext _ 0 _ _ _ (λ i h. number-table _ _ _ _ _ _ _ _ (tested k) _ _ _ (tested k .whole) (squares k) (olds k) (news k) i h)
 
 returns-2 : tie.Need-returns-2

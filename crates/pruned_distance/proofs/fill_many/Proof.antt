@@ -16,6 +16,15 @@ use Rattle.pruned_distance.proofs.Candidates.{Reach, standing, narrow, 
 use Rattle.pruned_distance.proofs.fill_many.Statement.{statement}
 use Rattle.pruned_distance.proofs.fill_many.Tie as tie
 
+abbrev older-known : tie.After-struct-known → tie.After-shared-slice-known
+older-known c = c .before .before .before .before .before
+
+abbrev entry : tie.After-shared-slice-known5 → tie.Start
+entry c = c .before .before .before .before .before
+
+abbrev cornered : tie.After-part2 → tie.After-corner-region
+cornered c = c .before .before .before .before .before
+
 -- ---- the facts of the start, where the reach is known
 
 abbrev start : tie.After-corner-region → tie.Start
@@ -34,7 +43,7 @@ squares c = start c .pre .1 .1
 
 -- a pel is a byte
 olds : (c : tie.After-corner-region) (k : ℕ) → getD (now (start c .args .older)) k 0 ≤ 255
-olds c k = omega (arith, c .before .before .before .before .before .before .shared-slice-known .given k)
+olds c k = omega (arith, older-known (c .before) .shared-slice-known .given k)
 
 news : (c : tie.After-corner-region) (k : ℕ) → getD (now (start c .args .newer)) k 0 ≤ 255
 news c k = omega (arith, c .before .before .before .before .before .shared-slice-known2 .given k)
@@ -57,10 +66,10 @@ run-small c =
     omega (arith, p .across 0 (p .columns), t .lent .covers .wide, standing _ _ _ _ _ _ _ _ t .wide)
 
 add-stride : tie.Need-add-stride
-add-stride c = omega (arith, narrow _ _ _ _ _ _ _ _ (c .before .before .before .before .before .before .pre .0 .2))
+add-stride c = omega (arith, narrow _ _ _ _ _ _ _ _ (entry (c .before) .pre .0 .2))
 
 corner-region-requires : tie.Need-corner-region-requires
-corner-region-requires c κs = standing _ _ _ _ _ _ _ _ (c .before .before .before .before .before .before .pre .0 .2)
+corner-region-requires c κs = standing _ _ _ _ _ _ _ _ (entry (c .before) .pre .0 .2)
 
 sub-at : tie.Need-sub-at
 sub-at c = in-part (c .before) .top
@@ -98,7 +107,7 @@ spread-requires c κs =
 
 pick-requires : tie.Need-pick-requires
 pick-requires c κs =
-    let r = c .before .before .before .before .before .before .before in
+    let r = cornered (c .before .before) in
     let t = tested r in
     let w = r .corner-region .result in
     let many = few _ _ _ _ _ _ _ _ t _ _ _ (whole r) (squares r) (olds r) (news r) w (r .corner-region .ensures) in
@@ -113,7 +122,7 @@ pick-requires c κs =
 
 returns : tie.Need-returns
 returns c =
-    let r = c .before .before .before .before .before .before .before .before in
+    let r = cornered (c .before .before .before) in
     c .pick .ensures
     ∙ fill-ext _ 0 _ _ _
     (λ i h. number-corner-region _ _ _ _ _ _ _ _ (tested r) _ _ _ (whole r) (squares r) (olds r) (news r) (r .corner-region .result) (r .corner-region .ensures) i h _ _ (c .before .before .before .before .spread .ensures .0))

@@ -17,6 +17,9 @@ Inv-loop part order o remaining count dist₀ i₀ dist i = Filling (λ j. getD 
 abbrev μ-loop : tie.MeasureT-loop
 μ-loop part order o remaining count dist₀ i₀ dist i = count - i
 
+abbrev start : tie.After-place-of Inv-loop μ-loop → tie.Start Inv-loop μ-loop
+start c = c .before .before .before .before .before
+
 -- what is asked of a turn's candidate
 candidate : (b : tie.In-loop Inv-loop μ-loop) →
     let a = b .before .before .args in
@@ -73,7 +76,7 @@ loop-less c = search needs
 loop-again : tie.Need-loop-again Inv-loop μ-loop
 loop-again c =
     let l = c .before .before .before .before .before .loop in
-    filling-more _ (l .inv) (c .before .before .before .before .loop-test .taken) (omega arith) (ap (λ (k : ℕ). getD (now (c .before .before .before .before .before .before .args .part)) k 0) (at-place (c .before) .0))
+    filling-more _ (l .inv) (c .before .before .before .before .loop-test .taken) (omega arith) (ap (λ (k : ℕ). getD (now (start (c .before) .args .part)) k 0) (at-place (c .before) .0))
 
 returns : tie.Need-returns Inv-loop μ-loop
 returns c =

@@ -6,6 +6,9 @@ use Rattle.pruned_region.proofs.Windows.{Corners, corners}
 use Rattle.pruned_region.proofs.search_window.Statement.{statement}
 use Rattle.pruned_region.proofs.search_window.Tie as tie
 
+abbrev start : tie.After-struct-known3 → tie.Start
+start c = c .before .before .before .before .before
+
 -- how many rows and columns the corners stand in
 corners-in : (c : tie.After-corner-region) → Corners (c .corner-region .result)
 corners-in c = rw (c .corner-region .ensures) (corners _ (c .before .before .pre))
@@ -20,7 +23,7 @@ sub-t5 : tie.Need-sub-t5
 sub-t5 c = omega (arith, corners-in (c .before .before))
 
 add-t6 : tie.Need-add-t6
-add-t6 c = omega (arith, corners-in (c .before .before .before .before), c .before .before .before .before .before .before .pre .across)
+add-t6 c = omega (arith, corners-in (c .before .before .before .before), start (c .before) .pre .across)
 
 sub-t7 : tie.Need-sub-t7
 sub-t7 c = omega (arith, corners-in (c .before .before .before .before))

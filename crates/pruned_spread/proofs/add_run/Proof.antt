@@ -21,6 +21,9 @@ Inv-loop sums rowoffset m at value columns part₀ from c₀ part c =
 abbrev μ-loop : tie.MeasureT-loop
 μ-loop sums rowoffset m at value columns part₀ from c₀ part c = columns - c
 
+abbrev start : tie.After-slice-known2 Inv-loop μ-loop → tie.Start Inv-loop μ-loop
+start c = c .before .before .before .before .before
+
 -- the square of a turn, and the place that its difference is added to
 here : (b : tie.In-loop Inv-loop μ-loop) →
     let a = b .before .before .before .before .args in
@@ -65,7 +68,7 @@ square-sum-at-requires : tie.Need-square-sum-at-requires Inv-loop μ-loop
 square-sum-at-requires c κs = here (c .before) .0
 
 abs-diff-u32-requires : tie.Need-abs-diff-u32-requires Inv-loop μ-loop
-abs-diff-u32-requires c κs = (omega (arith, c .before .before .before .before .before .before .pre .0 .0), omega (arith, c .square-sum-at .ensures .1))
+abs-diff-u32-requires c κs = (omega (arith, start (c .before) .pre .0 .0), omega (arith, c .square-sum-at .ensures .1))
 
 add-part-2 : tie.Need-add-part-2 Inv-loop μ-loop
 add-part-2 c = omega (arith, turn c)

@@ -18,6 +18,9 @@ Inv-loop blocksums s block₀ steps₀ k p₀ from₀ block steps p from =
 abbrev μ-loop : tie.MeasureT-loop
 μ-loop blocksums s block₀ steps₀ k p₀ from₀ block steps p from = k - p
 
+abbrev in-loop : tie.After-slice-known3 Inv-loop μ-loop → tie.In-loop Inv-loop μ-loop
+in-loop c = c .before .before .before .before .before
+
 abbrev start : tie.At-loop Inv-loop μ-loop → tie.Start Inv-loop μ-loop
 start l = l .before .before .before .before
 
@@ -41,7 +44,7 @@ cut-row-requires c κs =
     (start (b .before) .pre .0, b .loop-test .taken, r .0, r .1)
 
 add-from : tie.Need-add-from Inv-loop μ-loop
-add-from c = omega (arith, room (c .before .before .before .before .before .before .before))
+add-from c = omega (arith, room (in-loop (c .before .before)))
 
 add-p : tie.Need-add-p Inv-loop μ-loop
 add-p c = search needs
@@ -51,7 +54,7 @@ loop-less c = search needs
 
 loop-again : tie.Need-loop-again Inv-loop μ-loop
 loop-again c =
-    let b = c .before .before .before .before .before .before .before in
+    let b = in-loop (c .before .before) in
     let l = b .before .loop in
     let made = c .before .before .before .before .cut-row .ensures in (
       search needs,

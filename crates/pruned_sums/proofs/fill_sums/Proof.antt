@@ -19,15 +19,21 @@ Inv-loop frame width table₀ top left rows columns stride r₀ from₀ here₀ 
 abbrev μ-loop : tie.MeasureT-loop
 μ-loop frame width table₀ top left rows columns stride r₀ from₀ here₀ table r from here = rows - r
 
+abbrev start : tie.After-table Inv-loop μ-loop → tie.Start Inv-loop μ-loop
+start c = c .before .before .before .before .before
+
+abbrev frame-known : tie.After-slice-known2 Inv-loop μ-loop → tie.After-shared-slice-known Inv-loop μ-loop
+frame-known c = c .before .before .before .before .before
+
 -- the table with its first row made 0 has the same room
 ready : (b : tie.At-loop Inv-loop μ-loop) →
-    let a = b .before .before .before .before .before .before .before .args in
+    let a = start (b .before .before) .args in
     Fillable (now (a .frame)) (a .width) (a .a) (length (b .before .before .before .clear .last .0))
-ready b = rw (b .before .before .before .clear .kept .0) (b .before .before .before .before .before .before .before .pre)
+ready b = rw (b .before .before .before .clear .kept .0) (start (b .before .before) .pre)
 
 -- a pel is a byte
-bytes : (b : tie.At-loop Inv-loop μ-loop) → (k : ℕ) → getD (now (b .before .before .before .before .before .before .before .args .frame)) k 0 ≤ 255
-bytes b k = omega (arith, b .before .before .before .before .before .before .shared-slice-known .given k)
+bytes : (b : tie.At-loop Inv-loop μ-loop) → (k : ℕ) → getD (now (start (b .before .before) .args .frame)) k 0 ≤ 255
+bytes b k = omega (arith, frame-known (b .before) .shared-slice-known .given k)
 
 add-stride : tie.Need-add-stride Inv-loop μ-loop
 add-stride c = let f = c .before .before .pre in omega (arith, f .across, f .wide)
@@ -39,17 +45,17 @@ clear-requires c κs =
 
 mul-from : tie.Need-mul-from Inv-loop μ-loop
 mul-from c =
-    let s = c .before .before .before .before .before .before in
+    let s = start (c .before) in
     omega (arith, s .pre .down, add-mul (s .args .a .top) (s .args .a .rows) (s .args .width))
 
 add-from : tie.Need-add-from Inv-loop μ-loop
 add-from c =
-    let s = c .before .before .before .before .before .before in
+    let s = start (c .before) in
     omega (arith, s .pre .across, s .pre .wide, s .pre .down, add-mul (s .args .a .top) (s .args .a .rows) (s .args .width))
 
 loop-holds : tie.Need-loop-holds Inv-loop μ-loop
 loop-holds c =
-    let a = c .before .before .before .before .before .before .args in
+    let a = start (c .before) .args in
     rw (c .before .before .clear .ensures) (sums-none (now (a .frame)) (a .width) (a .a) (now (a .table)))
 
 add-next : tie.Need-add-next Inv-loop μ-loop

@@ -12,6 +12,9 @@ use Rattle.search.specs.Target.{measureCandidate}
 use Rattle.search.proofs.measure_candidate.Statement.{statement}
 use Rattle.search.proofs.measure_candidate.Tie as tie
 
+abbrev start : tie.At-match-keys1 → tie.Start
+start c = c .before .before .before .before .before
+
 abbrev vectorIn : tie.Start → Vector
 vectorIn s = vec (s .args .dy) (s .args .dx)
 
@@ -24,7 +27,7 @@ found o =
     rw (toZ-ofZ (s .fits .dy), toZ-ofZ (s .fits .dx)) at (o .older-at .ensures)
 
 at-candidate : (k : tie.After-r) →
-    let s = k .before .before .before .before .before .before in
+    let s = start (k .before) in
     T (candidate (s .args .b .sizes) (s .args .b .w) (s .args .b .y) (s .args .b .x) (vectorIn s))
     × (k .r .given .0 .0 ≡ olderRow (s .args .b .y) (vectorIn s))
     × (k .r .given .0 .1 .0 ≡ olderColumn (s .args .b .x) (vectorIn s))
@@ -48,7 +51,7 @@ returns c =
 block-distortion-requires : tie.Need-block-distortion-requires
 block-distortion-requires c κs =
     let k = c .before in
-    let s = k .before .before .before .before .before .before in
+    let s = start (k .before) in
     let h = at-candidate k in
     let i = candidate-older (s .args .b .sizes) _ (s .args .b .y) (s .args .b .x) (vectorIn s) (h .0) in
     record { placed = s .pre .placed; down = rw (h .1) (i .down); across = rw (h .2) (i .across) }
@@ -57,7 +60,7 @@ returns-2 : tie.Need-returns-2
 unfolding measureCandidate distortion
 returns-2 c =
     let k = c .before .before in
-    let s = k .before .before .before .before .before .before in
+    let s = start (k .before) in
     let h = at-candidate k in
     let yes = T-true (candidate (s .args .b .sizes) (s .args .b .w) (s .args .b .y) (s .args .b .x) (vectorIn s)) (h .0) in
     rw (c .block-distortion .ensures .0, h .1, h .2, yes)

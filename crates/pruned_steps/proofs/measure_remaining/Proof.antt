@@ -1,8 +1,8 @@
--- `finish`: what is in memory at the end, field by field.
+-- `measure_remaining`: what is in memory at the end, field by field.
 use borrow.Author.Needs.{needs, sfits-of}
 use mir.Facts.{toZ-ofZ}
-use Rattle.pruned_steps.proofs.finish.Statement.{statement}
-use Rattle.pruned_steps.proofs.finish.Tie as tie
+use Rattle.pruned_steps.proofs.measure_remaining.Statement.{statement}
+use Rattle.pruned_steps.proofs.measure_remaining.Tie as tie
 
 cast-counts : tie.Need-cast-counts
 cast-counts c = search needs
@@ -30,8 +30,8 @@ returns c =
     let k = c .before .before .choose .ensures in
     rw (toZ-ofZ (sfits-of (c .struct-told .given .0 .1)), toZ-ofZ (sfits-of (c .struct-told .given .1 .0 .1)), c .before .vector-at .ensures, k .cost, k .first)
 
-pub finish-spec : {M : Type 1} → statement M
-finish-spec =
+pub measure-remaining-spec : {M : Type 1} → statement M
+measure-remaining-spec =
     tie.close
     (tie.spec
     cast-counts
