@@ -8,3 +8,4 @@ pub mod Least
 pub mod Picks
 pub mod Calls
 pub mod FirstWrong
+pub mod Greatest

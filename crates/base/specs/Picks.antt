@@ -1,12 +1,13 @@
 -- The numbers below n that pass a test, in their order: so the candidates' places in the preference table, in preference order.
 --   pick p n           the numbers below n that pass p
+--   pickFrom p k n     the same by a walk from k on: pick-from
 --   BestBelow f p n a  a is below n and passes; no other that does is less by f, and those before it are greater
 use Prim.Native.Nat.{ℕ, zero, suc, _+_, _≤_, _<_, zero-le}
 use mathlib.Core.Path.{_≡_, refl, sym, ap, ap₂, _∙_, subst}
 use mathlib.Core.Logic.{_⊎_, inl, inr, ⊎-elim}
 use mathlib.Core.Bool.{Bool, true, false, cond}
 use mathlib.Core.List.{List, [], _∷_, _++_, append-nil, List·Memᴰ·head, List·Memᴰ·cases-cons, List·Memᴰ·not-nil, List·Memᴰ·eq-of-singleton, Memᴰ·append-left, Memᴰ·append-right, List·Memᴰ·append-cases}
-use native.Mathlib.Nat.{le-refl, le-step, le-of-eq, lt-suc-self, not-suc-le-zero, eq-or-lt-of-le, le-of-suc-le-suc}
+use native.Mathlib.Nat.{add-zero, zero-add, le-refl, le-step, le-of-eq, lt-suc-self, not-suc-le-zero, eq-or-lt-of-le, le-of-suc-le-suc}
 use native.Mathlib.Numerals.{add-one}
 use native.Mathlib.Omega.{arith}
 use lib.ListN.{length, getD, length-append, List·getD-append}
@@ -110,3 +111,28 @@ leastOf-pick f p n h =
     let r = leastOf-first f (pick p n) h in
     let (l, e) = picked p n (first-mem r) in
     record { below = l; passes = e; least = λ k hk ek. first-le r (pick-mem p n hk ek); earlier = earlier-picked f p n _ r }
+
+-- k before a list, where a test says so
+abbrev pub consIf : Bool → ℕ → List ℕ → List ℕ
+consIf t k ks = cond t (k ∷ ks) ks
+
+consIf-append : (t : Bool) (k : ℕ) (ks ls : List ℕ) → consIf t k ks ++ ls ≡ consIf t k (ks ++ ls)
+consIf-append true k ks ls = refl
+consIf-append false k ks ls = refl
+
+-- those of the n numbers from k on that pass a test, the first of them first
+unfoldable pub pickFrom : (ℕ → Bool) → ℕ → ℕ → List ℕ
+pickFrom p k zero = []
+pickFrom p k (suc n) = consIf (p k) k (pickFrom p (suc k) n)
+
+pickFrom-more : (p : ℕ → Bool) (k n : ℕ) → pickFrom p k (suc n) ≡ pickFrom p k n ++ consIf (p (k + n)) (k + n) []
+unfolding pickFrom
+pickFrom-more p k zero = rw add-zero
+pickFrom-more p k (suc n) =
+    let e : suc k + n ≡ k + suc n = omega arith in
+    ap (consIf (p k) k) (pickFrom-more p (suc k) n ∙ ap (λ (j : ℕ). pickFrom p (suc k) n ++ consIf (p j) j []) e) ∙ sym (consIf-append (p k) k (pickFrom p (suc k) n) _)
+
+pub pick-from : (p : ℕ → Bool) (n : ℕ) → pick p n ≡ pickFrom p 0 n
+unfolding pick pickFrom
+pick-from p zero = refl
+pick-from p (suc n) = ap (λ (ks : List ℕ). ks ++ consIf (p n) n []) (pick-from p n) ∙ sym (rw zero-add at (pickFrom-more p 0 n))

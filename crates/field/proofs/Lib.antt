@@ -1,4 +1,4 @@
 pub mod Places
 pub mod Room
-pub mod Sound
 pub mod Turns
+pub mod Bests

@@ -1,4 +1,4 @@
--- What list and table hold after an acceptedField call, place by place: the blocks' entries, and the rows of the table, stand one behind the other, each as
+-- What list and table hold after an accepted call, place by place: the blocks' entries, and the rows of the table, stand one behind the other, each as
 -- long as the next, and behind them is what was lent.
 use Prim.Native.Nat.{ℕ, _+_, _*_, _≤_, _<_}
 use mathlib.Core.Path.{_≡_, refl, _∙_}
@@ -13,7 +13,8 @@ use Rattle.frame.specs.declared.Sizes.{Sizes}
 use Rattle.distortion.specs.Blocks.{blockAt}
 use Rattle.search.specs.declared.SearchResult.{SearchResult}
 use Rattle.pruned_sums.specs.Area.{area, summed, length-sums, sums-at}
-use Rattle.field.specs.Field.{entry, entries, tableOf, tableSize}
+use Rattle.field_rules.specs.Rules.{tableSize}
+use Rattle.field.specs.Field.{entry, entries, tableOf}
 
 module _ (found : ℕ → SearchResult) (n : ℕ) where
   pub length-entries : length (entries found n) ≡ 3 * n

@@ -1,15 +1,15 @@
 -- The grid loop: before the first block, one block more, and what the first n blocks leave. A block puts three numbers behind those before it, votes
 -- once, and adds its counts; no sum exceeds 1,089 a block.
-use Prim.Native.Nat.{ℕ, suc, _+_, _*_, _≤_, _<_}
+use Prim.Native.Nat.{ℕ, zero, suc, _+_, _*_, _≤_, _<_}
 use mathlib.Core.Path.{_≡_, refl, sym, ap, ap₂, _∙_}
 use mathlib.Core.List.{List, [], _∷_, _++_}
 use mathlib.Core.Logic.{⊎-elim}
 use native.Mathlib.Nat.{le-trans, mul-le-mul-right, eq-or-lt-of-le}
 use native.Mathlib.Numerals.{add-one}
 use native.Mathlib.Omega.{arith}
-use lib.IntN.{ℤ, pos}
-use lib.Seq.{sets-eq, take-at}
-use lib.ListN.{length, getD, set, take, drop, replicate, length-set}
+use lib.IntN.{ℤ}
+use lib.Seq.{sets, sets-eq, take-at, length-sets}
+use lib.ListN.{length, getD, set, take, drop, replicate}
 use Rattle.base.specs.Sum.{sumTo, sumTo-bound}
 use Rattle.base.specs.Lists.{concatTo, concatTo-more, drop-over}
 use Rattle.refusals.specs.declared.Request.{Request}
@@ -21,12 +21,14 @@ use Rattle.reading.specs.declared.Reading.{Reading}
 use Rattle.reading.specs.Reading.{readingOf}
 use Rattle.reading.specs.Tally.{code}
 use Rattle.reading.proofs.Tally.{tally-none, tally-more}
-use Rattle.field.specs.declared.Total.{Total}
-use Rattle.field.specs.Field.{searchAt, vectorOf, entry, entries, fieldAnswer}
+use Rattle.field_block.specs.declared.Total.{Total}
+use Rattle.field_block.specs.Blocks.{searchAt, vectorOf, Sound, asTotal, joined, Bounded}
+use Rattle.field.specs.Field.{countOver, entry, entries, fieldAnswer}
 use Rattle.field.proofs.Places.{length-entries}
-use Rattle.field.specs.Filling.{Sound, asTotal, totalOver, joined, Bounded, BlocksFilled}
+use Rattle.field.specs.Filling.{totalOver, BlocksFilled}
 
-pub filled-none : (found : ℕ → SearchResult) (list : List ℤ) (votes : List ℕ) → votes ≡ replicate 1089 0 → BlocksFilled found 0 list list votes (asTotal (0 ∷ 0 ∷ 0 ∷ 0 ∷ 0 ∷ []) 0)
+pub filled-none : (found : ℕ → SearchResult) (list : List ℤ) (votes : List ℕ) → votes ≡ replicate 1089 0
+    → BlocksFilled found 0 list list votes (asTotal (0 ∷ 0 ∷ 0 ∷ 0 ∷ 0 ∷ []) 0)
 unfolding entries concatTo totalOver sumTo
 filled-none found list votes e = record {
   sound = λ k h. absurd (omega arith);
@@ -35,6 +37,15 @@ filled-none found list votes e = record {
   tally = rw e (tally-none _);
   sums = refl;
 }
+
+-- five counts, each of which is small; a place past them counts 0
+counts-few : (c : ℕ → ℕ) → ((i : ℕ) → c i ≤ 1141899264) → (i : ℕ) → getD (c 0 ∷ c 1 ∷ c 2 ∷ c 3 ∷ c 4 ∷ []) i 0 ≤ 1141899264
+counts-few c h zero = h 0
+counts-few c h (suc zero) = h 1
+counts-few c h (suc (suc zero)) = h 2
+counts-few c h (suc (suc (suc zero))) = h 3
+counts-few c h (suc (suc (suc (suc zero)))) = h 4
+counts-few c h (suc (suc (suc (suc (suc i))))) = omega arith
 
 module _ (found : ℕ → SearchResult) (n : ℕ) (before after : List ℤ) (votes : List ℕ) (total : Total) (f : BlocksFilled found n before after votes total) where
   -- a sum over the blocks
@@ -46,11 +57,8 @@ module _ (found : ℕ → SearchResult) (n : ℕ) (before after : List ℤ) (vot
   filled-few few =
       rw (f .sums)
       (record {
-        count0 = most few _ (λ k h. f .sound k h .count0);
-        count1 = most few _ (λ k h. f .sound k h .count1);
-        count2 = most few _ (λ k h. f .sound k h .count2);
-        count3 = most few _ (λ k h. f .sound k h .count3);
-        count4 = most few _ (λ k h. f .sound k h .count4);
+        long = refl;
+        count = counts-few (countOver found n) (λ i. most few _ (λ k h. f .sound k h .count i));
         dropped = most few _ (λ k h. f .sound k h .dropped);
       })
 
@@ -58,17 +66,12 @@ module _ (found : ℕ → SearchResult) (n : ℕ) (before after : List ℤ) (vot
   unfolding totalOver sumTo
   total-more = rw (f .sums, add-one n)
 
-  abbrev three : SearchResult → List ℤ
-  three r = set (set (set after (3 * n) (r .dy)) (3 * n + 1) (r .dx)) (3 * n + 2) (pos (r .distortion))
-
-  list-more : 3 * n + 3 ≤ length before → three (found n) ≡ entries found (n + 1) ++ drop (3 * (n + 1)) before
+  list-more : 3 * n + 3 ≤ length before → sets after (3 * n) (entry (found n)) ≡ entries found (n + 1) ++ drop (3 * (n + 1)) before
   unfolding entries
   list-more h =
-      let e : 3 * n + 1 ≡ suc (3 * n) = omega arith in
-      let e′ : 3 * n + 2 ≡ suc (suc (3 * n)) = omega arith in
       let next : 3 * (n + 1) ≡ 3 * n + 3 = omega arith in
       let made = length-entries found n in
-      rw (e, e′, next)
+      rw next
       (sets-eq (entry (found n)) after (3 * n) (omega (arith, f .long))
       ∙ ap (λ (l : List ℤ). take (3 * n) l ++ entry (found n) ++ drop (3 * n + 3) l) (f .list)
       ∙ ap₂ (λ (p q : List ℤ). p ++ entry (found n) ++ q)
@@ -77,17 +80,18 @@ module _ (found : ℕ → SearchResult) (n : ℕ) (before after : List ℤ) (vot
       ∙ ap (λ (l : List ℤ). l ++ drop (3 * n + 3) before) (sym (concatTo-more (λ k. entry (found k)) n)))
 
   pub filled-more : (r : SearchResult) → r ≡ found n → Sound r → 3 * n + 3 ≤ length before
-      → BlocksFilled found (n + 1) before (three r) (set votes (code (vectorIn r)) (getD votes (code (vectorIn r)) 0 + 1)) (joined total r)
+      → BlocksFilled found (n + 1) before (sets after (3 * n) (entry r)) (set votes (code (vectorIn r)) (getD votes (code (vectorIn r)) 0 + 1)) (joined total r)
   filled-more r e s h = record {
     sound = λ k l. ⊎-elim (λ (i : k ≡ n). rw (i, ← e) s) (f .sound k) (eq-or-lt-of-le (omega (arith, l)));
-    long = simp length-set (f .long);
+    long = length-sets after (3 * n) (entry r) ∙ f .long;
     list = rw e (list-more h);
     tally = tally-more _ n votes (vectorIn r) (ap vectorIn e) (s .within) (f .tally);
     sums = rw e total-more;
   }
 
 -- the answer, made of the sums and the reading
-pub answer-is : (p : Pair) (q : Request) (total : Total) (r : Reading) → total ≡ totalOver (searchAt p q) (blocks (p .sizes)) → r ≡ readingOf (vectorOf p q) (blocks (p .sizes))
+pub answer-is : (p : Pair) (q : Request) (total : Total) (r : Reading)
+    → total ≡ totalOver (searchAt p q) (blocks (p .sizes)) → r ≡ readingOf (vectorOf p q) (blocks (p .sizes))
     → record { refusal = 0; dy = r .dy; dx = r .dx; votes = r .votes; counts = total .counts; dropped = total .dropped } ≡ fieldAnswer p q
 unfolding totalOver readingOf fieldAnswer
 answer-is p q total r e f = rw (e, f)

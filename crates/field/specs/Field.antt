@@ -2,76 +2,37 @@
 -- reading and, summed over the blocks, counts and dropped." "Search 2 also fills a lent table of unsigned 32-bit sums: place r × (width + 1) + c
 -- holds the sum of older pels in rows before r and columns before c, r to height, c to width. Searches 1, 3 and 4 leave that table unchanged.
 -- Places past the used part of any lent memory keep what they held."
---   asked            a request at these sizes
---   tableOk, listOk  9, 10     what each number asks for
---   fieldRefusal     1 2 3 4 5 6 9 10
---   searchAt          what the search asked for answers at grid block k; vectorOf: its vector
 --   entry, entries   the three numbers of a block, and of all grid blocks in order
 --   tableOf          the table of sums
 --   countOver        a count, summed over the blocks
---   fieldAnswer      what an acceptedField call answers; refusedField: a refused one
---   FieldResult          what a field call answers, with what list and table then hold: field; acceptedField: of an acceptedField call
-use Prim.Native.Nat.{ℕ, _+_, _*_}
+--   fieldAnswer      what an accepted call answers; refusedField: a refused one
+--   FieldResult      what a field call answers, with what list and table then hold: field; acceptedField: of an accepted call
+use Prim.Native.Nat.{ℕ}
 use mathlib.Core.Path.{_≡_, ap, sym, _∙_}
-use mathlib.Core.Bool.{Bool, cond, not, _||_}
+use mathlib.Core.Bool.{cond}
 use mathlib.Core.List.{List, [], _∷_, _++_}
 use native.Mathlib.Decide.{ℕ-discrete}
 use borrow.Author.Tests.{ne-eqb}
-use lib.Dec.{leb, eqb}
+use lib.Dec.{eqb}
 use lib.IntN.{ℤ, pos}
 use lib.ListN.{length, getD, drop}
 use Rattle.base.specs.Sum.{sumTo}
 use Rattle.base.specs.Lists.{concatTo}
-use Rattle.order.specs.declared.Vector.{Vector}
 use Rattle.frame.specs.declared.Sizes.{Sizes}
 use Rattle.refusals.specs.declared.Request.{Request}
 use Rattle.frame.specs.Pictures.{Pair, pairOf}
-use Rattle.frame.specs.Grid.{blocks, blockRow, blockColumn}
-use Rattle.refusals.specs.Refusals.{unless, firstRefusal, sizesOf, requestRefusal}
+use Rattle.frame.specs.Grid.{blocks}
+use Rattle.refusals.specs.Refusals.{sizesOf}
 use Rattle.distortion.specs.Blocks.{blockAt}
 use Rattle.search.specs.declared.SearchResult.{SearchResult}
-use Rattle.search.specs.SearchResult.{onlyAtOne, vectorIn}
+use Rattle.search.specs.SearchResult.{onlyAtOne}
 use Rattle.pruned_sums.specs.Area.{summed}
-use Rattle.block.specs.Block.{searchBy}
 use Rattle.reading.specs.Reading.{votes, majority}
+use Rattle.field_rules.specs.Rules.{tableSize, listSize, fieldRefusal}
+use Rattle.field_block.specs.Blocks.{searchAt, vectorOf}
 use Rattle.field.specs.declared.FieldAnswer.{FieldAnswer}
 
-abbrev pub requestOf : Sizes → (search w t : ℕ) → Request
-requestOf s search w t = record { width = s .width; height = s .height; n = s .n; search = search; w = w; t = t }
-
--- ---- refusals
-
--- places of the table that are used
-abbrev pub tableSize : Sizes → ℕ
-tableSize s = (s .height + 1) * (s .width + 1)
-
--- places of the list that are used
-abbrev pub listSize : Sizes → ℕ
-listSize s = 3 * blocks s
-
--- 9 search 2: table shorter than (width + 1) × (height + 1)
-abbrev pub tableOk : Request → ℕ → Bool
-tableOk q table = not (eqb (q .search) 2) || leb (tableSize (sizesOf q)) table
-
--- 10 list shorter than three a block
-abbrev pub listOk : Request → ℕ → Bool
-listOk q list = leb (listSize (sizesOf q)) list
-
--- frames, list and table come in by their lengths
-unfoldable pub fieldRefusal : ℕ → ℕ → Request → ℕ → ℕ → ℕ
-fieldRefusal older newer q list table =
-    firstRefusal (requestRefusal older newer q)
-    (unless (tableOk q table) 9
-    (unless (listOk q list) 10 0))
-
--- ---- the blocks
-
-module _ (p : Pair) (q : Request) where
-  unfoldable pub searchAt : ℕ → SearchResult
-  searchAt k = searchBy p q (blockRow (p .sizes) k) (blockColumn (p .sizes) k)
-
-  abbrev pub vectorOf : ℕ → Vector
-  vectorOf k = vectorIn (searchAt k)
+-- ---- list and table
 
 abbrev pub entry : SearchResult → List ℤ
 entry f = f .dy ∷ f .dx ∷ pos (f .distortion) ∷ []
@@ -120,7 +81,7 @@ pub record FieldResult : Type 0 where
 abbrev pub fieldResult : FieldAnswer → List ℤ → List ℕ → FieldResult
 fieldResult answer list table = record { answer = answer; list = list; table = table }
 
--- an acceptedField call
+-- an accepted call
 abbrev pub filledList : Pair → Request → List ℤ → List ℤ
 filledList p q list = entries (searchAt p q) (blocks (p .sizes)) ++ drop (listSize (p .sizes)) list
 
@@ -145,7 +106,7 @@ module _ (older newer : List ℕ) (q : Request) (list : List ℤ) (table : List 
   unfolding field
   field-refused h = rw (ne-eqb _ 0 h)
 
-  -- a call that answers 0 was acceptedField
+  -- a call that answers 0 was accepted
   pub field-unrefused : field older newer q list table .answer .refusal ≡ 0 → refusalIs ≡ 0
   field-unrefused e = go (ℕ-discrete refusalIs 0)
     where

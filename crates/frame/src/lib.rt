@@ -3,7 +3,7 @@
 ghost use mathlib.Core.Path.{_≡_};
 ghost use Prim.Native.Nat.{_<_};
 ghost use Rattle.order.specs.Vectors.{vec};
-ghost use Rattle.frame.specs.Pictures.{Fitting};
+ghost use Rattle.frame.specs.Pictures.{sizes, Fitting};
 ghost use Rattle.frame.specs.Grid.{blocks, blockRow, blockColumn};
 ghost use Rattle.frame.specs.Candidates.{candidate, olderAt, partAt};
 use signed::Shifted;
@@ -34,6 +34,13 @@ pub struct Region {
     pub left: usize,
     pub rows: usize,
     pub columns: usize,
+}
+
+// The sizes of these three numbers.
+pub fn sizes_by(width: usize, height: usize, n: usize) -> Sizes
+    ensures { λ r. ⌜ r ≡ sizes width height n ⌝ }
+{
+    Sizes { width, height, n }
 }
 
 // ---- the grid

@@ -1,20 +1,19 @@
 -- Search 2 on a pair that an accepted step has, block by block and over the grid: at a block that stands wholly inside it finds the exhaustive best and counts
 -- what it drops and measures, and every grid block stands so.
 use Prim.Native.Nat.{ℕ, _+_, _≤_, _<_}
-use mathlib.Core.Path.{_≡_, refl, sym, ap, ap₂, _∙_}
-use mathlib.Core.List.{List, [], _∷_, _++_}
+use mathlib.Core.Path.{_≡_, refl, sym, ap, _∙_}
+use mathlib.Core.List.{List, _++_}
 use native.Mathlib.Omega.{arith}
 use lib.Dec.{T, le→leb, lt→ltb}
 use lib.IntN.{ℤ, pos}
 use lib.Signed.{_≤ℤ_, _<ℤ_, leZ-yes, ltZ-yes}
 use Rattle.base.specs.Sum.{sumTo-ext, sumTo-add}
-use Rattle.base.specs.Lists.{concatTo-ext}
 use Rattle.order.specs.declared.Vector.{Vector}
 use Rattle.order.specs.Vectors.{Within}
 use Rattle.frame.specs.Pictures.{Pair, Fitting}
 use Rattle.frame.specs.Grid.{blocks, blockRow, blockColumn, block-down, block-across}
 use Rattle.frame.specs.Candidates.{candidate, candidate-yes}
-use Rattle.refusals.specs.Refusals.{blockSizeOk, windowOk, thresholdOk}
+use Rattle.refusals.specs.Refusals.{blockSizeOk, windowOk, thresholdOk, requestOf}
 use Rattle.distortion.specs.Blocks.{distortion}
 use Rattle.search.specs.declared.SearchResult.{SearchResult}
 use Rattle.search.specs.SearchResult.{vectorIn, probes}
@@ -22,13 +21,13 @@ use Rattle.search.specs.Exhaustive.{Best, best}
 use Rattle.search.proofs.Exhaustive.{best-is}
 use Rattle.probe.proofs.Probe.{within-more}
 use Rattle.pruned.specs.Answer.{prunedSearch}
-use Rattle.pruned.proofs.Blocks.{block-size-power}
-use Rattle.pruned.proofs.Laws.{pruned-distortion, pruned-adds, pruned-is-best}
+use Rattle.pruned.proofs.Laws.{pruned-adds}
 use Rattle.block.specs.Block.{search-fine, block-accepted, searched-pruned}
-use Rattle.field.specs.Field.{requestOf, entries, searchAt, vectorOf, droppedOver, countOver}
+use Rattle.field_block.specs.Blocks.{searchAt, vectorOf}
+use Rattle.field.specs.Field.{entries, droppedOver, countOver}
 use Rattle.field.proofs.Places.{entry-at}
+use Rattle.field.proofs.Bests.{Exact, pruned-exact, pruned-exact-at, exact-at, exact-reading, exact-entries}
 use Rattle.reading.specs.Reading.{majority}
-use Rattle.reading.proofs.Majority.{majority-ext}
 use Rattle.promise.specs.Demand.{bestOf, bestEntries, EachBlock, EachPlace, EachGridPlace, overGrid, reported, howMany, isDropped, isMeasured, blockOn}
 use Rattle.promise.proofs.Chains.{requestChain, Fine, fine-paired, request-any}
 use Rattle.promise.proofs.Counting.{dropped-many, measured-many, dropped-worse}
@@ -64,14 +63,12 @@ module _ (p : Pair) (w : ℕ) (f : Fine p w) where
       let b = each-place (blockRow (p .sizes) k) (blockColumn (p .sizes) k) (block-down (p .sizes) fits k h) (block-across (p .sizes) fits k h) in
       within-more (f .small) (b .candidate .window)
 
-  -- search 2 at a place
+  -- search 2
+  exact : (t : ℕ) → Exact p (requestOf (p .sizes) 2 w t)
+  exact t = pruned-exact p (requestOf (p .sizes) 2 w t) allowed (f .small) refl
+
+  -- at a place
   module _ (y x : ℕ) (hy : y + p .sizes .n ≤ p .sizes .height) (hx : x + p .sizes .n ≤ p .sizes .width) where
-    found-best : vectorIn (prunedSearch p w y x) ≡ best p w y x
-    found-best = pruned-is-best p w y x (block-size-power (p .sizes .n) allowed) (f .small) hy hx
-
-    found-distortion : prunedSearch p w y x .distortion ≡ distortion p y x (best p w y x)
-    found-distortion = pruned-distortion p w y x ∙ ap (distortion p y x) found-best
-
     request-two : requestChain p 2 w 0 ≡ 0
     unfolding windowOk thresholdOk
     request-two = request-any p 2 w 0 (f .pair) tt (le→leb w 16 (f .small)) tt
@@ -92,14 +89,14 @@ module _ (p : Pair) (w : ℕ) (f : Fine p w) where
     block-result =
         rw single-is (
           unrefused,
-          found-best,
-          found-distortion,
+          pruned-exact-at p w y x allowed (f .small) hy hx .0,
+          pruned-exact-at p w y x allowed (f .small) hy hx .1,
           dropped-many p w y x allowed (f .small) hy hx,
           measured-many p w y x allowed (f .small) hy hx,
           pruned-adds p w y x allowed,
         )
 
-  -- search 2 at grid block k
+  -- at grid block k
   module _ (t k : ℕ) (h : k < blocks (p .sizes)) where
     abbrev y : ℕ
     y = blockRow (p .sizes) k
@@ -120,11 +117,8 @@ module _ (p : Pair) (w : ℕ) (f : Fine p w) where
     hx : x + p .sizes .n ≤ p .sizes .width
     hx = block-across (p .sizes) fits k h
 
-    grid-best : vectorIn found ≡ bestOf p w k
-    grid-best = ap vectorIn found-is ∙ found-best y x hy hx
-
     pub grid-distortion : found .distortion ≡ distortion p y x (bestOf p w k)
-    grid-distortion = ap (λ (r : SearchResult). r .distortion) found-is ∙ found-distortion y x hy hx
+    grid-distortion = exact-at p (requestOf (p .sizes) 2 w t) fits (exact t) k h .1
 
     grid-dropped : found .dropped ≡ howMany (isDropped p w y x)
     grid-dropped = ap (λ (r : SearchResult). r .dropped) found-is ∙ dropped-many p w y x allowed (f .small) hy hx
@@ -141,20 +135,17 @@ module _ (p : Pair) (w : ℕ) (f : Fine p w) where
     pub grid-worse : (v : Vector) → T (isDropped p w y x v) → found .distortion < distortion p y x v
     grid-worse v d = rw found-is (dropped-worse p w y x allowed (f .small) hy hx v d)
 
-  -- search 2 over the grid
+  -- over the grid
   module _ (t : ℕ) where
     abbrev founds : ℕ → SearchResult
     founds = searchAt p (requestOf (p .sizes) 2 w t)
 
     pub reading-best : majority (vectorOf p (requestOf (p .sizes) 2 w t)) (blocks (p .sizes)) ≡ majority (bestOf p w) (blocks (p .sizes))
-    reading-best = majority-ext _ _ (blocks (p .sizes)) (λ k h. grid-best t k h)
-
-    abbrev triple : Vector → ℕ → List ℤ
-    triple v d = v .dy ∷ v .dx ∷ pos d ∷ []
+    reading-best = exact-reading p (requestOf (p .sizes) 2 w t) fits (exact t)
 
     pub entries-best : entries founds (blocks (p .sizes)) ≡ bestEntries p w
-    unfolding entries bestEntries
-    entries-best = concatTo-ext _ _ (blocks (p .sizes)) (λ k h. ap₂ triple (grid-best t k h) (grid-distortion t k h))
+    unfolding bestEntries
+    entries-best = exact-entries p (requestOf (p .sizes) 2 w t) fits (exact t)
 
     pub sum-dropped : droppedOver founds (blocks (p .sizes)) ≡ overGrid p (λ y x. howMany (isDropped p w y x))
     sum-dropped = sumTo-ext _ _ (blocks (p .sizes)) (λ k h. grid-dropped t k h)

@@ -10,9 +10,10 @@ use lib.IntN.{ℤ}
 use lib.ListN.{length}
 use Rattle.base.specs.Tests.{T-true}
 use Rattle.frame.specs.Pictures.{Pair}
-use Rattle.refusals.specs.Refusals.{unless, firstRefusal, first-refusal-zero, searchOk, windowOk, thresholdOk, pairRefusal, requestRefusal, Paired, paired, window-small}
+use Rattle.refusals.specs.Refusals.{unless, firstRefusal, first-refusal-zero, searchOk, windowOk, thresholdOk, requestOf}
+use Rattle.refusals.specs.Refusals.{pairRefusal, requestRefusal, Paired, paired, window-small}
 use Rattle.refusals.specs.Refusals as refusals
-use Rattle.field.specs.Field.{requestOf, listSize, fieldRefusal}
+use Rattle.field_rules.specs.Rules.{listSize, fieldRefusal}
 
 -- ---- the refusals of a step that come before the field is filled, and the one after
 

@@ -15,7 +15,8 @@ use Rattle.refusals.specs.Refusals.{first-refusal-zero}
 use Rattle.track_rules.specs.Rules.{inRange}
 use Rattle.track.specs.declared.Track.{Track}
 use Rattle.track.specs.Track.{trackNew, homedAt, movedTo}
-use Rattle.promise.specs.Demand.{Call, travel, refusalOf, accept, reckon, reckoned, acceptedCalls, Standing, standOn, standingOn, sumDown, sumAcross, trackAt, NoHoming}
+use Rattle.promise.specs.Demand.{Call, travel, refusalOf, accept, reckon, reckoned, acceptedCalls}
+use Rattle.promise.specs.Demand.{Standing, standOn, standingOn, sumDown, sumAcross, trackAt, NoHoming}
 use Rattle.promise.specs.Demand.Call.{home, step}
 use Rattle.promise.specs.Demand.Standing.{nowhere, from}
 

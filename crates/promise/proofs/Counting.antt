@@ -9,7 +9,7 @@ use native.Mathlib.Nat.{add-zero}
 use native.Mathlib.Omega.{arith}
 use lib.Dec.{T}
 use lib.ListN.{length}
-use Rattle.base.specs.Tests.{or-true, T-true, true-T, and-right, or-cases}
+use Rattle.base.specs.Tests.{one, or-true, T-true, true-T, and-right, or-cases}
 use Rattle.base.specs.Sum.{sumTo, sumTo-ext}
 use Rattle.base.specs.Least.{_∈_}
 use Rattle.base.specs.Picks.{pick, picked, pick-length}
@@ -37,7 +37,9 @@ unfolding isIn vectorsAt
 mem-in [] m = absurd (List·Memᴰ·not-nil m)
 mem-in {k} (j ∷ js) m =
     ⊎-elim
-    (λ (e : k ≡ j). ap (λ (b : Bool). b || isIn (preferred k) (vectorsAt js)) (ap (λ (i : ℕ). same? (preferred k) (preferred i)) (sym e) ∙ same-self (preferred k)))
+    (λ (e : k ≡ j).
+    let s = ap (λ (i : ℕ). same? (preferred k) (preferred i)) (sym e) ∙ same-self (preferred k) in
+    ap (λ (b : Bool). b || isIn (preferred k) (vectorsAt js)) s)
     (λ i. rw (mem-in js i) (or-true (same? (preferred k) (preferred j))))
     (List·Memᴰ·cases-cons m)
 
@@ -51,9 +53,6 @@ in-mem v (j ∷ js) t =
     (or-cases (same? v (preferred j)) (isIn v (vectorsAt js)) t)
 
 -- ---- sums over places of the table
-
-abbrev one : Bool → ℕ
-one b = cond b 1 0
 
 last-pick : (g : ℕ → ℕ) (n : ℕ) (b : Bool) → total g (cond b (n ∷ []) []) ≡ cond b (g n) 0
 unfolding total
@@ -137,4 +136,5 @@ module _ (p : Pair) (w y x : ℕ) (allowed : T (blockSizeOk (p .sizes .n))) (sma
     pub dropped-worse : (v : Vector) → T (isDropped p w y x v) → prunedSearch p w y x .distortion < distortion p y x v
     dropped-worse v t =
         let r = in-mem v gone (and-right (candidate (p .sizes) w y x v) (isIn v (vectorsAt gone)) t) in
-        subst (λ (u : Vector). prunedSearch p w y x .distortion < distortion p y x u) (r .2) (pruned-drops p w y x (block-size-power (p .sizes .n) allowed) small down across (r .1))
+        subst (λ (u : Vector). prunedSearch p w y x .distortion < distortion p y x u) (r .2)
+        (pruned-drops p w y x (block-size-power (p .sizes .n) allowed) small down across (r .1))

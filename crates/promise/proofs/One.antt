@@ -15,10 +15,11 @@ use Rattle.order.specs.declared.Vector.{Vector}
 use Rattle.order.specs.Vectors.{vec, turned}
 use Rattle.frame.specs.Pictures.{Pair}
 use Rattle.frame.specs.Grid.{blocks}
-use Rattle.refusals.specs.Refusals.{unless, first-refusal-zero}
+use Rattle.refusals.specs.declared.Request.{Request}
+use Rattle.refusals.specs.Refusals.{unless, first-refusal-zero, requestOf}
 use Rattle.reading.specs.Reading.{majority}
 use Rattle.field.specs.declared.FieldAnswer.{FieldAnswer}
-use Rattle.field.specs.Field.{requestOf, fieldAnswer, FieldResult, filledList, field-accepted}
+use Rattle.field.specs.Field.{fieldAnswer, FieldResult, filledList, field-accepted}
 use Rattle.track.specs.declared.Track.{Track}
 use Rattle.track_rules.specs.Rules.{inRange, arrivalRefusal}
 use Rattle.track.specs.Track.{movedTo, trackHome, stepRefusal, unmoved, travelOf, arrived, StepResult, stepResult, landed, trackStep, step-refused, step-landed}
@@ -60,6 +61,9 @@ landing t f v e = let new = movedTo t (travelOf (f .answer)) in rw (← e) (land
 -- ---- Step
 
 module _ (t : Track) (p : Pair) (w threshold : ℕ) (list : List ℤ) (table : List ℕ) where
+  abbrev request : Request
+  request = requestOf (p .sizes) 2 w threshold
+
   abbrev this : Call
   this = step p w threshold list table
 
@@ -67,11 +71,11 @@ module _ (t : Track) (p : Pair) (w threshold : ℕ) (list : List ℤ) (table : L
   field = fieldOn p 2 w threshold list table
 
   abbrev answers : StepResult
-  answers = trackStep t (p .older) (p .newer) (requestOf (p .sizes) 2 w threshold) list table
+  answers = trackStep t (p .older) (p .newer) request list table
 
   -- the refusals before the field is filled, and the one after
   abbrev early : ℕ
-  early = stepRefusal t (length (p .older)) (length (p .newer)) (requestOf (p .sizes) 2 w threshold) (length list) (length table)
+  early = stepRefusal t (length (p .older)) (length (p .newer)) request (length list) (length table)
 
   abbrev late : ℕ
   late = let new = movedTo t (travel p w) in arrivalRefusal (new .y) (new .x)
@@ -96,11 +100,11 @@ module _ (t : Track) (p : Pair) (w threshold : ℕ) (list : List ℤ) (table : L
     pub field-fine : Fine p w
     field-fine = request-fine p 2 w threshold (field-request p 2 w threshold (length list) (length table) e)
 
-    pub answer-is : field .answer ≡ fieldAnswer p (requestOf (p .sizes) 2 w threshold)
-    answer-is = ap (λ (f : FieldResult). f .answer) (field-accepted (p .older) (p .newer) (requestOf (p .sizes) 2 w threshold) list table e)
+    pub answer-is : field .answer ≡ fieldAnswer p request
+    answer-is = ap (λ (f : FieldResult). f .answer) (field-accepted (p .older) (p .newer) request list table e)
 
-    pub list-is : field .list ≡ filledList p (requestOf (p .sizes) 2 w threshold) list
-    list-is = ap (λ (f : FieldResult). f .list) (field-accepted (p .older) (p .newer) (requestOf (p .sizes) 2 w threshold) list table e)
+    pub list-is : field .list ≡ filledList p request list
+    list-is = ap (λ (f : FieldResult). f .list) (field-accepted (p .older) (p .newer) request list table e)
 
     unrefused : field .answer .refusal ≡ 0
     unfolding fieldAnswer
@@ -121,10 +125,10 @@ module _ (t : Track) (p : Pair) (w threshold : ℕ) (list : List ℤ) (table : L
       go : Dec (early ≡ 0) → Agrees t this (stepping answers)
       go (yes e) =
           let l = lands (early-field e) in
-          rw (step-landed t (p .older) (p .newer) (requestOf (p .sizes) 2 w threshold) list table e)
+          rw (step-landed t (p .older) (p .newer) request list table e)
           (record { refusal = l .refusal (unrefused (early-field e)) ∙ sym (refusal-late e); track = rw (refusal-late e) (l .track) })
       go (no n) =
-          rw (step-refused t (p .older) (p .newer) (requestOf (p .sizes) 2 w threshold) list table n)
+          rw (step-refused t (p .older) (p .newer) request list table n)
           (record { refusal = sym (refusal-early n); track = rw (refusal-early n, ne-eqb early 0 n) refl })
 
   -- an accepted step answers with all that its field answers
@@ -139,7 +143,7 @@ module _ (t : Track) (p : Pair) (w threshold : ℕ) (list : List ℤ) (table : L
       go : Dec (early ≡ 0) → Taken answers
       go (yes e) =
           let l = lands (early-field e) in
-          rw (step-landed t (p .older) (p .newer) (requestOf (p .sizes) 2 w threshold) list table e)
+          rw (step-landed t (p .older) (p .newer) request list table e)
           (record { fine = early-field e; list-same = l .list; answer-same = l .whole (sym (refusal-late e) ∙ a) })
       go (no n) = absurd (n (sym (refusal-early n) ∙ a))
 
@@ -154,4 +158,4 @@ pub at-step : (Q : Pair → ℕ → List ℤ → StepResult → Type 0)
 unfolding call
 at-step Q h t (home y x) = tt
 at-step Q h t (step p w threshold list table) =
-    λ e. h t p w threshold list table (trackStep t (p .older) (p .newer) (requestOf (p .sizes) 2 w threshold) list table) (step-taken t p w threshold list table e)
+    λ e. h t p w threshold list table (answers t p w threshold list table) (step-taken t p w threshold list table e)

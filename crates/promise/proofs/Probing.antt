@@ -10,8 +10,9 @@ use Rattle.base.specs.Tests.{T-true}
 use Rattle.base.specs.Sum.{sumTo-bound}
 use Rattle.frame.specs.Pictures.{Pair, largestDistortion}
 use Rattle.frame.specs.Grid.{blocks, blockRow, blockColumn, block-down, block-across}
+use Rattle.refusals.specs.declared.Request.{Request}
 use Rattle.refusals.specs.Cross.{crossWindow, log2}
-use Rattle.refusals.specs.Refusals.{windowOk, thresholdOk}
+use Rattle.refusals.specs.Refusals.{windowOk, thresholdOk, requestOf}
 use Rattle.refusals.specs.Refusals as refusals
 use Rattle.search.specs.declared.SearchResult.{SearchResult}
 use Rattle.search.specs.Exhaustive.{best}
@@ -20,7 +21,9 @@ use Rattle.probe.specs.BestSoFar.{resultOf}
 use Rattle.four_step.proofs.FourStep.{four-step-never-lower, four-step-count}
 use Rattle.cross.proofs.Cross.{cross-never-lower, cross-count}
 use Rattle.block.specs.Block.{searchBy, searchable, search-fine, block-unrefused, block-accepted, searched-four-step, searched-cross}
-use Rattle.field.specs.Field.{requestOf, listSize, searchAt, fieldAnswer, FieldResult, field-accepted, field-unrefused}
+use Rattle.field_rules.specs.Rules.{listSize}
+use Rattle.field_block.specs.Blocks.{searchAt}
+use Rattle.field.specs.Field.{fieldAnswer, FieldResult, field-accepted, field-unrefused}
 use Rattle.promise.specs.Demand.{EachPlace, blockOn, fieldOn, NotLower, FieldNotLower, Runs}
 use Rattle.promise.proofs.Chains.{requestChain, fieldChain, Fine, request-any, field-request, field-any}
 use Rattle.promise.proofs.Blocks.{Lists, each-place, entries-third, at-most}
@@ -30,11 +33,12 @@ module _ (p : Pair) (w : ℕ) (f : Fine p w) where
 
   runs : (s u t : ℕ) → requestChain p s u t ≡ 0 → eqb s 2 ≡ false → ((y x : ℕ) → searchBy p (requestOf (p .sizes) s u t) y x .refusal ≡ 0) → Runs p s u t
   unfolding fieldAnswer
-  runs s u t e n zero = (
-    λ y x hy hx. rw (block-accepted (p .older) (p .newer) (requestOf (p .sizes) s u t) y x (search-fine _ _ (requestOf (p .sizes) s u t) y x e hy hx)) (zero y x),
-    λ list table h.
-        ap (λ (r : FieldResult). r .answer .refusal) (field-accepted (p .older) (p .newer) (requestOf (p .sizes) s u t) list table (field-any p s u t list table e n h)),
-  )
+  runs s u t e n zero =
+      let q = requestOf (p .sizes) s u t in (
+        λ y x hy hx. rw (block-accepted (p .older) (p .newer) q y x (search-fine _ _ q y x e hy hx)) (zero y x),
+        λ list table h.
+            ap (λ (r : FieldResult). r .answer .refusal) (field-accepted (p .older) (p .newer) q list table (field-any p s u t list table e n h)),
+      )
 
   pub four-step-runs : Runs p 3 7 0
   unfolding windowOk thresholdOk resultOf
@@ -51,21 +55,25 @@ module _ (p : Pair) (w : ℕ) (f : Fine p w) where
   -- ---- they are held against the exhaustive best: once for both, from what a search owes at a place
 
   module _ (s u t most : ℕ) (owes : T (windowOk s u) → EachPlace p (λ y x. NotLower p w y x (searchBy p (requestOf (p .sizes) s u t) y x) most)) where
+    abbrev request : Request
+    request = requestOf (p .sizes) s u t
+
     block-held : (y x : ℕ) → blockOn p s u t y x .refusal ≡ 0 → NotLower p w y x (blockOn p s u t y x) most
     block-held y x e =
-        let c = block-unrefused (p .older) (p .newer) (requestOf (p .sizes) s u t) y x e in
-        let q = searchable (length (p .older)) (length (p .newer)) (requestOf (p .sizes) s u t) y x c in
-        rw (block-accepted (p .older) (p .newer) (requestOf (p .sizes) s u t) y x c)
+        let c = block-unrefused (p .older) (p .newer) request y x e in
+        let q = searchable (length (p .older)) (length (p .newer)) request y x c in
+        rw (block-accepted (p .older) (p .newer) request y x c)
         (owes (q .requested .window) y x (q .placed .down) (q .placed .across))
 
     module _ (list : List ℤ) (table : List ℕ) (e : fieldOn p s u t list table .answer .refusal ≡ 0) where
-      acceptedCalls : fieldChain p s u t (length list) (length table) ≡ 0
-      acceptedCalls = field-unrefused (p .older) (p .newer) (requestOf (p .sizes) s u t) list table e
+      unrefused : fieldChain p s u t (length list) (length table) ≡ 0
+      unrefused = field-unrefused (p .older) (p .newer) request list table e
 
-      owed : (k : ℕ) → k < blocks (p .sizes) → NotLower p w (blockRow (p .sizes) k) (blockColumn (p .sizes) k) (searchAt p (requestOf (p .sizes) s u t) k) most
+      owed : (k : ℕ) → k < blocks (p .sizes) → NotLower p w (blockRow (p .sizes) k) (blockColumn (p .sizes) k) (searchAt p request k) most
       unfolding searchAt
       owed k h =
-          let q = refusals.requested (length (p .older)) (length (p .newer)) (requestOf (p .sizes) s u t) (field-request p s u t (length list) (length table) acceptedCalls) in
+          let chain = field-request p s u t (length list) (length table) unrefused in
+          let q = refusals.requested (length (p .older)) (length (p .newer)) request chain in
           let fits = q .paired .fitting in
           owes (q .window) (blockRow (p .sizes) k) (blockColumn (p .sizes) k) (block-down (p .sizes) fits k h) (block-across (p .sizes) fits k h)
 
@@ -73,8 +81,8 @@ module _ (p : Pair) (w : ℕ) (f : Fine p w) where
       field-held : (mine : List ℤ) → Lists p w mine → FieldNotLower p mine (fieldOn p s u t list table) most
       unfolding fieldAnswer
       field-held mine r =
-          rw (field-accepted (p .older) (p .newer) (requestOf (p .sizes) s u t) list table acceptedCalls) (
-            λ k h. rw (r k h, entries-third (searchAt p (requestOf (p .sizes) s u t)) (blocks (p .sizes)) k (drop (listSize (p .sizes)) list) h) (at-most (owed k h .0)),
+          rw (field-accepted (p .older) (p .newer) request list table unrefused) (
+            λ k h. rw (r k h, entries-third (searchAt p request) (blocks (p .sizes)) k (drop (listSize (p .sizes)) list) h) (at-most (owed k h .0)),
             sumTo-bound most _ (blocks (p .sizes)) (λ k h. owed k h .1),
           )
 
@@ -84,7 +92,8 @@ module _ (p : Pair) (w : ℕ) (f : Fine p w) where
       rw (searched-four-step p (requestOf (p .sizes) 3 7 t) y x refl)
       (four-step-never-lower p y x hy hx w (best p w y x) l (each-place p w f y x hy hx), four-step-count (target p 7 y x))
 
-  cross-owes : (u : ℕ) → u ≤ w → T (crossWindow u) → (t : ℕ) → EachPlace p (λ y x. NotLower p w y x (searchBy p (requestOf (p .sizes) 4 u t) y x) (5 + 4 * log2 u))
+  cross-owes : (u : ℕ) → u ≤ w → T (crossWindow u) → (t : ℕ)
+      → EachPlace p (λ y x. NotLower p w y x (searchBy p (requestOf (p .sizes) 4 u t) y x) (5 + 4 * log2 u))
   unfolding resultOf
   cross-owes u l c t y x hy hx =
       rw (searched-cross p (requestOf (p .sizes) 4 u t) y x refl)

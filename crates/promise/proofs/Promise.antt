@@ -17,16 +17,22 @@ use Rattle.frame.specs.Candidates.{candidate}
 use Rattle.distortion.specs.Blocks.{distortion}
 use Rattle.reading.specs.Reading.{majority, Most}
 use Rattle.field.specs.declared.FieldAnswer.{FieldAnswer}
-use Rattle.field.specs.Field.{requestOf, listSize, searchAt, fieldAnswer}
+use Rattle.refusals.specs.Refusals.{requestOf}
+use Rattle.field_rules.specs.Rules.{listSize}
+use Rattle.field_block.specs.Blocks.{searchAt}
+use Rattle.field.specs.Field.{fieldAnswer}
 use Rattle.track.specs.declared.Track.{Track}
 use Rattle.track_rules.specs.Rules.{inRange}
 use Rattle.track.specs.Track.{trackNew, homedAt, StepResult}
-use Rattle.promise.specs.Demand.{Call, bestOf, travel, reckon, reckoned, acceptedCalls, standingOn, trackAt, NoHoming, Result, trackIn, call, run, lastTrack, AtStep, EachStep, EachBlock, EachGridPlace, bestEntries, reported, howMany, isDropped, isMeasured, overGrid, Promise}
+use Rattle.promise.specs.Demand.{Call, bestOf, travel, reckon, reckoned, acceptedCalls, standingOn, trackAt, NoHoming, Result, trackIn, call}
+use Rattle.promise.specs.Demand.{run, lastTrack, AtStep, EachStep, EachBlock, EachGridPlace, bestEntries, reported, howMany, isDropped}
+use Rattle.promise.specs.Demand.{isMeasured, overGrid, Promise}
 use Rattle.promise.specs.Demand.Call.{home}
 use Rattle.promise.specs.Demand.Standing.{nowhere, from}
 use Rattle.reading.proofs.Majority.{majority-most}
 use Rattle.promise.proofs.Chains.{Fine, fine-paired}
-use Rattle.promise.proofs.Blocks.{Lists, entries-third, at-most, below, each-place, best-within, block-result, grid-distortion, grid-no-less, grid-worse, entries-best, sum-dropped, sum-measured, sum-both}
+use Rattle.promise.proofs.Blocks.{Lists, entries-third, at-most, below, each-place, best-within, block-result, grid-distortion, grid-no-less}
+use Rattle.promise.proofs.Blocks.{grid-worse, entries-best, sum-dropped, sum-measured, sum-both}
 use Rattle.promise.proofs.Probing.{four-step-runs, cross-runs, four-step-block, cross-block, four-step-over, cross-over}
 use Rattle.promise.proofs.One.{agrees, Taken, at-step, field-fine, answer-is, list-is, reading-is}
 use Rattle.promise.proofs.Closed.{closed, stays-nowhere, travelsOf, reckoned-since}

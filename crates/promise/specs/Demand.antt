@@ -8,8 +8,9 @@
 --   Result, run, lastTrack   what the gauge's own calls answer, one after the other
 --   EachCall, EachStep       of each call, of each accepted step
 --   Promise                  what is promised
--- From below come: lists of calls, whatever the state (base: Calls), candidate and distortion (frame, distortion), Best and best (search), votes, majority and Most (reading), the steps of search 2 (pruned),
--- and what the contracts of the code cite: searchBlock (block), field (field), trackNew, trackHome and trackStep (track).
+-- From below come: reckonCall, acceptedFrom, runFrom, lastHanded and EachCall, of any list of calls (base: Calls), candidate and distortion (frame,
+-- distortion), Best and best (search), votes, majority and Most (reading), turned (order), homedAt and movedTo (track), the steps of search 2 (pruned), and
+-- what the contracts of the code cite: searchBlock (block), field (field), trackNew, trackHome and trackStep (track).
 use Prim.Native.Nat.{ℕ, _+_, _*_, _≤_, _<_}
 use mathlib.Core.Path.{_≡_}
 use mathlib.Core.Bool.{Bool, true, not, _&&_}
@@ -28,7 +29,7 @@ use Rattle.frame.specs.Pictures.{Pair, largestDistortion}
 use Rattle.frame.specs.Grid.{blocks, blockRow, blockColumn}
 use Rattle.frame.specs.Candidates.{candidate}
 use Rattle.refusals.specs.Cross.{crossWindow, log2}
-use Rattle.refusals.specs.Refusals.{unless, firstRefusal}
+use Rattle.refusals.specs.Refusals.{unless, firstRefusal, requestOf}
 use Rattle.distortion.specs.Blocks.{distortion}
 use Rattle.search.specs.declared.SearchResult.{SearchResult}
 use Rattle.search.specs.SearchResult.{vectorIn, probes}
@@ -37,7 +38,8 @@ use Rattle.probe.specs.Probe.{isIn}
 use Rattle.pruned.specs.Answer.{pruning}
 use Rattle.block.specs.Block.{searchBlock}
 use Rattle.reading.specs.Reading.{majority, Most}
-use Rattle.field.specs.Field.{requestOf, listSize, fieldRefusal, FieldResult, field}
+use Rattle.field_rules.specs.Rules.{listSize, fieldRefusal}
+use Rattle.field.specs.Field.{FieldResult, field}
 use Rattle.track.specs.declared.Track.{Track}
 use Rattle.track.specs.declared.Homed.{Homed}
 use Rattle.track_rules.specs.Rules.{inRange}
@@ -145,7 +147,8 @@ lastTrack results = lastHanded trackIn trackNew results
 
 -- ---- 5. The promise
 
--- EachCall reckon P: P holds of each call, of the reckoning's values before it, the call, and what the run answered. Acceptance is the reckoning's, never the run's
+-- EachCall reckon P: P holds of each call, of the reckoning's values before it, the call, and what the run answered. Acceptance is the reckoning's, never the
+-- run's
 
 abbrev pub AtStep : (Pair → ℕ → List ℤ → StepResult → Type 0) → Track → Call → Result → Type 0
 AtStep Q t (home y x) r = Unit {0}

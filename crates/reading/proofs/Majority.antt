@@ -2,25 +2,23 @@
 -- and a vector outside it has no block.
 --   same-false                         what the test of two vectors says
 --   votes-none, votes-more, votes-few  how votes grow; votes-ext: blocks with the same vectors, the same votes
---   most-one, most-new, most-old       how the first greatest grows; most-below: it is one of them; most-ext: of equal scores
 --   majority-most                      the majority has most blocks, ties by preference order; most-unique: no other has
 use Prim.Native.Nat.{ℕ, zero, suc, _+_, _≤_, _<_}
 use mathlib.Core.Path.{_≡_, refl, sym, ap, _∙_, subst}
 use mathlib.Core.Logic.{_⊎_, inl, inr, ⊎-elim}
 use mathlib.Core.Bool.{Bool, true, false, cond}
-use native.Mathlib.Nat.{le-of-lt, le-of-eq, not-suc-le-zero, le-of-suc-le-suc, eq-or-lt-of-le}
+use native.Mathlib.Nat.{le-of-lt, le-of-eq, eq-or-lt-of-le}
 use native.Mathlib.Decide.{decLe}
-use native.Mathlib.Numerals.{add-one}
 use native.Mathlib.Omega.{arith, ne-cases}
-use borrow.Author.Tests.{lt-ltb, le-ltb, ltb-true, ltb-false}
-use lib.Dec.{ltb}
 use lib.IntN.{natAbs}
+use Rattle.base.specs.Tests.{one, one-le}
+use Rattle.base.specs.Greatest.{mostTo, most-ext, greatest}
 use Rattle.base.specs.Sum.{sumTo, sumTo-none, sumTo-more, sumTo-ext, sumTo-bound}
 use Rattle.order.specs.declared.Vector.{Vector}
 use Rattle.order.specs.Vectors.{Within, Precedes, same?, same-true, same-self}
 use Rattle.order.specs.Preference.{preferred}
 use Rattle.order.proofs.Order.{stands, in-order, precedes-trans, precedes-irrefl}
-use Rattle.reading.specs.Reading.{votes, mostTo, majority, Most}
+use Rattle.reading.specs.Reading.{votes, majority, Most}
 
 -- ---- the test that two vectors are one
 
@@ -31,13 +29,6 @@ same-false u v e q =
     omega arith
 
 -- ---- votes
-
-abbrev one : Bool → ℕ
-one t = cond t 1 0
-
-one-le : (t : Bool) → one t ≤ 1
-one-le true = omega arith
-one-le false = omega arith
 
 pub votes-none : (has : ℕ → Vector) (v : Vector) → votes has 0 v ≡ 0
 unfolding votes
@@ -71,69 +62,6 @@ votes-outside has u (suc n) h = omega (arith, votes-outside has u n (λ k l. h k
     none : (t : Bool) → same? (has n) u ≡ t → one t ≡ 0
     none true e = absurd (h n (omega arith) (same-true (has n) u e))
     none false e = refl
-
--- ---- the first greatest
-
-cond-same : (b : Bool) (a : ℕ) → cond b a a ≡ a
-cond-same true a = refl
-cond-same false a = refl
-
-pub most-one : (score : ℕ → ℕ) → mostTo score 1 ≡ 0
-unfolding mostTo
-most-one score = cond-same (ltb (score 0) (score 0)) 0
-
-most-more : (score : ℕ → ℕ) (n : ℕ) → mostTo score (n + 1) ≡ cond (ltb (score (mostTo score n)) (score n)) n (mostTo score n)
-unfolding mostTo
-most-more score n = rw add-one
-
--- a greater one replaces, and else the one before stays
-pub most-new : (score : ℕ → ℕ) (n : ℕ) → score (mostTo score n) < score n → n ≡ mostTo score (n + 1)
-most-new score n h = sym (most-more score n ∙ simp (lt-ltb (score (mostTo score n)) (score n) h))
-
-pub most-old : (score : ℕ → ℕ) (n : ℕ) → score n ≤ score (mostTo score n) → mostTo score n ≡ mostTo score (n + 1)
-most-old score n h = sym (most-more score n ∙ simp (le-ltb (score (mostTo score n)) (score n) h))
-
-cond-below : (b : Bool) (n m k : ℕ) → n < k → m < k → cond b n m < k
-cond-below true n m k h j = h
-cond-below false n m k h j = j
-
--- the greatest of the first n + 1 is one of them
-pub most-below : (score : ℕ → ℕ) (n : ℕ) → mostTo score (suc n) < suc n
-unfolding mostTo
-most-below score zero = subst (λ m. m < 1) (sym (most-one score)) (omega arith)
-most-below score (suc n) =
-    let h : mostTo score (suc n) < suc n = most-below score n in
-    cond-below (ltb (score (mostTo score (suc n))) (score (suc n))) (suc n) (mostTo score (suc n)) (suc (suc n)) (omega arith) (omega arith)
-
--- one turn: none passed has a greater score than m, and those before m have less
-turn : (score : ℕ → ℕ) (n m : ℕ) → m ≤ n → ((k : ℕ) → k < n → (score k ≤ score m) × (k < m → score k < score m))
-    → (b : Bool) → ltb (score m) (score n) ≡ b
-    → (k : ℕ) → k < suc n → (score k ≤ score (cond b n m)) × (k < cond b n m → score k < score (cond b n m))
-turn score n m h f true e k j =
-    let p : score m < score n = ltb-true (score m) (score n) e in
-    ⊎-elim (λ (q : k ≡ n). let r : score k ≡ score n = ap score q in omega arith)
-    (λ (q : k < n). let r = f k q .0 in omega arith)
-    (eq-or-lt-of-le (le-of-suc-le-suc j))
-turn score n m h f false e k j =
-    let p : score n ≤ score m = ltb-false (score m) (score n) e in
-    ⊎-elim (λ (q : k ≡ n). let r : score k ≡ score n = ap score q in (omega arith, λ l. omega (arith, h)))
-    (f k)
-    (eq-or-lt-of-le (le-of-suc-le-suc j))
-
-most-le : (score : ℕ → ℕ) (n : ℕ) → mostTo score n ≤ n
-unfolding mostTo
-most-le score zero = omega arith
-most-le score (suc n) = le-of-lt (most-below score n)
-
-pub most-ext : (f g : ℕ → ℕ) (n : ℕ) → ((k : ℕ) → k < n → f k ≡ g k) → mostTo f n ≡ mostTo g n
-unfolding mostTo
-most-ext f g zero e = refl
-most-ext f g (suc n) e = rw (most-ext f g n (λ k h. e k (omega arith)), e (mostTo g n) (omega (arith, most-le g n)), e n (omega arith))
-
-greatest : (score : ℕ → ℕ) (n k : ℕ) → k < n → (score k ≤ score (mostTo score n)) × (k < mostTo score n → score k < score (mostTo score n))
-unfolding mostTo
-greatest score zero k h = absurd (not-suc-le-zero h)
-greatest score (suc n) k h = turn score n (mostTo score n) (most-le score n) (greatest score n) (ltb (score (mostTo score n)) (score n)) refl k h
 
 -- ---- the majority
 

@@ -12,15 +12,16 @@ use native.Mathlib.Omega.{arith}
 use lib.IntN.{ℤ, natAbs}
 use lib.ListN.{length, getD, set, length-set, replicate, getD-replicate}
 use lib.Seq.{getD-set-same, getD-set-other}
+use Rattle.base.specs.Greatest.{mostTo, most-one, most-yes, most-no, most-below, most-ext}
 use Rattle.signed.specs.Int.{same, parts}
 use Rattle.signed.specs.Values.{bias, bias-is}
 use Rattle.order.specs.declared.Vector.{Vector}
 use Rattle.order.specs.Vectors.{vec, Within, same?, same-true}
 use Rattle.order.specs.Preference.{preferred}
 use Rattle.order.proofs.Order.{inside}
-use Rattle.reading.specs.Reading.{votes, mostTo, majority, readingOf}
+use Rattle.reading.specs.Reading.{votes, majority, readingOf}
 use Rattle.reading.specs.Tally.{code, votesAt, readingIn, Tally}
-use Rattle.reading.proofs.Majority.{same-false, votes-none, votes-more, votes-few, most-one, most-new, most-old, most-below, most-ext}
+use Rattle.reading.proofs.Majority.{same-false, votes-none, votes-more, votes-few}
 
 -- ---- places
 
@@ -94,12 +95,12 @@ module _ {l : List ℕ} {k : ℕ} {best : Vector} {most : ℕ} (s : Walked l k b
 
     pub walked-new : most < x → Walked l (k + 1) v x
     walked-new m =
-        let i = most-new (votesAt l) k (omega (arith, next-is, s .has)) in
+        let i = most-yes (votesAt l) k (omega (arith, next-is, s .has)) in
         record { below = omega arith; lead = rw (← i) e; has = rw (← i) next-is }
 
     pub walked-old : x ≤ most → Walked l (k + 1) best most
     walked-old m =
-        let i = most-old (votesAt l) k (omega (arith, next-is, s .has)) in
+        let i = most-no (votesAt l) k (omega (arith, next-is, s .has)) in
         record { below = omega arith; lead = rw (← i) (s .lead); has = rw (← i) (s .has) }
 
 pub walked-done : {l : List ℕ} {best : Vector} {most : ℕ} → Walked l 1089 best most → record { dy = best .dy; dx = best .dx; votes = most } ≡ readingIn l

@@ -1,16 +1,15 @@
 -- 01, "Field, reading, track": "The reading is the vector of most blocks (equals: preference order) with its votes."
 -- Here block k has the vector (has k), and there are n blocks.
 --   votes      how many blocks have the vector v
---   mostTo     of the numbers below n the one of the greatest score, the first where several are equal
 --   majority   the vector of most blocks, the first in preference order where several are equal
 --   Most       that v is the vector of most blocks, said without the table: majority-most of proofs/Majority.antt
 --   readingOf  the reading
-use Prim.Native.Nat.{ℕ, zero, suc, _<_}
+use Prim.Native.Nat.{ℕ, _<_}
 use mathlib.Core.Path.{_≡_}
 use mathlib.Core.Logic.{_⊎_}
 use mathlib.Core.Bool.{cond}
-use lib.Dec.{ltb}
 use Rattle.base.specs.Sum.{sumTo}
+use Rattle.base.specs.Greatest.{mostTo}
 use Rattle.order.specs.declared.Vector.{Vector}
 use Rattle.order.specs.Vectors.{Precedes, same?}
 use Rattle.order.specs.Preference.{preferred}
@@ -18,11 +17,6 @@ use Rattle.reading.specs.declared.Reading.{Reading}
 
 unfoldable pub votes : (ℕ → Vector) → ℕ → Vector → ℕ
 votes has n v = sumTo (λ k. cond (same? (has k) v) 1 0) n
-
--- a later one replaces only with a greater score
-unfoldable pub mostTo : (ℕ → ℕ) → ℕ → ℕ
-mostTo score zero = 0
-mostTo score (suc n) = cond (ltb (score (mostTo score n)) (score n)) n (mostTo score n)
 
 unfoldable pub majority : (ℕ → Vector) → ℕ → Vector
 majority has n = preferred (mostTo (λ k. votes has n (preferred k)) 1089)

@@ -7,12 +7,13 @@ use Prim.Native.Nat.{ℕ, _+_, _*_}
 use mathlib.Core.Path.{_≡_}
 use mathlib.Core.List.{List}
 use lib.ListN.{length, getD}
+use Rattle.base.specs.Greatest.{mostTo}
 use Rattle.signed.specs.Values.{bias}
 use Rattle.order.specs.declared.Vector.{Vector}
 use Rattle.order.specs.Vectors.{Within}
 use Rattle.order.specs.Preference.{preferred}
 use Rattle.reading.specs.declared.Reading.{Reading}
-use Rattle.reading.specs.Reading.{votes, mostTo}
+use Rattle.reading.specs.Reading.{votes}
 
 abbrev pub code : Vector → ℕ
 code v = bias 16 (v .dy) * 33 + bias 16 (v .dx)

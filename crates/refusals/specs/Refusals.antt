@@ -74,6 +74,10 @@ placedRefusal older newer s y x = firstRefusal (pairRefusal older newer s) (unle
 abbrev pub sizesOf : Request → Sizes
 sizesOf q = sizes (q .width) (q .height) (q .n)
 
+-- and a request at these sizes
+abbrev pub requestOf : Sizes → (search w t : ℕ) → Request
+requestOf s search w t = record { width = s .width; height = s .height; n = s .n; search = search; w = w; t = t }
+
 unfoldable pub requestRefusal : ℕ → ℕ → Request → ℕ
 requestRefusal older newer q =
     firstRefusal (pairRefusal older newer (sizesOf q))

@@ -22,11 +22,7 @@ pub struct Request {
 pub fn sizes_of(q: Request) -> Sizes
     ensures { λ r. ⌜ r ≡ sizesOf q ⌝ }
 {
-    Sizes {
-        width: q.width,
-        height: q.height,
-        n: q.n,
-    }
+    frame::sizes_by(q.width, q.height, q.n)
 }
 
 // ---- the rules

@@ -19,7 +19,8 @@ use Rattle.order.specs.Vectors.{vec, turned}
 use Rattle.refusals.specs.declared.Request.{Request}
 use Rattle.refusals.specs.Refusals.{firstRefusal}
 use Rattle.field.specs.declared.FieldAnswer.{FieldAnswer}
-use Rattle.field.specs.Field.{fieldRefusal, refusedField, FieldResult, field}
+use Rattle.field_rules.specs.Rules.{fieldRefusal}
+use Rattle.field.specs.Field.{refusedField, FieldResult, field}
 use Rattle.track_rules.specs.Rules.{homeRefusal, stateRefusal, arrivalRefusal}
 use Rattle.track.specs.declared.Track.{Track}
 use Rattle.track.specs.declared.Homed.{Homed}

@@ -86,7 +86,7 @@ impl Track {
     ) -> u32
         ensures { λ r. ⌜ r ≡ stepRefusal self older newer q list table ⌝ }
     {
-        let refusal = field::field_refusal(older, newer, q, list, table);
+        let refusal = field_rules::field_refusal(older, newer, q, list, table);
         if refusal != 0 {
             return refusal;
         }

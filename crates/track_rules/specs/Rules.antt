@@ -26,6 +26,9 @@ stateRefusal homed steps = unless homed 31 (unless (not (leb 1000000 steps)) 32 
 abbrev pub arrivalRefusal : ℤ → ℤ → ℕ
 arrivalRefusal y x = unless (inRange y && inRange x) 33 0
 
+abbrev pub refusedArrival : ℕ → Arrival
+refusedArrival refusal = record { refusal = refusal; y = pos 0; x = pos 0 }
+
 unfoldable pub arrive : (y x dy dx : ℤ) → Arrival
 arrive y x dy dx =
     let row = y +ℤ negℤ dy in

@@ -1,7 +1,7 @@
 // The rules of document 01's track in plain numbers: where it may be homed, when it may step, and where a travel leads.
 
 ghost use mathlib.Core.Path.{_≡_};
-ghost use Rattle.track_rules.specs.Rules.{homeRefusal, stateRefusal, arrive};
+ghost use Rattle.track_rules.specs.Rules.{homeRefusal, stateRefusal, refusedArrival, arrive};
 use signed::Moved;
 
 // The place after a travel, or 33 and zeros.
@@ -37,23 +37,25 @@ pub fn state_refusal(homed: bool, steps: u32) -> u32
     0
 }
 
+fn refused_arrival(refusal: u32) -> Arrival
+    ensures { λ r. ⌜ r ≡ refusedArrival refusal ⌝ }
+{
+    Arrival {
+        refusal,
+        y: 0,
+        x: 0,
+    }
+}
+
 // The reverse of the reading (dy, dx) added to the place (y, x).
 pub fn arrive(y: i32, x: i32, dy: i32, dx: i32) -> Arrival
     ensures { λ r. ⌜ r ≡ arrive y x dy dx ⌝ }
 {
     let Moved::To(row) = signed::minus_travel(y, dy) else {
-        return Arrival {
-            refusal: 33,
-            y: 0,
-            x: 0,
-        }; // y would leave its range
+        return refused_arrival(33); // y would leave its range
     };
     let Moved::To(column) = signed::minus_travel(x, dx) else {
-        return Arrival {
-            refusal: 33,
-            y: 0,
-            x: 0,
-        }; // x would leave its range
+        return refused_arrival(33); // x would leave its range
     };
     Arrival {
         refusal: 0,

@@ -17,7 +17,7 @@ use Rattle.frame.specs.Candidates.{candidate}
 use Rattle.refusals.specs.Refusals.{firstRefusal, blockSizeOk, windowOk, thresholdOk, pairRefusal, requestRefusal}
 use Rattle.distortion.specs.Blocks.{distortion, distortionBy}
 use Rattle.probe.specs.Probe.{origin}
-use Rattle.field.specs.Field.{fieldRefusal}
+use Rattle.field_rules.specs.Rules.{fieldRefusal}
 use Rattle.track.specs.declared.Track.{Track}
 use Rattle.track.specs.Track.{trackNew}
 use Rattle.promise.specs.Demand.{Call, travel, refusalOf, accept, reckon, reckoned, Result, trackIn, lastTrack}

@@ -20,7 +20,7 @@ use Rattle.refusals.specs.declared.Request.{Request}
 use Rattle.frame.specs.Pictures.{Pair, pairOf}
 use Rattle.frame.specs.Grid.{blocks, blockRow, blockColumn}
 use Rattle.frame.specs.Candidates.{candidate}
-use Rattle.refusals.specs.Refusals.{sizesOf}
+use Rattle.refusals.specs.Refusals.{sizesOf, requestOf}
 use Rattle.distortion.specs.Blocks.{absolute}
 use Rattle.search.specs.declared.SearchResult.{SearchResult}
 use Rattle.search.specs.Target.{target}
@@ -35,7 +35,9 @@ use Rattle.pruned_steps.specs.Memory.{stillDistortion}
 use Rattle.pruned.specs.Answer.{placeDistortion, placeDistance, pruning, prunedPlace, prunedSearch}
 use Rattle.block.specs.Block.{searchRefusal, searchBy, searchBlock}
 use Rattle.reading.specs.Reading.{votes, majority}
-use Rattle.field.specs.Field.{requestOf, fieldRefusal, searchAt, entries, countsOver, droppedOver, listSize, filledTable, fieldAnswer, refusedField, FieldResult, fieldResult, field}
+use Rattle.field_rules.specs.Rules.{fieldRefusal, listSize}
+use Rattle.field_block.specs.Blocks.{searchAt}
+use Rattle.field.specs.Field.{entries, countsOver, droppedOver, filledTable, fieldAnswer, refusedField, FieldResult, fieldResult, field}
 use Rattle.track.specs.declared.Track.{Track}
 use Rattle.track.specs.Track.{trackNew, trackHome, stepRefusalIs, unmoved, stepResult, landed, StepResult, trackStep}
 use Rattle.promise.specs.Demand.{Call, travel, Result, trackIn, call, run}

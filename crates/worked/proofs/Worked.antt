@@ -24,7 +24,8 @@ use Rattle.pruned_rule.specs.Prune.{allRemaining, lower, sift, rounds, prune, p
 use Rattle.pruned_sums.specs.Area.{summed}
 use Rattle.block.specs.Block.{searchRefusal}
 use Rattle.reading.specs.Reading.{votes}
-use Rattle.field.specs.Field.{fieldRefusal, entries, tableOf}
+use Rattle.field_rules.specs.Rules.{fieldRefusal}
+use Rattle.field.specs.Field.{entries, tableOf}
 use Rattle.track.specs.Track.{trackHome, stepRefusal, arrived}
 use Rattle.log_head.specs.Heads.{headRefusal, entryOk, isStill}
 use Rattle.log_command.specs.Numbers.{be2, be4}

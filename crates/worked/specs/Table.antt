@@ -30,7 +30,8 @@ use Rattle.probe.specs.Probe.{origin}
 use Rattle.pruned_rule.specs.Distance.{distanceBy}
 use Rattle.block.specs.Block.{searchBlock}
 use Rattle.field.specs.declared.FieldAnswer.{FieldAnswer}
-use Rattle.field.specs.Field.{requestOf, refusedField, FieldResult, fieldResult, field}
+use Rattle.refusals.specs.Refusals.{requestOf}
+use Rattle.field.specs.Field.{refusedField, FieldResult, fieldResult, field}
 use Rattle.track.specs.declared.Track.{Track}
 use Rattle.track.specs.Track.{homedAt, stepResult}
 use Rattle.log_head.specs.declared.Head.{Head}

@@ -1,6 +1,6 @@
 -- `field`: a refusal leaves everything as it was lent; past it the field is filled.
 use mathlib.Core.Path.{sym, _∙_}
-use Rattle.field.proofs.Room.{roomy}
+use Rattle.field_rules.specs.Rules.{has-room}
 use Rattle.field.specs.Field.{field-refused, field-accepted}
 use borrow.Author.Needs.{needs}
 use Rattle.field.proofs.field.Statement.{statement}
@@ -18,7 +18,7 @@ returns c =
     rw (c .refused-field .ensures, r) (sym (field-refused _ _ _ _ _ (λ e. c .before .if1 .taken (r ∙ e))))
 
 fill-requires : tie.Need-fill-requires
-fill-requires c κs = let e = c .before .before in roomy _ _ _ _ _ (sym (e .before .field-refusal .ensures) ∙ e .if1 .left)
+fill-requires c κs = let e = c .before .before in has-room _ _ _ _ _ (sym (e .before .field-refusal .ensures) ∙ e .if1 .left)
 
 same-length : tie.Need-same-length
 same-length c = search needs

@@ -22,8 +22,10 @@ fill-table-requires c κs =
 
 fill-list-requires : tie.Need-fill-list-requires
 fill-list-requires c κs =
-    let t = c .before .before .before .before .before .before in
-    let s = t .before .before .before .before .before .before in
+    let v = c .before in
+    let t = v .before .before .before .before .before in
+    let o = t .before in
+    let s = o .before .before .before .before .before in
     (((prepared _ _ _ _ _ (s .pre) _ (t .fill-table .ensures), t .before .before .table .ensures), (s .pre .list-room, refl)))
 
 reading-of-requires : tie.Need-reading-of-requires
@@ -37,17 +39,20 @@ same-length-2 c = search needs
 
 returns : tie.Need-returns
 returns c =
-    let f = c .before .before .before .before .before .before in
+    let g = c .before .before in
+    let f = g .before .before .before .before in
     let l = f .fill-list .ensures in
-    let t = f .before .before .before .before .before .before .before in
-    let a = t .before .before .before .before .before .before .args in
-    let r = c .before .before .reading-of .ensures ∙ tally-reading _ _ _ (l .tally) in
+    let v = f .before .before in
+    let t = v .before .before .before .before .before in
+    let o = t .before in
+    let a = o .before .before .before .before .before .args in
+    let r = g .reading-of .ensures ∙ tally-reading _ _ _ (l .tally) in
     rw (
       toZ-ofZ (sfits-of (c .struct-told .given .0 .1)),
       toZ-ofZ (sfits-of (c .struct-told .given .1 .0 .1)),
       l .list,
       t .fill-table .ensures,
-      answer-is (pairOf (now (a .older)) (now (a .newer)) (sizesOf (a .q))) (a .q) (f .fill-list .result) (c .before .before .reading-of .result) (l .sums) r,
+      answer-is (pairOf (now (a .older)) (now (a .newer)) (sizesOf (a .q))) (a .q) (f .fill-list .result) (g .reading-of .result) (l .sums) r,
     )
 
 pub fill-spec : {M : Type 1} → statement M

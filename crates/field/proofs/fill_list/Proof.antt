@@ -12,7 +12,7 @@ use Rattle.frame.specs.Grid.{blocks, blocks-few}
 use Rattle.frame.specs.Pictures.{pairOf, Fitting}
 use Rattle.refusals.specs.Refusals.{sizesOf, requested}
 use Rattle.reading.proofs.Tally.{tally-room}
-use Rattle.field.specs.Field.{searchAt}
+use Rattle.field_block.specs.Blocks.{searchAt}
 use Rattle.field.specs.Filling.{BlocksFilled}
 use Rattle.field.proofs.Turns.{filled-none, filled-few, filled-more}
 use Rattle.field.proofs.fill_list.Statement.{statement}
@@ -24,6 +24,16 @@ Inv-loop older newer order q table list₀ votes₀ n total₀ k₀ list votes t
 
 abbrev μ-loop : tie.MeasureT-loop
 μ-loop older newer order q table list₀ votes₀ n total₀ k₀ list votes total k = n - k
+
+-- the points that the facts below come from
+abbrev start : tie.At-loop Inv-loop μ-loop → tie.Start Inv-loop μ-loop
+start l = let z = l .before .before in z .before .before .before .before
+
+abbrev put : tie.After-vote Inv-loop μ-loop → tie.After-put-entry Inv-loop μ-loop
+put c = c .before .before .before .before
+
+abbrev found : tie.After-put-entry Inv-loop μ-loop → tie.After-search-at Inv-loop μ-loop
+found c = c .before .before .before .before
 
 fitting : (s : tie.Start Inv-loop μ-loop) → Fitting (sizesOf (s .args .q))
 fitting s = requested _ _ _ (s .pre .0 .0 .fine) .paired .fitting
@@ -40,24 +50,23 @@ loop-holds c =
     (omega arith, c .block-count .ensures ∙ ap blocks (c .before .sizes-of .ensures), filled-none _ _ _ (s .pre .1 .1))
 
 search-at-requires : tie.Need-search-at-requires Inv-loop μ-loop
-search-at-requires c κs =
-    let s = c .before .before .before .before .before .before .before in
-    (s .pre .0 .0, s .pre .0 .1, omega (arith, c .before .loop .inv .1))
+search-at-requires c κs = let s = start (c .before) in (s .pre .0 .0, s .pre .0 .1, omega (arith, c .before .loop .inv .1))
 
 -- a turn stores inside the list, and there are not too many
-room : (c : tie.After-search-at Inv-loop μ-loop) →
-    let s = c .before .before .before .before .before .before .before .before in
-    let k = c .before .before .loop .k in
-    (3 * k + 3 ≤ length (s .args .list .now)) × (k < 1048576)
+room : (c : tie.After-search-at Inv-loop μ-loop) → let k = c .before .before .loop .k in
+    (3 * k + 3 ≤ length (start (c .before .before) .args .list .now)) × (k < 1048576)
 room c =
-    let s = c .before .before .before .before .before .before .before .before in
+    let s = start (c .before .before) in
     let i = c .before .before .loop .inv in
     (omega (arith, i .1, s .pre .1 .0), omega (arith, i .1, blocks-few _ (fitting s)))
+
+mul-put-entry : tie.Need-mul-put-entry Inv-loop μ-loop
+mul-put-entry c = omega (arith, room (c .before))
 
 put-entry-requires : tie.Need-put-entry-requires Inv-loop μ-loop
 put-entry-requires c κs =
     let d = c .before .before .before in
-    (omega (arith, room d, d .before .before .loop .inv .2 .long), d .search-at .ensures .1 .distortion)
+    (omega (arith, room d, d .before .before .loop .inv .2 .long), omega (arith, d .search-at .ensures .1 .distortion))
 
 -- a part of a vector of window 16 is a number of 32 bits
 part-fits : (z : ℤ) → natAbs z ≤ 16 → SFits w32 z
@@ -69,7 +78,7 @@ through z h = toZ-ofZ (part-fits z h)
 
 vote-requires : tie.Need-vote-requires Inv-loop μ-loop
 vote-requires c κs =
-    let d = c .before .before .before .before .before .before .before in
+    let d = found (c .before .before .before) in
     let i = d .before .before .loop .inv .2 in
     let w = d .search-at .ensures .1 .within in
     rw (through (d .search-at .result .dy) (w .down), through (d .search-at .result .dx) (w .across))
@@ -77,7 +86,7 @@ vote-requires c κs =
 
 join-requires : tie.Need-join-requires Inv-loop μ-loop
 join-requires c κs =
-    let d = c .before .before .before .before .before .before .before .before in
+    let d = found (put c) in
     (filled-few _ _ _ _ _ _ (d .before .before .loop .inv .2) (omega (arith, room d)), d .search-at .ensures .1)
 
 add-k : tie.Need-add-k Inv-loop μ-loop
@@ -88,14 +97,15 @@ loop-less c = search needs
 
 loop-again : tie.Need-loop-again Inv-loop μ-loop
 loop-again c =
-    let d = c .before .before .before .before .before .before .before .before .before in
+    let e = c .before .before .before .before .before in
+    let d = e .before .before .before .before in
     let l = d .before .before .loop .inv in
     let w = d .search-at .ensures .1 .within in (
       omega arith,
       l .1,
       rw (
         c .join .ensures,
-        c .before .before .before .before .before .put-entry .ensures,
+        e .put-entry .ensures .holds,
         c .before .vote .ensures,
         through (d .search-at .result .dy) (w .down),
         through (d .search-at .result .dx) (w .across),
@@ -109,8 +119,7 @@ same-length c = c .before .loop .inv .2 .long
 returns : tie.Need-returns Inv-loop μ-loop
 returns c =
     let l = c .before .loop in
-    let s = c .before .before .before .before .before .before .before in
-    let e : l .k ≡ blocks (sizesOf (s .args .q)) = omega (arith, l .inv .1) in
+    let e : l .k ≡ blocks (sizesOf (start (c .before) .args .q)) = omega (arith, l .inv .1) in
     rw e at (l .inv .2)
 
 pub fill-list-spec : {M : Type 1} → statement M
@@ -123,6 +132,7 @@ fill-list-spec =
     block-count-requires
     loop-holds
     search-at-requires
+    mul-put-entry
     put-entry-requires
     vote-requires
     join-requires

@@ -55,9 +55,14 @@ enum-known-row c = search needs
 enum-told : tie.Need-enum-told
 enum-told c = search needs
 
+refused-arrival-requires : tie.Need-refused-arrival-requires
+refused-arrival-requires c κs = search needs
+
 returns : tie.Need-returns
 unfolding arrive
-returns c = rw (out _ _ (sym (row (c .before .before)) ∙ c .enum-told .given .1))
+returns c =
+    let b = c .before in
+    rw (out _ _ (sym (row (b .before .before)) ∙ b .enum-told .given .1)) (c .refused-arrival .ensures)
 
 minus-travel-requires-2 : tie.Need-minus-travel-requires-2
 minus-travel-requires-2 c κs = search needs
@@ -68,11 +73,14 @@ enum-known-column c = search needs
 enum-told-2 : tie.Need-enum-told-2
 enum-told-2 c = search needs
 
+refused-arrival-requires-2 : tie.Need-refused-arrival-requires-2
+refused-arrival-requires-2 c κs = search needs
+
 returns-2 : tie.Need-returns-2
 unfolding arrive
 returns-2 c =
-    let b = c .before .before in
-    rw (row-to (b .before .before) .0, out _ _ (sym (column b) ∙ c .enum-told2 .given .1))
+    let b = c .before .before .before in
+    rw (row-to (b .before .before) .0, out _ _ (sym (column b) ∙ c .before .enum-told2 .given .1)) (c .refused-arrival2 .ensures)
 
 returns-3 : tie.Need-returns-3
 unfolding arrive
@@ -96,9 +104,11 @@ arrive-spec =
     minus-travel-requires
     enum-known-row
     enum-told
+    refused-arrival-requires
     returns
     minus-travel-requires-2
     enum-known-column
     enum-told-2
+    refused-arrival-requires-2
     returns-2
     returns-3)

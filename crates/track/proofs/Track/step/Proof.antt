@@ -12,7 +12,8 @@ use Rattle.base.specs.Tests.{T-true}
 use Rattle.refusals.specs.declared.Request.{Request}
 use Rattle.refusals.specs.Refusals.{unless-zero, first-refusal-zero}
 use Rattle.field.specs.declared.FieldAnswer.{FieldAnswer}
-use Rattle.field.specs.Field.{fieldRefusal, fieldResult, field}
+use Rattle.field_rules.specs.Rules.{fieldRefusal}
+use Rattle.field.specs.Field.{fieldResult, field}
 use Rattle.track.specs.declared.Track.{Track}
 use Rattle.track.specs.declared.Stepped.{Stepped}
 use Rattle.track.specs.Track.{stepRefusal, stepRefusalIs, unmoved, stepResult, arrived, landed, trackStep, step-refused, step-landed}
@@ -63,7 +64,7 @@ field-requires : tie.Need-field-requires
 field-requires c κs = search needs
 
 arrive-requires : tie.Need-arrive-requires
-arrive-requires c κs = few-steps _ _ _ _ _ _ (zero-is (c .before .before .before .before .before .before))
+arrive-requires c κs = let f = c .before .before .before in few-steps _ _ _ _ _ _ (zero-is (f .before .before .before))
 
 same-length : tie.Need-same-length
 same-length c = search needs

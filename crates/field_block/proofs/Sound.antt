@@ -33,8 +33,7 @@ use Rattle.pruned.proofs.Blocks.{block-size-power}
 use Rattle.pruned.proofs.Laws.{pruned-distortion, pruned-best, counts-at-most, dropped-at-most}
 use Rattle.frame.specs.Grid.{blocks, blockRow, blockColumn, block-down, block-across}
 use Rattle.block.specs.Block.{searchBy, searched-full, searched-pruned, searched-four-step, searched-cross}
-use Rattle.field.specs.Field.{searchAt}
-use Rattle.field.specs.Filling.{Sound}
+use Rattle.field_block.specs.Blocks.{searchAt, Sound}
 
 -- pels are bytes
 abbrev pub Bytes : List ℕ → Type 0
@@ -51,16 +50,7 @@ at-one n (suc (suc (suc (suc (suc i))))) h = omega arith
 
 -- an answer that counts at m = 1 alone
 sound-at-one : (v : Vector) (d n : ℕ) → Within 16 v → d ≤ largestDistortion → n ≤ 1089 → Sound (searchResult v d (onlyAtOne n) 0)
-sound-at-one v d n near few h = record {
-  within = near;
-  distortion = few;
-  count0 = at-one n 0 h;
-  count1 = at-one n 1 h;
-  count2 = at-one n 2 h;
-  count3 = at-one n 3 h;
-  count4 = at-one n 4 h;
-  dropped = omega arith;
-}
+sound-at-one v d n near few h = record { within = near; distortion = few; count = λ i. at-one n i h; dropped = omega arith }
 
 places-few : (p : Pair) (w y x : ℕ) → length (places (p .sizes) w y x) ≤ 1089
 places-few p w y x = pick-few _ 1089
@@ -84,15 +74,10 @@ module _ (p : Pair) (bytes : Bytes (p .older) × Bytes (p .newer)) (allowed : T 
     pruned-sound : Sound (prunedSearch p w y x)
     pruned-sound =
         let few = places-few p w y x in
-        let c : (j : ℕ) → getD (prunedSearch p w y x .counts) j 0 ≤ 1089 = λ j. le-trans (counts-at-most p w y x j) few in
         record {
           within = near _ (pruned-best p w y x (block-size-power (p .sizes .n) allowed) small down across .candidate);
           distortion = rw (pruned-distortion p w y x) (distortion-few y x _);
-          count0 = c 0;
-          count1 = c 1;
-          count2 = c 2;
-          count3 = c 3;
-          count4 = c 4;
+          count = λ i. le-trans (counts-at-most p w y x i) few;
           dropped = le-trans (dropped-at-most p w y x) few;
         }
 
@@ -100,49 +85,51 @@ module _ (p : Pair) (bytes : Bytes (p .older) × Bytes (p .newer)) (allowed : T 
     probed-sound : (s : Seen) → OwnDistortion (target p w y x) s → s .count ≤ 1089 → Sound (resultOf s)
     unfolding resultOf
     probed-sound s h few =
-        sound-at-one (s .best) (s .least) (s .count) (near _ (candidate-yes (p .sizes) w y x (s .best) (h .chosen))) (rw (h .reported) (distortion-few y x (s .best))) few
+        let inside = near _ (candidate-yes (p .sizes) w y x (s .best) (h .chosen)) in
+        sound-at-one (s .best) (s .least) (s .count) inside (rw (h .reported) (distortion-few y x (s .best))) few
 
 -- whichever search a request asks for
-module _ (older newer : List ℕ) (q : Request) (bytes : Bytes older × Bytes newer) (requestOf : Requested (length older) (length newer) q) (y x : ℕ)
+module _ (older newer : List ℕ) (q : Request) (bytes : Bytes older × Bytes newer) (request : Requested (length older) (length newer) q) (y x : ℕ)
     (down : y + q .n ≤ q .height) (across : x + q .n ≤ q .width) where
   abbrev p : Pair
   p = pairOf older newer (sizesOf q)
 
   small : q .w ≤ 16
-  small = window-small (q .search) (q .w) (requestOf .window)
+  small = window-small (q .search) (q .w) (request .window)
 
   four-step-sound : q .search ≡ 3 → Sound (searchBy p q y x)
   unfolding windowOk
   four-step-sound e =
-      let seven : q .w ≡ 7 = eqb→eq (q .w) 7 (rw e at (requestOf .window)) in
+      let seven : q .w ≡ 7 = eqb→eq (q .w) 7 (rw e at (request .window)) in
       rw (searched-four-step p q y x e, seven)
-      (probed-sound p bytes (requestOf .paired .allowed) 7 y x (omega arith) down across _ (four-step-own-distortion-at p y x down across) (le-trans (four-step-count _) (omega arith)))
+      (probed-sound p bytes (request .paired .allowed) 7 y x (omega arith) down across _ (four-step-own-distortion-at p y x down across)
+      (le-trans (four-step-count _) (omega arith)))
 
   cross-sound : q .search ≡ 4 → Sound (searchBy p q y x)
   unfolding windowOk
   cross-sound e =
-      let c : T (crossWindow (q .w)) = rw e at (requestOf .window) in
+      let c : T (crossWindow (q .w)) = rw e at (request .window) in
       let few = cross-count (target p (q .w) y x) (q .t) (q .w) (T-true _ c) in
       rw (searched-cross p q y x e)
-      (probed-sound p bytes (requestOf .paired .allowed) (q .w) y x small down across _ (cross-own-distortion-at p (q .t) (q .w) y x down across)
+      (probed-sound p bytes (request .paired .allowed) (q .w) y x small down across _ (cross-own-distortion-at p (q .t) (q .w) y x down across)
       (omega (arith, few, cross-is (q .w) c .few)))
 
   pub searched-sound : Sound (searchBy p q y x)
-  searched-sound = go (q .search) refl (requestOf .least) (requestOf .most)
+  searched-sound = go (q .search) refl (request .least) (request .most)
     where
       go : (n : ℕ) → q .search ≡ n → 1 ≤ n → n ≤ 4 → Sound (searchBy p q y x)
       go zero e a b = absurd (omega arith)
-      go (suc zero) e a b = rw (searched-full p q y x e) (full-sound p bytes (requestOf .paired .allowed) (q .w) y x small down across)
-      go (suc (suc zero)) e a b = rw (searched-pruned p q y x e) (pruned-sound p bytes (requestOf .paired .allowed) (q .w) y x small down across)
+      go (suc zero) e a b = rw (searched-full p q y x e) (full-sound p bytes (request .paired .allowed) (q .w) y x small down across)
+      go (suc (suc zero)) e a b = rw (searched-pruned p q y x e) (pruned-sound p bytes (request .paired .allowed) (q .w) y x small down across)
       go (suc (suc (suc zero))) e a b = four-step-sound e
       go (suc (suc (suc (suc zero)))) e a b = cross-sound e
       go (suc (suc (suc (suc (suc n))))) e a b = absurd (omega arith)
 
 -- what a search answers at grid block k
-pub block-is : (older newer : List ℕ) (q : Request) (bytes : Bytes older × Bytes newer) (requestOf : Requested (length older) (length newer) q) (k : ℕ) → k < blocks (sizesOf q)
-    → (r : SearchResult) → r ≡ searchBy (pairOf older newer (sizesOf q)) q (blockRow (sizesOf q) k) (blockColumn (sizesOf q) k)
+pub block-is : (older newer : List ℕ) (q : Request) (bytes : Bytes older × Bytes newer) (request : Requested (length older) (length newer) q)
+    (k : ℕ) → k < blocks (sizesOf q) → (r : SearchResult) → r ≡ searchBy (pairOf older newer (sizesOf q)) q (blockRow (sizesOf q) k) (blockColumn (sizesOf q) k)
     → (r ≡ searchAt (pairOf older newer (sizesOf q)) q k) × Sound r
 unfolding searchAt
-block-is older newer q bytes requestOf k h r e =
-    let f = requestOf .paired .fitting in
-    (e, rw e (searched-sound older newer q bytes requestOf _ _ (block-down (sizesOf q) f k h) (block-across (sizesOf q) f k h)))
+block-is older newer q bytes request k h r e =
+    let f = request .paired .fitting in
+    (e, rw e (searched-sound older newer q bytes request _ _ (block-down (sizesOf q) f k h) (block-across (sizesOf q) f k h)))

@@ -1,4 +1,4 @@
--- `field_refusal`: the request's refusal, then the table's and the list's length. An acceptedField request has sides of at most 1,024, so no product wraps.
+-- `field_refusal`: the request's refusal, then the table's and the list's length. An accepted request has sides of at most 1,024, so no product wraps.
 use Prim.Native.Nat.{ℕ, _+_, _*_, _≤_}
 use borrow.Author.Tests.{ne-eqb, eq-eqb, lt-leb, le-leb}
 use lib.Dec.{eqb}
@@ -7,14 +7,14 @@ use mathlib.Core.Logic.{⊎-elim}
 use mathlib.Core.Path.{_≡_, sym, ap, _∙_}
 use native.Mathlib.Nat.{mul-le-mul}
 use native.Mathlib.Omega.{arith}
-use Rattle.field.specs.Field.{fieldRefusal, tableOk}
+use Rattle.field_rules.specs.Rules.{fieldRefusal, tableOk}
 use Rattle.base.specs.Tests.{or-true}
 use Rattle.frame.specs.Grid.{blocks, blocks-few}
 use Rattle.frame.specs.Pictures.{Fitting}
 use Rattle.refusals.specs.Refusals.{first-refusal-none, first-refusal-some, sizesOf, requestRefusal, requested}
 use borrow.Author.Needs.{needs}
-use Rattle.field.proofs.field_refusal.Statement.{statement}
-use Rattle.field.proofs.field_refusal.Tie as tie
+use Rattle.field_rules.proofs.field_refusal.Statement.{statement}
+use Rattle.field_rules.proofs.field_refusal.Tie as tie
 
 request-refusal-requires : tie.Need-request-refusal-requires
 request-refusal-requires c κs = search needs
@@ -57,7 +57,10 @@ sizes-of-requires c κs = search needs
 block-count-requires : tie.Need-block-count-requires
 block-count-requires c κs = rw (c .sizes-of .ensures) (fine (c .before .before .before))
 
-count-is : (c : tie.After-block-count) → c .block-count .result ≡ blocks (sizesOf (c .before .before .before .before .before .before .args .q))
+abbrev start : tie.After-block-count → tie.Start
+start c = let j = c .before .before in j .before .before .before .before
+
+count-is : (c : tie.After-block-count) → c .block-count .result ≡ blocks (sizesOf (start c .args .q))
 count-is c = c .block-count .ensures ∙ ap blocks (c .before .sizes-of .ensures)
 
 mul-if4 : tie.Need-mul-if4

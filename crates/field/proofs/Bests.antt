@@ -1,0 +1,69 @@
+-- A field by a search that answers with the exhaustive best, as searches 1 and 2 do: each block is listed by its exhaustive best with that vector's distortion,
+-- and the reading is the vector that most blocks have as exhaustive best.
+--   Exact                        at each place where a block may stand, the search answers so: full-exact, pruned-exact
+--   exact-at                     at grid block k
+--   exact-entries, exact-reading the list and the reading
+use Prim.Native.Nat.{ℕ, _+_, _≤_, _<_}
+use mathlib.Core.Path.{_≡_, refl, ap, ap₂, _∙_}
+use mathlib.Core.List.{List, [], _∷_}
+use lib.Dec.{T}
+use lib.IntN.{ℤ, pos}
+use Rattle.base.specs.Lists.{concatTo, concatTo-ext}
+use Rattle.order.specs.declared.Vector.{Vector}
+use Rattle.frame.specs.Pictures.{Pair, Fitting}
+use Rattle.frame.specs.Grid.{blocks, blockRow, blockColumn, block-down, block-across}
+use Rattle.refusals.specs.declared.Request.{Request}
+use Rattle.refusals.specs.Refusals.{blockSizeOk}
+use Rattle.distortion.specs.Blocks.{distortion}
+use Rattle.search.specs.SearchResult.{vectorIn}
+use Rattle.search.specs.Exhaustive.{best}
+use Rattle.full.specs.Full.{fullSearch}
+use Rattle.pruned.specs.Answer.{prunedSearch}
+use Rattle.pruned.proofs.Blocks.{block-size-power}
+use Rattle.pruned.proofs.Laws.{pruned-distortion, pruned-is-best}
+use Rattle.block.specs.Block.{searchBy, searched-full, searched-pruned}
+use Rattle.reading.specs.Reading.{majority}
+use Rattle.reading.proofs.Majority.{majority-ext}
+use Rattle.field_block.specs.Blocks.{searchAt, vectorOf}
+use Rattle.field.specs.Field.{entries}
+
+pub record Exact (p : Pair) (q : Request) : Type 0 where
+  pub at : (y x : ℕ) → y + p .sizes .n ≤ p .sizes .height → x + p .sizes .n ≤ p .sizes .width
+      → (vectorIn (searchBy p q y x) ≡ best p (q .w) y x) × (searchBy p q y x .distortion ≡ distortion p y x (best p (q .w) y x))
+
+module _ (p : Pair) (w y x : ℕ) (allowed : T (blockSizeOk (p .sizes .n))) (small : w ≤ 16)
+    (down : y + p .sizes .n ≤ p .sizes .height) (across : x + p .sizes .n ≤ p .sizes .width)
+  where
+    pruned-vector : vectorIn (prunedSearch p w y x) ≡ best p w y x
+    pruned-vector = pruned-is-best p w y x (block-size-power (p .sizes .n) allowed) small down across
+
+    pub pruned-exact-at : (vectorIn (prunedSearch p w y x) ≡ best p w y x) × (prunedSearch p w y x .distortion ≡ distortion p y x (best p w y x))
+    pruned-exact-at = (pruned-vector, pruned-distortion p w y x ∙ ap (distortion p y x) pruned-vector)
+
+pub full-exact : (p : Pair) (q : Request) → q .search ≡ 1 → Exact p q
+unfolding fullSearch
+full-exact p q e = record { at = λ y x down across. rw (searched-full p q y x e) (refl, refl) }
+
+pub pruned-exact : (p : Pair) (q : Request) → T (blockSizeOk (p .sizes .n)) → q .w ≤ 16 → q .search ≡ 2 → Exact p q
+pruned-exact p q allowed small e =
+    record { at = λ y x down across. rw (searched-pruned p q y x e) (pruned-exact-at p (q .w) y x allowed small down across) }
+
+module _ (p : Pair) (q : Request) (fits : Fitting (p .sizes)) (exact : Exact p q) where
+  abbrev bestAt : ℕ → Vector
+  bestAt k = best p (q .w) (blockRow (p .sizes) k) (blockColumn (p .sizes) k)
+
+  abbrev leastAt : ℕ → ℕ
+  leastAt k = distortion p (blockRow (p .sizes) k) (blockColumn (p .sizes) k) (bestAt k)
+
+  pub exact-at : (k : ℕ) → k < blocks (p .sizes) → (vectorOf p q k ≡ bestAt k) × (searchAt p q k .distortion ≡ leastAt k)
+  unfolding searchAt
+  exact-at k h = exact .at (blockRow (p .sizes) k) (blockColumn (p .sizes) k) (block-down (p .sizes) fits k h) (block-across (p .sizes) fits k h)
+
+  pub exact-reading : majority (vectorOf p q) (blocks (p .sizes)) ≡ majority bestAt (blocks (p .sizes))
+  exact-reading = majority-ext _ _ (blocks (p .sizes)) (λ k h. exact-at k h .0)
+
+  pub exact-entries : entries (searchAt p q) (blocks (p .sizes)) ≡ concatTo (λ k. bestAt k .dy ∷ bestAt k .dx ∷ pos (leastAt k) ∷ []) (blocks (p .sizes))
+  unfolding entries
+  exact-entries =
+      concatTo-ext _ _ (blocks (p .sizes))
+      (λ k h. ap₂ (λ (v : Vector) (d : ℕ). v .dy ∷ v .dx ∷ pos d ∷ []) (exact-at k h .0) (exact-at k h .1))

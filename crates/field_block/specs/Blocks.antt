@@ -1,0 +1,52 @@
+-- A field's grid blocks, one by one.
+--   searchAt    what the search asked for answers at grid block k; vectorOf: its vector
+--   Prepared    what a block's search asks: frames, request, and for search 2 the table of sums
+--   Sound       what holds of each block's result, whatever the search: a vector of window 16, and numbers that are small
+--   joined      the sums with one block more; Bounded: small enough for that
+use Prim.Native.Nat.{ℕ, _+_, _≤_}
+use mathlib.Core.Path.{_≡_}
+use mathlib.Core.List.{List, [], _∷_}
+use lib.ListN.{length, getD}
+use Rattle.order.specs.declared.Vector.{Vector}
+use Rattle.order.specs.Vectors.{Within}
+use Rattle.frame.specs.Pictures.{Pair, largestDistortion}
+use Rattle.frame.specs.Grid.{blockRow, blockColumn}
+use Rattle.refusals.specs.declared.Request.{Request}
+use Rattle.refusals.specs.Refusals.{requestRefusal}
+use Rattle.distortion.specs.Blocks.{blockAt}
+use Rattle.search.specs.declared.SearchResult.{SearchResult}
+use Rattle.search.specs.SearchResult.{vectorIn}
+use Rattle.pruned_sums.specs.Area.{SumsOf}
+use Rattle.block.specs.Block.{searchBy}
+use Rattle.field_block.specs.declared.Total.{Total}
+
+module _ (p : Pair) (q : Request) where
+  unfoldable pub searchAt : ℕ → SearchResult
+  searchAt k = searchBy p q (blockRow (p .sizes) k) (blockColumn (p .sizes) k)
+
+  abbrev pub vectorOf : ℕ → Vector
+  vectorOf k = vectorIn (searchAt k)
+
+pub record Prepared (older newer : List ℕ) (q : Request) (table : List ℕ) : Type 0 where
+  pub fine : requestRefusal (length older) (length newer) q ≡ 0
+  pub sums : q .search ≡ 2 → SumsOf (blockAt older (q .width) 0 0) (q .height) (q .width) table
+
+pub record Sound (f : SearchResult) : Type 0 where
+  pub within : Within 16 (vectorIn f)
+  pub distortion : f .distortion ≤ largestDistortion
+  pub count : (i : ℕ) → getD (f .counts) i 0 ≤ 1089
+  pub dropped : f .dropped ≤ 1089
+
+abbrev pub asTotal : List ℕ → ℕ → Total
+asTotal counts dropped = record { counts = counts; dropped = dropped }
+
+abbrev pub joined : Total → SearchResult → Total
+joined s f =
+    let sum : ℕ → ℕ = λ i. getD (s .counts) i 0 + getD (f .counts) i 0 in
+    asTotal (sum 0 ∷ sum 1 ∷ sum 2 ∷ sum 3 ∷ sum 4 ∷ []) (s .dropped + f .dropped)
+
+-- at most 1,048,576 blocks of at most 1,089 each
+pub record Bounded (s : Total) : Type 0 where
+  pub long : length (s .counts) ≡ 5
+  pub count : (i : ℕ) → getD (s .counts) i 0 ≤ 1141899264
+  pub dropped : s .dropped ≤ 1141899264

@@ -1,0 +1,77 @@
+// A grid block of document 01's field: what the search asked for answers there, and the sums over the blocks so far.
+
+ghost use mathlib.Core.Path.{_≡_};
+ghost use Prim.Native.Nat.{_<_};
+ghost use Rattle.order.specs.Preference.{preference, flat};
+ghost use Rattle.frame.specs.Pictures.{pairOf};
+ghost use Rattle.frame.specs.Grid.{blocks};
+ghost use Rattle.refusals.specs.Refusals.{sizesOf};
+ghost use Rattle.pruned_region.specs.Reach.{wholeFrame};
+ghost use Rattle.field_block.specs.Blocks.{searchAt, Prepared, Sound, joined, Bounded};
+use frame::Region;
+use refusals::Request;
+use frame::SearchBlock;
+use search::SearchResult;
+
+// Counts and dropped, summed over the blocks so far.
+pub struct Total {
+    pub counts: [u32; 5],
+    pub dropped: u32,
+}
+
+// The whole of the older frame, which the table is of.
+pub fn whole_frame(q: Request) -> Region
+    ensures { λ r. ⌜ r ≡ wholeFrame (sizesOf q) ⌝ }
+{
+    Region {
+        top: 0,
+        left: 0,
+        rows: q.height,
+        columns: q.width,
+    }
+}
+
+// What the search asked for answers at grid block k.
+pub fn search_at(
+    older: &[u8],
+    newer: &[u8],
+    order: &[i32; 2178],
+    q: Request,
+    table: &[u32],
+    k: usize,
+) -> SearchResult
+    requires { ⌜ Prepared (now older) (now newer) q (now table) × (now order ≡ flat preference) × (k < blocks (sizesOf q)) ⌝ }
+    ensures { λ r. ⌜ (r ≡ searchAt (pairOf (now (older .entry)) (now (newer .entry)) (sizesOf q)) q k) × Sound r ⌝ }
+{
+    let s = refusals::sizes_of(q);
+    let y = frame::block_row(s, k);
+    let x = frame::block_column(s, k);
+    if q.search == 2 {
+        let b = SearchBlock {
+            sizes: s,
+            w: q.w,
+            y,
+            x,
+        };
+        return pruned::search(older, newer, order, b, table, whole_frame(q));
+    }
+    block::search_block(older, newer, q, y, x)
+}
+
+// The sums with one block more.
+pub fn join(s: Total, f: SearchResult) -> Total
+    requires { ⌜ Bounded s × Sound f ⌝ }
+    ensures { λ r. ⌜ r ≡ joined s f ⌝ }
+{
+    let more = f.counts;
+    let mut counts = s.counts;
+    let mut i: usize = 0;
+    while i < 5 {
+        counts[i] = counts[i] + more[i];
+        i += 1;
+    }
+    Total {
+        counts,
+        dropped: s.dropped + f.dropped,
+    }
+}
