@@ -25,7 +25,7 @@ use Rattle.block.specs.Block.{searchBy, searched-full, searched-pruned}
 use Rattle.reading.specs.Reading.{majority}
 use Rattle.reading.proofs.Majority.{majority-ext}
 use Rattle.field_block.specs.Blocks.{searchAt, vectorOf}
-use Rattle.field.specs.Field.{entries}
+use Rattle.field.specs.Field.{entriesOf}
 
 pub record Exact (p : Pair) (q : Request) : Type 0 where
   pub at : (y x : ℕ) → y + p .sizes .n ≤ p .sizes .height → x + p .sizes .n ≤ p .sizes .width
@@ -62,8 +62,8 @@ module _ (p : Pair) (q : Request) (fits : Fitting (p .sizes)) (exact : Exact p q
   pub exact-reading : majority (vectorOf p q) (blocks (p .sizes)) ≡ majority bestAt (blocks (p .sizes))
   exact-reading = majority-ext _ _ (blocks (p .sizes)) (λ k h. exact-at k h .0)
 
-  pub exact-entries : entries (searchAt p q) (blocks (p .sizes)) ≡ concatTo (λ k. bestAt k .dy ∷ bestAt k .dx ∷ pos (leastAt k) ∷ []) (blocks (p .sizes))
-  unfolding entries
+  pub exact-entries : entriesOf (searchAt p q) (blocks (p .sizes)) ≡ concatTo (λ k. bestAt k .dy ∷ bestAt k .dx ∷ pos (leastAt k) ∷ []) (blocks (p .sizes))
+  unfolding entriesOf
   exact-entries =
       concatTo-ext _ _ (blocks (p .sizes))
       (λ k h. ap₂ (λ (v : Vector) (d : ℕ). v .dy ∷ v .dx ∷ pos d ∷ []) (exact-at k h .0) (exact-at k h .1))

@@ -14,25 +14,26 @@ use Rattle.distortion.specs.Blocks.{blockAt}
 use Rattle.search.specs.declared.SearchResult.{SearchResult}
 use Rattle.pruned_sums.specs.Area.{area, summed, length-sums, sums-at}
 use Rattle.field_rules.specs.Rules.{tableSize}
-use Rattle.field.specs.Field.{entry, entries, tableOf}
+use Rattle.field.specs.Field.{entryOf, entriesOf, tableOf}
 
 module _ (found : ℕ → SearchResult) (n : ℕ) where
-  pub length-entries : length (entries found n) ≡ 3 * n
-  unfolding entries
-  length-entries = omega (arith, length-concatTo (λ k. entry (found k)) 3 (λ i. refl) n)
+  pub length-entries : length (entriesOf found n) ≡ 3 * n
+  unfolding entriesOf
+  length-entries = omega (arith, length-concatTo (λ k. entryOf (found k)) 3 (λ i. refl) n)
 
   -- block k's dy, dx and distortion: places 3 k, 3 k + 1 and 3 k + 2
-  pub entry-at : (rest : List ℤ) (k j : ℕ) → k < n → j < 3 → getD (entries found n ++ rest) (3 * k + j) (pos 0) ≡ getD (entry (found k)) j (pos 0)
-  unfolding entries
+  pub entry-at : (rest : List ℤ) (k j : ℕ) → k < n → j < 3 → getD (entriesOf found n ++ rest) (3 * k + j) (pos 0) ≡ getD (entryOf (found k)) j (pos 0)
+  unfolding entriesOf
   entry-at rest k j h l =
       let e : 3 * k + j ≡ k * 3 + j = omega arith in
       rw e
-      (List·getD-append (concatTo (λ k. entry (found k)) n) rest (pos 0) (k * 3 + j) (omega (arith, row-fits k n 3 h, length-concatTo (λ k. entry (found k)) 3 (λ i. refl) n))
-      ∙ getD-concatTo (λ k. entry (found k)) 3 (λ i. refl) n k j (pos 0) h l)
+      (List·getD-append (concatTo (λ k. entryOf (found k)) n) rest (pos 0) (k * 3 + j)
+      (omega (arith, row-fits k n 3 h, length-concatTo (λ k. entryOf (found k)) 3 (λ i. refl) n))
+      ∙ getD-concatTo (λ k. entryOf (found k)) 3 (λ i. refl) n k j (pos 0) h l)
 
   -- past them the list is as it was
-  pub entry-past : (list : List ℤ) (i : ℕ) → getD (entries found n ++ drop (3 * n) list) (3 * n + i) (pos 0) ≡ getD list (3 * n + i) (pos 0)
-  entry-past list i = getD-past (entries found n) _ (3 * n) i (pos 0) length-entries ∙ getD-drop (3 * n) list i (pos 0)
+  pub entry-past : (list : List ℤ) (i : ℕ) → getD (entriesOf found n ++ drop (3 * n) list) (3 * n + i) (pos 0) ≡ getD list (3 * n + i) (pos 0)
+  entry-past list i = getD-past (entriesOf found n) _ (3 * n) i (pos 0) length-entries ∙ getD-drop (3 * n) list i (pos 0)
 
 module _ (older : List ℕ) (s : Sizes) where
   -- the sum of older pels in rows before r and columns before c: place r × (width + 1) + c

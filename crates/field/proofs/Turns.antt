@@ -22,14 +22,14 @@ use Rattle.reading.specs.Reading.{readingOf}
 use Rattle.reading.specs.Tally.{code}
 use Rattle.reading.proofs.Tally.{tally-none, tally-more}
 use Rattle.field_block.specs.declared.Total.{Total}
-use Rattle.field_block.specs.Blocks.{searchAt, vectorOf, Sound, asTotal, joined, Bounded}
-use Rattle.field.specs.Field.{countOver, entry, entries, fieldAnswer}
+use Rattle.field_block.specs.Blocks.{searchAt, vectorOf, Sound, asTotal, join, Bounded}
+use Rattle.field.specs.Field.{countOver, entryOf, entriesOf, fieldAnswer}
 use Rattle.field.proofs.Places.{length-entries}
 use Rattle.field.specs.Filling.{totalOver, BlocksFilled}
 
 pub filled-none : (found : ℕ → SearchResult) (list : List ℤ) (votes : List ℕ) → votes ≡ replicate 1089 0
     → BlocksFilled found 0 list list votes (asTotal (0 ∷ 0 ∷ 0 ∷ 0 ∷ 0 ∷ []) 0)
-unfolding entries concatTo totalOver sumTo
+unfolding entriesOf concatTo totalOver sumTo
 filled-none found list votes e = record {
   sound = λ k h. absurd (omega arith);
   long = refl;
@@ -62,28 +62,28 @@ module _ (found : ℕ → SearchResult) (n : ℕ) (before after : List ℤ) (vot
         dropped = most few _ (λ k h. f .sound k h .dropped);
       })
 
-  total-more : joined total (found n) ≡ totalOver found (n + 1)
+  total-more : join total (found n) ≡ totalOver found (n + 1)
   unfolding totalOver sumTo
   total-more = rw (f .sums, add-one n)
 
-  list-more : 3 * n + 3 ≤ length before → sets after (3 * n) (entry (found n)) ≡ entries found (n + 1) ++ drop (3 * (n + 1)) before
-  unfolding entries
+  list-more : 3 * n + 3 ≤ length before → sets after (3 * n) (entryOf (found n)) ≡ entriesOf found (n + 1) ++ drop (3 * (n + 1)) before
+  unfolding entriesOf
   list-more h =
       let next : 3 * (n + 1) ≡ 3 * n + 3 = omega arith in
       let made = length-entries found n in
       rw next
-      (sets-eq (entry (found n)) after (3 * n) (omega (arith, f .long))
-      ∙ ap (λ (l : List ℤ). take (3 * n) l ++ entry (found n) ++ drop (3 * n + 3) l) (f .list)
-      ∙ ap₂ (λ (p q : List ℤ). p ++ entry (found n) ++ q)
-      (take-at (entries found n) (drop (3 * n) before) (3 * n) made)
-      (drop-over (entries found n) before (3 * n) (3 * n + 3) made (omega arith))
-      ∙ ap (λ (l : List ℤ). l ++ drop (3 * n + 3) before) (sym (concatTo-more (λ k. entry (found k)) n)))
+      (sets-eq (entryOf (found n)) after (3 * n) (omega (arith, f .long))
+      ∙ ap (λ (l : List ℤ). take (3 * n) l ++ entryOf (found n) ++ drop (3 * n + 3) l) (f .list)
+      ∙ ap₂ (λ (p q : List ℤ). p ++ entryOf (found n) ++ q)
+      (take-at (entriesOf found n) (drop (3 * n) before) (3 * n) made)
+      (drop-over (entriesOf found n) before (3 * n) (3 * n + 3) made (omega arith))
+      ∙ ap (λ (l : List ℤ). l ++ drop (3 * n + 3) before) (sym (concatTo-more (λ k. entryOf (found k)) n)))
 
   pub filled-more : (r : SearchResult) → r ≡ found n → Sound r → 3 * n + 3 ≤ length before
-      → BlocksFilled found (n + 1) before (sets after (3 * n) (entry r)) (set votes (code (vectorIn r)) (getD votes (code (vectorIn r)) 0 + 1)) (joined total r)
+      → BlocksFilled found (n + 1) before (sets after (3 * n) (entryOf r)) (set votes (code (vectorIn r)) (getD votes (code (vectorIn r)) 0 + 1)) (join total r)
   filled-more r e s h = record {
     sound = λ k l. ⊎-elim (λ (i : k ≡ n). rw (i, ← e) s) (f .sound k) (eq-or-lt-of-le (omega (arith, l)));
-    long = length-sets after (3 * n) (entry r) ∙ f .long;
+    long = length-sets after (3 * n) (entryOf r) ∙ f .long;
     list = rw e (list-more h);
     tally = tally-more _ n votes (vectorIn r) (ap vectorIn e) (s .within) (f .tally);
     sums = rw e total-more;

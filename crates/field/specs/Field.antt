@@ -2,7 +2,7 @@
 -- reading and, summed over the blocks, counts and dropped." "Search 2 also fills a lent table of unsigned 32-bit sums: place r × (width + 1) + c
 -- holds the sum of older pels in rows before r and columns before c, r to height, c to width. Searches 1, 3 and 4 leave that table unchanged.
 -- Places past the used part of any lent memory keep what they held."
---   entry, entries   the three numbers of a block, and of all grid blocks in order
+--   entryOf, entriesOf   the three numbers of a block, and of all grid blocks in order
 --   tableOf          the table of sums
 --   countOver        a count, summed over the blocks
 --   fieldAnswer      what an accepted call answers; refusedField: a refused one
@@ -34,11 +34,11 @@ use Rattle.field.specs.declared.FieldAnswer.{FieldAnswer}
 
 -- ---- list and table
 
-abbrev pub entry : SearchResult → List ℤ
-entry f = f .dy ∷ f .dx ∷ pos (f .distortion) ∷ []
+abbrev pub entryOf : SearchResult → List ℤ
+entryOf f = f .dy ∷ f .dx ∷ pos (f .distortion) ∷ []
 
-unfoldable pub entries : (ℕ → SearchResult) → ℕ → List ℤ
-entries found n = concatTo (λ k. entry (found k)) n
+unfoldable pub entriesOf : (ℕ → SearchResult) → ℕ → List ℤ
+entriesOf found n = concatTo (λ k. entryOf (found k)) n
 
 unfoldable pub tableOf : List ℕ → Sizes → List ℕ
 tableOf older s = summed (blockAt older (s .width) 0 0) (s .height) (s .width)
@@ -83,7 +83,7 @@ fieldResult answer list table = record { answer = answer; list = list; table = t
 
 -- an accepted call
 abbrev pub filledList : Pair → Request → List ℤ → List ℤ
-filledList p q list = entries (searchAt p q) (blocks (p .sizes)) ++ drop (listSize (p .sizes)) list
+filledList p q list = entriesOf (searchAt p q) (blocks (p .sizes)) ++ drop (listSize (p .sizes)) list
 
 abbrev pub filledTable : List ℕ → Request → List ℕ → List ℕ
 filledTable older q table = let s = sizesOf q in cond (eqb (q .search) 2) (tableOf older s ++ drop (tableSize s) table) table

@@ -15,7 +15,7 @@ use Rattle.reading.specs.Tally.{Tally}
 use Rattle.field_rules.specs.Rules.{tableSize}
 use Rattle.field_block.specs.declared.Total.{Total}
 use Rattle.field_block.specs.Blocks.{Sound, asTotal}
-use Rattle.field.specs.Field.{countsOver, droppedOver, entries}
+use Rattle.field.specs.Field.{countsOver, droppedOver, entriesOf}
 
 pub record Summable (older : ℕ) (q : Request) (table : ℕ) : Type 0 where
   pub wide : q .width ≤ 1024
@@ -29,6 +29,6 @@ totalOver found n = asTotal (countsOver found n) (droppedOver found n)
 pub record BlocksFilled (found : ℕ → SearchResult) (n : ℕ) (before after : List ℤ) (votes : List ℕ) (total : Total) : Type 0 where
   pub sound : (k : ℕ) → k < n → Sound (found k)
   pub long : length after ≡ length before
-  pub list : after ≡ entries found n ++ drop (3 * n) before
+  pub list : after ≡ entriesOf found n ++ drop (3 * n) before
   pub tally : Tally (λ k. vectorIn (found k)) n votes
   pub sums : total ≡ totalOver found n

@@ -2,7 +2,7 @@
 --   searchAt    what the search asked for answers at grid block k; vectorOf: its vector
 --   Prepared    what a block's search asks: frames, request, and for search 2 the table of sums
 --   Sound       what holds of each block's result, whatever the search: a vector of window 16, and numbers that are small
---   joined      the sums with one block more; Bounded: small enough for that
+--   join        the sums with one block more; Bounded: small enough for that
 use Prim.Native.Nat.{ℕ, _+_, _≤_}
 use mathlib.Core.Path.{_≡_}
 use mathlib.Core.List.{List, [], _∷_}
@@ -40,8 +40,8 @@ pub record Sound (f : SearchResult) : Type 0 where
 abbrev pub asTotal : List ℕ → ℕ → Total
 asTotal counts dropped = record { counts = counts; dropped = dropped }
 
-abbrev pub joined : Total → SearchResult → Total
-joined s f =
+abbrev pub join : Total → SearchResult → Total
+join s f =
     let sum : ℕ → ℕ = λ i. getD (s .counts) i 0 + getD (f .counts) i 0 in
     asTotal (sum 0 ∷ sum 1 ∷ sum 2 ∷ sum 3 ∷ sum 4 ∷ []) (s .dropped + f .dropped)
 

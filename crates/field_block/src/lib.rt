@@ -7,10 +7,10 @@ ghost use Rattle.frame.specs.Pictures.{pairOf};
 ghost use Rattle.frame.specs.Grid.{blocks};
 ghost use Rattle.refusals.specs.Refusals.{sizesOf};
 ghost use Rattle.pruned_region.specs.Reach.{wholeFrame};
-ghost use Rattle.field_block.specs.Blocks.{searchAt, Prepared, Sound, joined, Bounded};
+ghost use Rattle.field_block.specs.Blocks.{searchAt, Prepared, Sound, join, Bounded};
 use frame::Region;
-use refusals::Request;
 use frame::SearchBlock;
+use refusals::Request;
 use search::SearchResult;
 
 // Counts and dropped, summed over the blocks so far.
@@ -61,7 +61,7 @@ pub fn search_at(
 // The sums with one block more.
 pub fn join(s: Total, f: SearchResult) -> Total
     requires { ⌜ Bounded s × Sound f ⌝ }
-    ensures { λ r. ⌜ r ≡ joined s f ⌝ }
+    ensures { λ r. ⌜ r ≡ join s f ⌝ }
 {
     let more = f.counts;
     let mut counts = s.counts;

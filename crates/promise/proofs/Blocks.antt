@@ -24,7 +24,7 @@ use Rattle.pruned.specs.Answer.{prunedSearch}
 use Rattle.pruned.proofs.Laws.{pruned-adds}
 use Rattle.block.specs.Block.{search-fine, block-accepted, searched-pruned}
 use Rattle.field_block.specs.Blocks.{searchAt, vectorOf}
-use Rattle.field.specs.Field.{entries, droppedOver, countOver}
+use Rattle.field.specs.Field.{entriesOf, droppedOver, countOver}
 use Rattle.field.proofs.Places.{entry-at}
 use Rattle.field.proofs.Bests.{Exact, pruned-exact, pruned-exact-at, exact-at, exact-reading, exact-entries}
 use Rattle.reading.specs.Reading.{majority}
@@ -33,14 +33,14 @@ use Rattle.promise.proofs.Chains.{requestChain, Fine, fine-paired, requ
 use Rattle.promise.proofs.Counting.{dropped-many, measured-many, dropped-worse}
 
 -- the distortion listed for block k
-pub entries-third : (found : ℕ → SearchResult) (n k : ℕ) (rest : List ℤ) → k < n → reported (entries found n ++ rest) k ≡ pos (found k .distortion)
+pub entries-third : (found : ℕ → SearchResult) (n k : ℕ) (rest : List ℤ) → k < n → reported (entriesOf found n ++ rest) k ≡ pos (found k .distortion)
 entries-third found n k rest h = entry-at found n rest k 2 h (omega arith)
 
-pub at-most : {a b : ℕ} → a ≤ b → pos a ≤ℤ pos b
-at-most {a} {b} h = leZ-yes (le→leb a b h)
+pub pos-le : {a b : ℕ} → a ≤ b → pos a ≤ℤ pos b
+pos-le {a} {b} h = leZ-yes (le→leb a b h)
 
-pub below : {a b : ℕ} → a < b → pos a <ℤ pos b
-below {a} {b} h = ltZ-yes (lt→ltb a b h)
+pub pos-lt : {a b : ℕ} → a < b → pos a <ℤ pos b
+pos-lt {a} {b} h = ltZ-yes (lt→ltb a b h)
 
 -- ---- a pair and a window that an accepted step has
 
@@ -143,7 +143,7 @@ module _ (p : Pair) (w : ℕ) (f : Fine p w) where
     pub reading-best : majority (vectorOf p (requestOf (p .sizes) 2 w t)) (blocks (p .sizes)) ≡ majority (bestOf p w) (blocks (p .sizes))
     reading-best = exact-reading p (requestOf (p .sizes) 2 w t) fits (exact t)
 
-    pub entries-best : entries founds (blocks (p .sizes)) ≡ bestEntries p w
+    pub entries-best : entriesOf founds (blocks (p .sizes)) ≡ bestEntries p w
     unfolding bestEntries
     entries-best = exact-entries p (requestOf (p .sizes) 2 w t) fits (exact t)
 

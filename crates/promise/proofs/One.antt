@@ -23,7 +23,7 @@ use Rattle.field.specs.Field.{fieldAnswer, FieldResult, filledList, field-accep
 use Rattle.track.specs.declared.Track.{Track}
 use Rattle.track_rules.specs.Rules.{inRange, arrivalRefusal}
 use Rattle.track.specs.Track.{movedTo, trackHome, stepRefusal, unmoved, travelOf, arrived, StepResult, stepResult, landed, trackStep, step-refused, step-landed}
-use Rattle.promise.specs.Demand.{Call, bestOf, travel, refusalOf, accept, reckon, Result, trackIn, refusalIn, call, AtStep, fieldOn}
+use Rattle.promise.specs.Demand.{Call, bestOf, travel, refusalOf, accept, reckon, Result, trackIn, refusalIn, answerTo, AtStep, fieldOn}
 use Rattle.promise.specs.Demand.Call.{home, step}
 use Rattle.promise.specs.Demand.Result.{stepping}
 use Rattle.promise.proofs.Chains.{chain-late, chain-early, fieldChain, Fine, request-fine, field-request}
@@ -35,8 +35,8 @@ pub record Agrees (t : Track) (c : Call) (r : Result) : Type 0 where
 
 -- ---- Home
 
-home-agrees : (t : Track) (y x : ℤ) → Agrees t (home y x) (call t (home y x))
-unfolding call trackHome refusalOf reckonCall accept
+home-agrees : (t : Track) (y x : ℤ) → Agrees t (home y x) (answerTo t (home y x))
+unfolding answerTo trackHome refusalOf reckonCall accept
 home-agrees t y x = record { refusal = refl; track = refl }
 
 -- ---- the new place of a step
@@ -118,8 +118,8 @@ module _ (t : Track) (p : Pair) (w threshold : ℕ) (list : List ℤ) (table : L
     unfolding accept travel
     lands = landing t field (travel p w) (ap turned reading-is)
 
-  step-agrees : Agrees t this (call t this)
-  unfolding call reckonCall
+  step-agrees : Agrees t this (answerTo t this)
+  unfolding answerTo reckonCall
   step-agrees = go (ℕ-discrete early 0)
     where
       go : Dec (early ≡ 0) → Agrees t this (stepping answers)
@@ -147,15 +147,15 @@ module _ (t : Track) (p : Pair) (w threshold : ℕ) (list : List ℤ) (table : L
           (record { fine = early-field e; list-same = l .list; answer-same = l .whole (sym (refusal-late e) ∙ a) })
       go (no n) = absurd (n (sym (refusal-early n) ∙ a))
 
-pub agrees : (t : Track) (c : Call) → Agrees t c (call t c)
+pub agrees : (t : Track) (c : Call) → Agrees t c (answerTo t c)
 agrees t (home y x) = home-agrees t y x
 agrees t (step p w threshold list table) = step-agrees t p w threshold list table
 
 -- a fact about every accepted step, from one about what such a step answers
 pub at-step : (Q : Pair → ℕ → List ℤ → StepResult → Type 0)
     → ((t : Track) (p : Pair) (w threshold : ℕ) (list : List ℤ) (table : List ℕ) (s : StepResult) → Taken t p w threshold list table s → Q p w list s)
-    → (t : Track) (c : Call) → AtStep Q t c (call t c)
-unfolding call
+    → (t : Track) (c : Call) → AtStep Q t c (answerTo t c)
+unfolding answerTo
 at-step Q h t (home y x) = tt
 at-step Q h t (step p w threshold list table) =
     λ e. h t p w threshold list table (answers t p w threshold list table) (step-taken t p w threshold list table e)

@@ -26,7 +26,7 @@ use Rattle.field_block.specs.Blocks.{searchAt}
 use Rattle.field.specs.Field.{fieldAnswer, FieldResult, field-accepted, field-unrefused}
 use Rattle.promise.specs.Demand.{EachPlace, blockOn, fieldOn, NotLower, FieldNotLower, Runs}
 use Rattle.promise.proofs.Chains.{requestChain, fieldChain, Fine, request-any, field-request, field-any}
-use Rattle.promise.proofs.Blocks.{Lists, each-place, entries-third, at-most}
+use Rattle.promise.proofs.Blocks.{Lists, each-place, entries-third, pos-le}
 
 module _ (p : Pair) (w : ℕ) (f : Fine p w) where
   -- ---- they run
@@ -82,7 +82,7 @@ module _ (p : Pair) (w : ℕ) (f : Fine p w) where
       unfolding fieldAnswer
       field-held mine r =
           rw (field-accepted (p .older) (p .newer) request list table unrefused) (
-            λ k h. rw (r k h, entries-third (searchAt p request) (blocks (p .sizes)) k (drop (listSize (p .sizes)) list) h) (at-most (owed k h .0)),
+            λ k h. rw (r k h, entries-third (searchAt p request) (blocks (p .sizes)) k (drop (listSize (p .sizes)) list) h) (pos-le (owed k h .0)),
             sumTo-bound most _ (blocks (p .sizes)) (λ k h. owed k h .1),
           )
 

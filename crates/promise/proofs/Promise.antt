@@ -24,14 +24,14 @@ use Rattle.field.specs.Field.{fieldAnswer}
 use Rattle.track.specs.declared.Track.{Track}
 use Rattle.track_rules.specs.Rules.{inRange}
 use Rattle.track.specs.Track.{trackNew, homedAt, StepResult}
-use Rattle.promise.specs.Demand.{Call, bestOf, travel, reckon, reckoned, acceptedCalls, standingOn, trackAt, NoHoming, Result, trackIn, call}
+use Rattle.promise.specs.Demand.{Call, bestOf, travel, reckon, reckoned, acceptedCalls, standingOn, trackAt, NoHoming, Result, trackIn, answerTo}
 use Rattle.promise.specs.Demand.{run, lastTrack, AtStep, EachStep, EachBlock, EachGridPlace, bestEntries, reported, howMany, isDropped}
 use Rattle.promise.specs.Demand.{isMeasured, overGrid, Promise}
 use Rattle.promise.specs.Demand.Call.{home}
 use Rattle.promise.specs.Demand.Standing.{nowhere, from}
 use Rattle.reading.proofs.Majority.{majority-most}
 use Rattle.promise.proofs.Chains.{Fine, fine-paired}
-use Rattle.promise.proofs.Blocks.{Lists, entries-third, at-most, below, each-place, best-within, block-result, grid-distortion, grid-no-less}
+use Rattle.promise.proofs.Blocks.{Lists, entries-third, pos-le, pos-lt, each-place, best-within, block-result, grid-distortion, grid-no-less}
 use Rattle.promise.proofs.Blocks.{grid-worse, entries-best, sum-dropped, sum-measured, sum-both}
 use Rattle.promise.proofs.Probing.{four-step-runs, cross-runs, four-step-block, cross-block, four-step-over, cross-over}
 use Rattle.promise.proofs.One.{agrees, Taken, at-step, field-fine, answer-is, list-is, reading-is}
@@ -73,10 +73,10 @@ module _ (t : Track) (p : Pair) (w threshold : ℕ) (list : List ℤ) (table : L
   reported-best j h = reported-found j h ∙ ap pos (grid-distortion p w fine threshold j h)
 
   no-less : EachGridPlace p (λ j y x. (v : Vector) → T (candidate (p .sizes) w y x v) → reported (s .list) j ≤ℤ pos (distortion p y x v))
-  no-less j h v c = rw (reported-found j h) (at-most (grid-no-less p w fine threshold j h v c))
+  no-less j h v c = rw (reported-found j h) (pos-le (grid-no-less p w fine threshold j h v c))
 
   dropped-more : EachGridPlace p (λ j y x. (v : Vector) → T (isDropped p w y x v) → reported (s .list) j <ℤ pos (distortion p y x v))
-  dropped-more j h v d = rw (reported-found j h) (below (grid-worse p w fine threshold j h v d))
+  dropped-more j h v d = rw (reported-found j h) (pos-lt (grid-worse p w fine threshold j h v d))
 
   sums : (answer .dropped ≡ overGrid p (λ y x. howMany (isDropped p w y x)))
       × (getD (answer .counts) 4 0 ≡ overGrid p (λ y x. howMany (isMeasured p w y x)))
@@ -86,11 +86,11 @@ module _ (t : Track) (p : Pair) (w threshold : ℕ) (list : List ℤ) (table : L
 
 -- ---- the whole list
 
-alike : (t : Track) (c : Call) → trackIn (call t c) ≡ reckon t c
+alike : (t : Track) (c : Call) → trackIn (answerTo t c) ≡ reckon t c
 alike t c = agrees t c .track
 
-each : (P : Track → Call → Result → Type 0) → ((t : Track) (c : Call) → P t c (call t c)) → (calls : List Call) → EachCall reckon P trackNew calls (run calls)
-each P h calls = each-call call trackIn reckon alike P h calls trackNew
+each : (P : Track → Call → Result → Type 0) → ((t : Track) (c : Call) → P t c (answerTo t c)) → (calls : List Call) → EachCall reckon P trackNew calls (run calls)
+each P h calls = each-call answerTo trackIn reckon alike P h calls trackNew
 
 steps : (calls : List Call) (Q : Pair → ℕ → List ℤ → StepResult → Type 0)
     → ((t : Track) (p : Pair) (w threshold : ℕ) (list : List ℤ) (table : List ℕ) (s : StepResult) → Taken t p w threshold list table s → Q p w list s)
@@ -99,7 +99,7 @@ steps calls Q h = each (AtStep Q) (at-step Q h) calls
 
 -- the track in the end is the reckoning's
 ends : (calls : List Call) → lastTrack (run calls) ≡ reckoned trackNew calls
-ends calls = last-is call trackIn reckon alike calls trackNew
+ends calls = last-is answerTo trackIn reckon alike calls trackNew
 
 stands : (calls : List Call) → lastTrack (run calls) ≡ trackAt (standingOn nowhere (acceptedCalls trackNew calls))
 unfolding trackAt

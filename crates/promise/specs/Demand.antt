@@ -134,12 +134,12 @@ abbrev pub refusalIn : Result → ℕ
 refusalIn (homing h) = h .refusal
 refusalIn (stepping s) = s .stepped .answer .refusal
 
-unfoldable pub call : Track → Call → Result
-call t (home y x) = homing (trackHome t y x)
-call t (step p w threshold list table) = stepping (trackStep t (p .older) (p .newer) (requestOf (p .sizes) 2 w threshold) list table)
+unfoldable pub answerTo : Track → Call → Result
+answerTo t (home y x) = homing (trackHome t y x)
+answerTo t (step p w threshold list table) = stepping (trackStep t (p .older) (p .newer) (requestOf (p .sizes) 2 w threshold) list table)
 
 abbrev pub run : List Call → List Result
-run calls = runFrom call trackIn trackNew calls
+run calls = runFrom answerTo trackIn trackNew calls
 
 -- the track handed back last
 abbrev pub lastTrack : List Result → Track

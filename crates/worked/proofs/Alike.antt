@@ -1,5 +1,5 @@
 -- Where all blocks have one vector of window 16, that is the vector of most blocks: it has every vote, and any other has none of the last block.
---   alike           whether they all have, as a test
+--   allAlike        whether they all have, as a test
 --   majorityOnce    the vector of most blocks, with no look at the table where they are alike
 use Prim.Native.Nat.{ℕ, zero, suc, _≤_, _<_}
 use mathlib.Core.Path.{_≡_, refl, sym, ap, subst, _∙_}
@@ -53,17 +53,17 @@ every-is has v (suc n) e k h =
     (λ l. every-is has v n (T-true _ (and-right (same? (has n) v) (every has v n) t)) k l)
     (eq-or-lt-of-le (le-of-suc-le-suc h))
 
-unfoldable pub alike : (ℕ → Vector) → ℕ → Bool
-alike has n = leb 1 n && ((leb (natAbs (has 0 .dy)) 16 && leb (natAbs (has 0 .dx)) 16) && every has (has 0) n)
+unfoldable pub allAlike : (ℕ → Vector) → ℕ → Bool
+allAlike has n = leb 1 n && ((leb (natAbs (has 0 .dy)) 16 && leb (natAbs (has 0 .dx)) 16) && every has (has 0) n)
 
 abbrev pub majorityOnce : (ℕ → Vector) → ℕ → Vector
-majorityOnce has n = cond (alike has n) (has 0) (majority has n)
+majorityOnce has n = cond (allAlike has n) (has 0) (majority has n)
 
 pub majority-once : (has : ℕ → Vector) (n : ℕ) → majority has n ≡ majorityOnce has n
-unfolding alike
-majority-once has n = go (alike has n) refl
+unfolding allAlike
+majority-once has n = go (allAlike has n) refl
   where
-    go : (t : Bool) → alike has n ≡ t → majority has n ≡ cond t (has 0) (majority has n)
+    go : (t : Bool) → allAlike has n ≡ t → majority has n ≡ cond t (has 0) (majority has n)
     go true e =
         let some = leb 1 n in
         let inside = leb (natAbs (has 0 .dy)) 16 && leb (natAbs (has 0 .dx)) 16 in

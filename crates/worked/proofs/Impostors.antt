@@ -23,8 +23,8 @@ use Rattle.track.specs.Track.{trackNew}
 use Rattle.promise.specs.Demand.{Call, travel, refusalOf, accept, reckon, reckoned, Result, trackIn, lastTrack}
 use Rattle.promise.specs.Demand.Call.{home, step}
 use Rattle.worked.specs.Table.{pairB, heldList, heldTable, minus, stepB}
-use Rattle.worked.proofs.Places.{walk, after}
-use Rattle.worked.proofs.Alike.{every, alike}
+use Rattle.worked.proofs.Places.{walkPlaces, after}
+use Rattle.worked.proofs.Alike.{every, allAlike}
 use Rattle.worked.proofs.Once.{travel-once}
 
 -- what the promise says of each call's track
@@ -33,20 +33,20 @@ Tracks t c r = trackIn r ≡ reckon t c
 
 travels-B : (travel pairB 1 ≡ vec (pos 0) (minus 1)) × (travel pairB 0 ≡ origin)
 unfolding
-    pairB preference candidate distortion distortionBy sumTo leastOf leastFrom blocks rows columns blockRow blockColumn walk after every alike
+    pairB preference candidate distortion distortionBy sumTo leastOf leastFrom blocks rows columns blockRow blockColumn walkPlaces after every allAlike
 travels-B = (travel-once pairB 1, travel-once pairB 0)
 
 -- the accepted step of G, and another by window 0
-abbrev pub once : List Call
-once = home (pos 10) (pos 20) ∷ stepB ∷ []
+abbrev pub oneStep : List Call
+oneStep = home (pos 10) (pos 20) ∷ stepB ∷ []
 
-abbrev pub again : List Call
-again = home (pos 10) (pos 20) ∷ stepB ∷ step pairB 0 0 (heldList 5) (heldTable 32) ∷ []
+abbrev pub twoSteps : List Call
+twoSteps = home (pos 10) (pos 20) ∷ stepB ∷ step pairB 0 0 (heldList 5) (heldTable 32) ∷ []
 
 at : (steps : ℕ) → Track
 at steps = record { homed = true; y = pos 10; x = pos 19; steps = steps }
 
-ends-B : (reckoned trackNew once ≡ at 1) × (reckoned trackNew again ≡ at 2)
+ends-B : (reckoned trackNew oneStep ≡ at 1) × (reckoned trackNew twoSteps ≡ at 2)
 unfolding pairB reckonCall refusalOf accept fieldRefusal requestRefusal pairRefusal blockSizeOk windowOk thresholdOk firstRefusal blocks rows columns at
 ends-B = (rw (travels-B .0), rw (travels-B .0, travels-B .1))
 
@@ -57,9 +57,9 @@ unfolding at
 elsewhere x cs rs n k e ne h = ne (ap up (sym h ∙ ap (λ (t : Track). t .x) (last-each reckon trackIn cs rs trackNew k ∙ e)))
 
 -- "still paper for every pair"
-pub still-excluded : (rs : List Result) → EachCall reckon Tracks trackNew once rs → lastTrack rs .x ≡ pos 20 → ⊥
-still-excluded rs k = elsewhere 20 once rs 1 k (ends-B .0) (λ q. omega arith)
+pub still-excluded : (rs : List Result) → EachCall reckon Tracks trackNew oneStep rs → lastTrack rs .x ≡ pos 20 → ⊥
+still-excluded rs k = elsewhere 20 oneStep rs 1 k (ends-B .0) (λ q. omega arith)
 
 -- "a first step worked out and its travel repeated"
-pub repeated-excluded : (rs : List Result) → EachCall reckon Tracks trackNew again rs → lastTrack rs .x ≡ pos 18 → ⊥
-repeated-excluded rs k = elsewhere 18 again rs 2 k (ends-B .1) (λ q. omega arith)
+pub repeated-excluded : (rs : List Result) → EachCall reckon Tracks trackNew twoSteps rs → lastTrack rs .x ≡ pos 18 → ⊥
+repeated-excluded rs k = elsewhere 18 twoSteps rs 2 k (ends-B .1) (λ q. omega arith)

@@ -37,14 +37,14 @@ use Rattle.block.specs.Block.{searchRefusal, searchBy, searchBlock}
 use Rattle.reading.specs.Reading.{votes, majority}
 use Rattle.field_rules.specs.Rules.{fieldRefusal, listSize}
 use Rattle.field_block.specs.Blocks.{searchAt}
-use Rattle.field.specs.Field.{entries, countsOver, droppedOver, filledTable, fieldAnswer, refusedField, FieldResult, fieldResult, field}
+use Rattle.field.specs.Field.{entriesOf, countsOver, droppedOver, filledTable, fieldAnswer, refusedField, FieldResult, fieldResult, field}
 use Rattle.track.specs.declared.Track.{Track}
 use Rattle.track.specs.Track.{trackNew, trackHome, stepRefusalIs, unmoved, stepResult, landed, StepResult, trackStep}
-use Rattle.promise.specs.Demand.{Call, travel, Result, trackIn, call, run}
+use Rattle.promise.specs.Demand.{Call, travel, Result, trackIn, answerTo, run}
 use Rattle.promise.specs.Demand.Call.{home, step}
 use Rattle.promise.specs.Demand.Result.{homing, stepping}
 use Rattle.worked.specs.Table.{reads}
-use Rattle.worked.proofs.Places.{walk, after, by-walk}
+use Rattle.worked.proofs.Places.{walkPlaces, after, by-walk}
 use Rattle.worked.proofs.Alike.{majorityOnce, majority-once}
 
 -- ---- a block
@@ -60,7 +60,7 @@ module _ (p : Pair) (w y x : ℕ) where
   chosenOf = prunedBest (stillDistortion p y x) D (placeDistance p y x) (absolute .limit) (p .sizes .n) (resolutions (p .sizes .n))
 
   abbrev once : {A : Type 0} → (List ℕ → A) → A
-  once = after (walk (candidate (p .sizes) w y x) 0 preference)
+  once = after (walkPlaces (candidate (p .sizes) w y x) 0 preference)
 
   abbrev bestOnce : Vector
   bestOnce = once (λ ks. preferred (leastOf D ks))
@@ -125,7 +125,7 @@ module _ (older newer : List ℕ) (q : Request) (list : List ℤ) (table : List 
       let refusal = fieldRefusal (length older) (length newer) q (length list) (length table) in
       cond (eqb refusal 0)
       (fieldResult (reads v (votes (λ k. vectorIn (found k)) n v) (countsOver found n) (droppedOver found n))
-      (entries found n ++ drop (listSize (pair .sizes)) list) (filledTable older q table))
+      (entriesOf found n ++ drop (listSize (pair .sizes)) list) (filledTable older q table))
       (fieldResult (refusedField refusal) list table)
 
   abbrev foundOnce : ℕ → SearchResult
@@ -174,8 +174,8 @@ abbrev callOnce : Track → Call → Result
 callOnce t (home y x) = homing (trackHome t y x)
 callOnce t (step p w threshold list table) = stepping (stepOnce t (p .older) (p .newer) (requestOf (p .sizes) 2 w threshold) list table)
 
-call-once : (t : Track) (c : Call) → call t c ≡ callOnce t c
-unfolding call
+call-once : (t : Track) (c : Call) → answerTo t c ≡ callOnce t c
+unfolding answerTo
 call-once t (home y x) = refl
 call-once t (step p w threshold list table) = ap stepping (step-once t (p .older) (p .newer) (requestOf (p .sizes) 2 w threshold) list table)
 

@@ -25,7 +25,7 @@ use Rattle.pruned_sums.specs.Area.{summed}
 use Rattle.block.specs.Block.{searchRefusal}
 use Rattle.reading.specs.Reading.{votes}
 use Rattle.field_rules.specs.Rules.{fieldRefusal}
-use Rattle.field.specs.Field.{entries, tableOf}
+use Rattle.field.specs.Field.{entriesOf, tableOf}
 use Rattle.track.specs.Track.{trackHome, stepRefusal, arrived}
 use Rattle.log_head.specs.Heads.{headRefusal, entryOk, isStill}
 use Rattle.log_command.specs.Numbers.{be2, be4}
@@ -40,13 +40,13 @@ use Rattle.log_reading.specs.Reading.{fieldOf, logRead, readLog}
 use Rattle.put.specs.Digits.{digits}
 use Rattle.log_line.specs.Line.{numberText, spaced, endWord, refusedWord, atWord, worded}
 use Rattle.log_text.specs.Text.{printLog}
-use Rattle.worked.specs.Table.{pairA, pairB, pairC, pairD, Call, search, measuring, distance, everyBlock, travelling, calls, writing, reading, walking, printing, Answer, found, filled, travels, results, answer, Row, Right, table}
-use Rattle.worked.proofs.Places.{walk, after}
-use Rattle.worked.proofs.Alike.{every, alike}
+use Rattle.worked.specs.Table.{pairA, pairB, pairC, pairD, Query, search, measuring, distance, everyBlock, travelling, calls, writing, reading, walking, printing, Answer, found, filled, travels, results, answer, Row, Right, table}
+use Rattle.worked.proofs.Places.{walkPlaces, after}
+use Rattle.worked.proofs.Alike.{every, allAlike}
 use Rattle.worked.proofs.Once.{blockOnce, block-once, fieldOnce, field-once, travelOnce, travel-once, runOnce, run-once}
 
 -- the same answers, quick to compute
-abbrev answerOnce : Call → Answer
+abbrev answerOnce : Query → Answer
 answerOnce (search p q y x) = found (blockOnce (p .older) (p .newer) (q p) y x)
 answerOnce (measuring p v) = answer (measuring p v)
 answerOnce (distance p m) = answer (distance p m)
@@ -58,7 +58,7 @@ answerOnce (reading log list) = answer (reading log list)
 answerOnce (walking log) = answer (walking log)
 answerOnce (printing log) = answer (printing log)
 
-answer-once : (c : Call) → answer c ≡ answerOnce c
+answer-once : (c : Query) → answer c ≡ answerOnce c
 answer-once (search p q y x) = ap found (block-once (p .older) (p .newer) (q p) y x)
 answer-once (measuring p v) = refl
 answer-once (distance p m) = refl
@@ -72,7 +72,7 @@ answer-once (printing log) = refl
 
 abbrev answers : List Row → List Answer
 answers [] = []
-answers (r ∷ rs) = answerOnce (r .call) ∷ answers rs
+answers (r ∷ rs) = answerOnce (r .query) ∷ answers rs
 
 abbrev oweds : List Row → List Answer
 oweds [] = []
@@ -81,8 +81,8 @@ oweds (r ∷ rs) = r .owed ∷ oweds rs
 each : (rs : List Row) → answers rs ≡ oweds rs → Each Right rs
 each [] e = none
 each (r ∷ rs) e =
-    let h : answerOnce (r .call) ≡ r .owed = cc in
-    more {x = r} (answer-once (r .call) ∙ h) (each rs cc)
+    let h : answerOnce (r .query) ≡ r .owed = cc in
+    more {x = r} (answer-once (r .query) ∙ h) (each rs cc)
 
 -- the whole table at once
 computed : answers table ≡ oweds table
@@ -92,8 +92,8 @@ unfolding
     distortionBy distortion measureRefusal measure countPoint probePoint probe atOrigin around widened isIn fresh resultOf
     square ring moved step1 step23 step4 from3 from2 fourStep diagonalCross plusCross pass allPasses diagonal onDiagonal ended finished cross
     squareSum distanceBy kept exceeding allRemaining lower sift rounds prune prunedBest counts halves
-    searchRefusal walk after
-    rows columns blocks blockRow blockColumn listTo concatTo summed fieldRefusal entries tableOf votes every alike
+    searchRefusal walkPlaces after
+    rows columns blocks blockRow blockColumn listTo concatTo summed fieldRefusal entriesOf tableOf votes every allAlike
     runFrom trackHome stepRefusal arrived
     signedByte byteOf headRefusal entryOk isStill be2 be4 judged headIn headTaken blockTaken endTaken standingOk startCommand bodyCommand stepAt
     commandsFrom logWalk lastOf blockCommand logCommands logOf flatMap

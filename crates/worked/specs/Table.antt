@@ -5,7 +5,7 @@
 --   full, pruned, fourStep, cross   what a search of a pair is asked
 --   headOf, logB, logC   a head by search 2 with w 1; the logs of B and C
 --   heldList, heldTable, heldBuffer   what lent memory held
---   Call     what is asked: a search of one block, the measuring call, a distance, a field, a travel, calls on a track, or a log that is written, read,
+--   Query     what is asked: a search of one block, the measuring call, a distance, a field, a travel, calls on a track, or a log that is written, read,
 --            walked or printed
 --   answer   the answer by the definitions
 --   Row      what is asked, and the answer that 01 gives; Right: they agree
@@ -41,7 +41,7 @@ use Rattle.log.specs.Walk.{walk}
 use Rattle.log_writing.specs.Writing.{WriteResult, writeResult, writeLog}
 use Rattle.log_reading.specs.Reading.{ReadResult, readResult, refusedRead, acceptedRead, readLog}
 use Rattle.log_text.specs.Text.{printLog}
-use Rattle.promise.specs.Demand.{Call as TrackCall, Result, travel, run}
+use Rattle.promise.specs.Demand.{Call, Result, travel, run}
 use Rattle.promise.specs.Demand.Call.{home, step}
 use Rattle.promise.specs.Demand.Result.{homing, stepping}
 
@@ -95,17 +95,17 @@ heldBuffer n = replicate n 8
 
 -- a search of the block at row y, column x; a vector of the block at (0,0) measured; the distance at m of the two blocks at (0,0); a field with
 -- what list and table held; a travel by window w; calls on a track, from New on; a log written into a buffer, read into a list, walked, printed
-pub data Call : Type 0 where
-  search : Pair → (Pair → Request) → (y x : ℕ) → Call
-  measuring : Pair → Vector → Call
-  distance : Pair → (m : ℕ) → Call
-  everyBlock : Pair → (Pair → Request) → List ℤ → List ℕ → Call
-  travelling : Pair → (w : ℕ) → Call
-  calls : List TrackCall → Call
-  writing : Head → List ℤ → List ℕ → Call
-  reading : List ℕ → List ℤ → Call
-  walking : List ℕ → Call
-  printing : List ℕ → Call
+pub data Query : Type 0 where
+  search : Pair → (Pair → Request) → (y x : ℕ) → Query
+  measuring : Pair → Vector → Query
+  distance : Pair → (m : ℕ) → Query
+  everyBlock : Pair → (Pair → Request) → List ℤ → List ℕ → Query
+  travelling : Pair → (w : ℕ) → Query
+  calls : List Call → Query
+  writing : Head → List ℤ → List ℕ → Query
+  reading : List ℕ → List ℤ → Query
+  walking : List ℕ → Query
+  printing : List ℕ → Query
 
 -- ---- what is answered
 
@@ -122,7 +122,7 @@ pub data Answer : Type 0 where
   text : List ℕ → Answer
 
 -- by the definitions
-abbrev pub answer : Call → Answer
+abbrev pub answer : Query → Answer
 answer (search p q y x) = found (searchBlock (p .older) (p .newer) (q p) y x)
 answer (measuring p v) = amount (measure p 0 0 v)
 answer (distance p m) = apart (distanceBy absolute (p .sizes .n) m (newerBlock p 0 0) (olderBlock p 0 0 origin))
@@ -198,10 +198,10 @@ tableC = sumsOf (0 ∷ 7 ∷ 14 ∷ 21 ∷ 28 ∷ 35 ∷ 42 ∷ 49 ∷ 56 ∷ []
 abbrev pub readsB : FieldAnswer
 readsB = reads vectorB 1 (0 ∷ 0 ∷ 2 ∷ 2 ∷ 1 ∷ []) 1
 
-abbrev pub stepB : TrackCall
+abbrev pub stepB : Call
 stepB = step pairB 1 0 (heldList 5) (heldTable 32)
 
-abbrev pub homeAndStep : ℤ → ℤ → Call
+abbrev pub homeAndStep : ℤ → ℤ → Query
 homeAndStep y x = calls (home y x ∷ stepB ∷ [])
 
 -- Home is accepted; the step hands the track back, with what the field call answers or a refusal, and list and table are filled
@@ -241,15 +241,15 @@ readsAs h list = read (readResult (acceptedRead h) list)
 -- ---- the table
 
 pub record Row : Type 0 where
-  pub call : Call
+  pub query : Query
   pub owed : Answer
 
 abbrev pub Right : Row → Type 0
-Right r = answer (r .call) ≡ r .owed
+Right r = answer (r .query) ≡ r .owed
 
 infix 10 _gives_
-abbrev pub _gives_ : Call → Answer → Row
-c gives a = record { call = c; owed = a }
+abbrev pub _gives_ : Query → Answer → Row
+q gives a = record { query = q; owed = a }
 
 unfoldable pub table : List Row
 table =

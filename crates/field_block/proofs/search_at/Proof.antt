@@ -16,7 +16,9 @@ use Rattle.field_block.proofs.search_at.Tie as tie
 sizes-of-requires : tie.Need-sizes-of-requires
 sizes-of-requires c κs = search needs
 
-request-at : (c : tie.After-shared-slice-known3) → let a = c .before .before .before .args in Requested (length (now (a .older))) (length (now (a .newer))) (a .q)
+request-at : (c : tie.After-shared-slice-known3) →
+    let a = c .before .before .before .args in
+    Requested (length (now (a .older))) (length (now (a .newer))) (a .q)
 request-at c = requested _ _ _ (c .before .before .before .pre .0 .fine)
 
 bytes : (c : tie.After-shared-slice-known3) → let a = c .before .before .before .args in Bytes (now (a .older)) × Bytes (now (a .newer))
@@ -38,13 +40,17 @@ row-is : (b : tie.After-block-column) →
     let z = b .before .before in
     let a = z .before .before .before .before .args in
     b .before .block-row .result ≡ blockRow (sizesOf (a .q)) (a .k)
-row-is b = let z = b .before .before in b .before .block-row .ensures ∙ ap (λ s. blockRow s (z .before .before .before .before .args .k)) (z .sizes-of .ensures)
+row-is b =
+    let z = b .before .before in
+    b .before .block-row .ensures ∙ ap (λ s. blockRow s (z .before .before .before .before .args .k)) (z .sizes-of .ensures)
 
 column-is : (b : tie.After-block-column) →
     let z = b .before .before in
     let a = z .before .before .before .before .args in
     b .block-column .result ≡ blockColumn (sizesOf (a .q)) (a .k)
-column-is b = let z = b .before .before in b .block-column .ensures ∙ ap (λ s. blockColumn s (z .before .before .before .before .args .k)) (z .sizes-of .ensures)
+column-is b =
+    let z = b .before .before in
+    b .block-column .ensures ∙ ap (λ s. blockColumn s (z .before .before .before .before .args .k)) (z .sizes-of .ensures)
 
 -- block k lies inside
 lies : (b : tie.After-block-column) →
