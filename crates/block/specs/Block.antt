@@ -61,9 +61,9 @@ unfolding searchRefusal
 search-fine older newer q y x e down across = first-refusal-none (requestRefusal older newer q) _ e ∙ rw (le-leb _ _ down, le-leb _ _ across)
 
 module _ (older newer : List ℕ) (q : Request) (y x : ℕ) where
-  pub block-refused-search : (searchRefusal (length older) (length newer) q y x ≡ 0 → ⊥) → searchBlock older newer q y x ≡ refusedSearch (searchRefusal (length older) (length newer) q y x)
+  pub block-refused : (searchRefusal (length older) (length newer) q y x ≡ 0 → ⊥) → searchBlock older newer q y x ≡ refusedSearch (searchRefusal (length older) (length newer) q y x)
   unfolding searchBlock
-  block-refused-search h = rw (ne-eqb _ 0 h)
+  block-refused h = rw (ne-eqb _ 0 h)
 
   -- a call that answers 0 was accepted
   pub block-unrefused : searchBlock older newer q y x .refusal ≡ 0 → searchRefusal (length older) (length newer) q y x ≡ 0
@@ -71,7 +71,7 @@ module _ (older newer : List ℕ) (q : Request) (y x : ℕ) where
     where
       go : Dec (searchRefusal (length older) (length newer) q y x ≡ 0) → searchRefusal (length older) (length newer) q y x ≡ 0
       go (yes h) = h
-      go (no h) = sym (ap (λ (f : SearchResult). f .refusal) (block-refused-search h)) ∙ e
+      go (no h) = sym (ap (λ (f : SearchResult). f .refusal) (block-refused h)) ∙ e
 
   pub block-accepted : searchRefusal (length older) (length newer) q y x ≡ 0 → searchBlock older newer q y x ≡ searchBy (pairOf older newer (sizesOf q)) q y x
   unfolding searchBlock

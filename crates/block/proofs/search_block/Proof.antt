@@ -7,7 +7,7 @@ use lib.ListN.{length}
 use Rattle.refusals.specs.Refusals.{windowOk, sizesOf, window-small}
 use Rattle.frame.specs.Pictures.{pairOf}
 use Rattle.search.specs.Target.{Ready}
-use Rattle.block.specs.Block.{searchRefusal, searchBlock, searchBy, searched-full, searched-pruned, searched-four-step, searched-cross, searchable, block-refused-search, block-accepted}
+use Rattle.block.specs.Block.{searchRefusal, searchBlock, searchBy, searched-full, searched-pruned, searched-four-step, searched-cross, searchable, block-refused, block-accepted}
 use Rattle.block.proofs.search_block.Statement.{statement}
 use Rattle.block.proofs.search_block.Tie as tie
 
@@ -41,7 +41,7 @@ refused-search-requires c κs = search needs
 returns : tie.Need-returns
 returns c =
     let r = c .before .before .search-refusal .ensures in
-    c .refused-search .ensures ∙ rw r (sym (block-refused-search _ _ _ _ _ (λ e. c .before .if1 .taken (r ∙ e))))
+    c .refused-search .ensures ∙ rw r (sym (block-refused _ _ _ _ _ (λ e. c .before .if1 .taken (r ∙ e))))
 
 sizes-of-requires : tie.Need-sizes-of-requires
 sizes-of-requires c κs = search needs
