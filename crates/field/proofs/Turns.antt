@@ -20,21 +20,21 @@ use Rattle.search.specs.SearchResult.{vectorIn}
 use Rattle.reading.specs.declared.Reading.{Reading}
 use Rattle.reading.specs.Reading.{readingOf}
 use Rattle.reading.specs.Tally.{code}
-use Rattle.reading.proofs.Tally.{tally-none, tally-more}
+use Rattle.reading.proofs.Tally.{tally-first, tally-more}
 use Rattle.field_block.specs.declared.Total.{Total}
 use Rattle.field_block.specs.Blocks.{searchAt, vectorOf, Sound, asTotal, join, Bounded}
 use Rattle.field.specs.Field.{countOver, entryOf, entriesOf, fieldAnswer}
 use Rattle.field.proofs.Places.{length-entries}
 use Rattle.field.specs.Filling.{totalOver, BlocksFilled}
 
-pub filled-none : (found : ℕ → SearchResult) (list : List ℤ) (votes : List ℕ) → votes ≡ replicate 1089 0
+pub filled-first : (found : ℕ → SearchResult) (list : List ℤ) (votes : List ℕ) → votes ≡ replicate 1089 0
     → BlocksFilled found 0 list list votes (asTotal (0 ∷ 0 ∷ 0 ∷ 0 ∷ 0 ∷ []) 0)
 unfolding entriesOf concatTo totalOver sumTo
-filled-none found list votes e = record {
+filled-first found list votes e = record {
   sound = λ k h. absurd (omega arith);
   long = refl;
   list = refl;
-  tally = rw e (tally-none _);
+  tally = rw e (tally-first _);
   sums = refl;
 }
 

@@ -89,7 +89,8 @@ module _ (t : Track) (p : Pair) (w threshold : ℕ) (list : List ℤ) (table : L
 alike : (t : Track) (c : Call) → trackIn (answerTo t c) ≡ reckon t c
 alike t c = agrees t c .track
 
-each : (P : Track → Call → Result → Type 0) → ((t : Track) (c : Call) → P t c (answerTo t c)) → (calls : List Call) → EachCall reckon P trackNew calls (run calls)
+each : (P : Track → Call → Result → Type 0) → ((t : Track) (c : Call) → P t c (answerTo t c)) → (calls : List Call)
+    → EachCall reckon P trackNew calls (run calls)
 each P h calls = each-call answerTo trackIn reckon alike P h calls trackNew
 
 steps : (calls : List Call) (Q : Pair → ℕ → List ℤ → StepResult → Type 0)

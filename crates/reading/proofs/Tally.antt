@@ -1,9 +1,9 @@
 -- A vote more counts for its vector alone, since two vectors of window 16 have different places; the walk along the preference table then keeps
 -- the first greatest count.
 --   code-below                         a vector's place is one of the 1,089
---   tally-none, tally-more, tally-room the votes before the first block, with one block more, and that a vote fits
+--   tally-first, tally-more, tally-room the votes before the first block, with one block more, and that a vote fits
 --   tally-reading                      the reading of the votes is that of the blocks
---   Walked                             the walk after k vectors; walked-one, walked-new, walked-old, walked-done
+--   Walked                             the walk after k vectors; walked-first, walked-yes, walked-no, walked-last
 use Prim.Native.Nat.{ℕ, _+_, _≤_, _<_}
 use mathlib.Core.Path.{_≡_, refl, sym, ap, ap₂, _∙_}
 use mathlib.Core.Bool.{Bool, true, false, cond}
@@ -44,8 +44,8 @@ code-inj u v a b e =
 
 -- ---- votes
 
-pub tally-none : (has : ℕ → Vector) → Tally has 0 (replicate 1089 0)
-tally-none has = record { long = refl; each = λ v h. getD-replicate 1089 (code v) 0 0 (code-below v h) ∙ sym (votes-none has v) }
+pub tally-first : (has : ℕ → Vector) → Tally has 0 (replicate 1089 0)
+tally-first has = record { long = refl; each = λ v h. getD-replicate 1089 (code v) 0 0 (code-below v h) ∙ sym (votes-none has v) }
 
 pub tally-more : (has : ℕ → Vector) (n : ℕ) (l : List ℕ) (v : Vector) → v ≡ has n → Within 16 v → Tally has n l
     → Tally has (n + 1) (set l (code v) (getD l (code v) 0 + 1))
@@ -84,8 +84,12 @@ pub record Walked (l : List ℕ) (k : ℕ) (best : Vector) (most : ℕ) : Type 0
   pub lead : best ≡ preferred (mostTo (votesAt l) k)
   pub has : most ≡ votesAt l (mostTo (votesAt l) k)
 
-pub walked-one : (l : List ℕ) (best : Vector) (most : ℕ) → best ≡ preferred 0 → most ≡ getD l (code best) 0 → Walked l 1 best most
-walked-one l best most e g = record { below = omega arith; lead = rw (most-one (votesAt l)) e; has = rw (most-one (votesAt l)) (g ∙ ap (λ (v : Vector). getD l (code v) 0) e) }
+pub walked-first : (l : List ℕ) (best : Vector) (most : ℕ) → best ≡ preferred 0 → most ≡ getD l (code best) 0 → Walked l 1 best most
+walked-first l best most e g = record {
+  below = omega arith;
+  lead = rw (most-one (votesAt l)) e;
+  has = rw (most-one (votesAt l)) (g ∙ ap (λ (v : Vector). getD l (code v) 0) e);
+}
 
 module _ {l : List ℕ} {k : ℕ} {best : Vector} {most : ℕ} (s : Walked l k best most) (h : k < 1089) (v : Vector) (x : ℕ)
     (e : v ≡ preferred k) (g : x ≡ getD l (code v) 0)
@@ -93,16 +97,16 @@ module _ {l : List ℕ} {k : ℕ} {best : Vector} {most : ℕ} (s : Walked l k b
     next-is : x ≡ votesAt l k
     next-is = g ∙ ap (λ (u : Vector). getD l (code u) 0) e
 
-    pub walked-new : most < x → Walked l (k + 1) v x
-    walked-new m =
+    pub walked-yes : most < x → Walked l (k + 1) v x
+    walked-yes m =
         let i = most-yes (votesAt l) k (omega (arith, next-is, s .has)) in
         record { below = omega arith; lead = rw (← i) e; has = rw (← i) next-is }
 
-    pub walked-old : x ≤ most → Walked l (k + 1) best most
-    walked-old m =
+    pub walked-no : x ≤ most → Walked l (k + 1) best most
+    walked-no m =
         let i = most-no (votesAt l) k (omega (arith, next-is, s .has)) in
         record { below = omega arith; lead = rw (← i) (s .lead); has = rw (← i) (s .has) }
 
-pub walked-done : {l : List ℕ} {best : Vector} {most : ℕ} → Walked l 1089 best most → record { dy = best .dy; dx = best .dx; votes = most } ≡ readingIn l
+pub walked-last : {l : List ℕ} {best : Vector} {most : ℕ} → Walked l 1089 best most → record { dy = best .dy; dx = best .dx; votes = most } ≡ readingIn l
 unfolding readingIn
-walked-done s = rw (s .lead, s .has)
+walked-last s = rw (s .lead, s .has)

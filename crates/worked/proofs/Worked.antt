@@ -40,7 +40,8 @@ use Rattle.log_reading.specs.Reading.{fieldOf, logRead, readLog}
 use Rattle.put.specs.Digits.{digits}
 use Rattle.log_line.specs.Line.{numberText, spaced, endWord, refusedWord, atWord, worded}
 use Rattle.log_text.specs.Text.{printLog}
-use Rattle.worked.specs.Table.{pairA, pairB, pairC, pairD, Query, search, measuring, distance, everyBlock, travelling, calls, writing, reading, walking, printing, Answer, found, filled, travels, results, answer, Row, Right, table}
+use Rattle.worked.specs.Table.{pairA, pairB, pairC, pairD, Query, search, measuring, distance, everyBlock, travelling, calls, writing, reading}
+use Rattle.worked.specs.Table.{walking, printing, Answer, found, filled, travels, results, answer, Row, Right, table}
 use Rattle.worked.proofs.Places.{walkPlaces, after}
 use Rattle.worked.proofs.Alike.{every, allAlike}
 use Rattle.worked.proofs.Once.{blockOnce, block-once, fieldOnce, field-once, travelOnce, travel-once, runOnce, run-once}

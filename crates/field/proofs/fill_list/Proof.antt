@@ -14,7 +14,7 @@ use Rattle.refusals.specs.Refusals.{sizesOf, requested}
 use Rattle.reading.proofs.Tally.{tally-room}
 use Rattle.field_block.specs.Blocks.{searchAt}
 use Rattle.field.specs.Filling.{BlocksFilled}
-use Rattle.field.proofs.Turns.{filled-none, filled-few, filled-more}
+use Rattle.field.proofs.Turns.{filled-first, filled-few, filled-more}
 use Rattle.field.proofs.fill_list.Statement.{statement}
 use Rattle.field.proofs.fill_list.Tie as tie
 
@@ -47,7 +47,7 @@ block-count-requires c κs = rw (c .sizes-of .ensures) (fitting (c .before .befo
 loop-holds : tie.Need-loop-holds Inv-loop μ-loop
 loop-holds c =
     let s = c .before .before .before .before .before in
-    (omega arith, c .block-count .ensures ∙ ap blocks (c .before .sizes-of .ensures), filled-none _ _ _ (s .pre .1 .1))
+    (omega arith, c .block-count .ensures ∙ ap blocks (c .before .sizes-of .ensures), filled-first _ _ _ (s .pre .1 .1))
 
 search-at-requires : tie.Need-search-at-requires Inv-loop μ-loop
 search-at-requires c κs = let s = start (c .before) in (s .pre .0 .0, s .pre .0 .1, omega (arith, c .before .loop .inv .1))

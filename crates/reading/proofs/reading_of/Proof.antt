@@ -6,7 +6,7 @@ use native.Mathlib.Omega.{arith}
 use borrow.Author.Needs.{needs, sfits-of}
 use mir.Facts.{toZ-ofZ}
 use Rattle.order.proofs.Order.{inside}
-use Rattle.reading.proofs.Tally.{Walked, walked-one, walked-new, walked-old, walked-done}
+use Rattle.reading.proofs.Tally.{Walked, walked-first, walked-yes, walked-no, walked-last}
 use Rattle.reading.proofs.reading_of.Statement.{statement}
 use Rattle.reading.proofs.reading_of.Tie as tie
 
@@ -29,7 +29,7 @@ element-copy-out-most : tie.Need-element-copy-out-most Inv-loop μ-loop
 element-copy-out-most c = search needs
 
 loop-holds : tie.Need-loop-holds Inv-loop μ-loop
-loop-holds c = walked-one _ _ _ (c .before .before .vector-at .ensures) (rw (c .before .code-of .ensures .0))
+loop-holds c = walked-first _ _ _ (c .before .before .vector-at .ensures) (rw (c .before .code-of .ensures .0))
 
 vector-at-requires-2 : tie.Need-vector-at-requires-2 Inv-loop μ-loop
 vector-at-requires-2 c κs = search needs
@@ -55,8 +55,8 @@ loop-again c =
     let t = c .before .before .before .before .loop-test .taken in
     let v = c .before .before .before .vector-at2 .ensures in
     ⊎-elim
-    (λ w. rw (w .1, w .2) (walked-new (l .inv) t _ _ v (rw (c .before .before .code-of2 .ensures .0)) (w .0 .taken)))
-    (λ w. rw (w .1, w .2) (walked-old (l .inv) t _ _ v (rw (c .before .before .code-of2 .ensures .0)) (w .0 .left)))
+    (λ w. rw (w .1, w .2) (walked-yes (l .inv) t _ _ v (rw (c .before .before .code-of2 .ensures .0)) (w .0 .taken)))
+    (λ w. rw (w .1, w .2) (walked-no (l .inv) t _ _ v (rw (c .before .before .code-of2 .ensures .0)) (w .0 .left)))
     (c .if1 .came)
 
 returns : tie.Need-returns Inv-loop μ-loop
@@ -64,7 +64,7 @@ returns c =
     let l = c .before .before .loop in
     let e : l .k ≡ 1089 = omega arith in
     rw (toZ-ofZ {z = l .best .dy} (sfits-of (c .struct-told .given .0 .1)), toZ-ofZ {z = l .best .dx} (sfits-of (c .struct-told .given .1 .0 .1)))
-    (walked-done (rw e at (l .inv)))
+    (walked-last (rw e at (l .inv)))
 
 pub reading-of-spec : {M : Type 1} → statement M
 reading-of-spec =

@@ -1,4 +1,4 @@
--- `refused_step`: the refused field's answer beside the old track.
+-- `unmoved`: the refused field's answer beside the old track.
 use borrow.Author.Needs.{needs}
 use Rattle.track.proofs.unmoved.Statement.{statement}
 use Rattle.track.proofs.unmoved.Tie as tie
