@@ -8,7 +8,8 @@ ghost use lib.ListN.{length};
 ghost use Rattle.log_command.specs.declared.Command.the-variants as Cmd;
 ghost use Rattle.log_command.specs.Commands.{commandSize};
 ghost use Rattle.log_head.specs.Heads.{headRefusal, headBlocks};
-ghost use Rattle.log.specs.Step.{headDue, blockTaken, blockDue, stillDue, endDue, startCommand, bodyCommand, afterEnd, standingOk, refusedStep, commandStep, stepOf, bodyStep, stepAt, startCursor};
+ghost use Rattle.log.specs.Step.{headDue, blockTaken, blockDue, stillDue, endDue, startCommand, bodyCommand, afterEnd};
+ghost use Rattle.log.specs.Step.{standingOk, refusedStep, commandStep, stepOf, bodyStep, stepAt, startCursor};
 use log_command::Command;
 use log_head::Head;
 

@@ -28,7 +28,8 @@ unfolding numberText
 number-kept (pos n) after h = refl
 number-kept (negsuc n) after h = absurd (omega arith)
 
-pub word-more : {l m n : List ℕ} {i j k : ℕ} (word : List ℕ) (e : ℕ) → e < length word → Put l i (take e word) m j → Put m j (getD word e 0 ∷ []) n k → Put l i (take (e + 1) word) n k
+pub word-more : {l m n : List ℕ} {i j k : ℕ} (word : List ℕ) (e : ℕ) → e < length word → Put l i (take e word) m j → Put m j (getD word e 0 ∷ []) n k
+    → Put l i (take (e + 1) word) n k
 word-more word e h a b = rw (add-one, take-suc word e 0) (put-then a b)
 
 -- a command that is no refusal and has number 3

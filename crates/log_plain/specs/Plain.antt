@@ -1,10 +1,10 @@
 -- A walk's cursor and commands as plain numbers, for callers that have no enums.
 --   phaseOf, cursorOf   the cursor that plain numbers stand for: phase 0 before the head, 1 among the blocks, 2 after the end, any other after a refusal
---   plainOf             a cursor as plain numbers; where a phase has no head and no blocks they are 0
---   answerOf              01's number and values of each case of a command, beside the cursor after it
---   walkFrom          one call of the walker
+--   plainIn, plainOf    a cursor as plain numbers; where a phase has no head and no blocks they are 0
+--   answerOf            01's number and values of each case of a command, beside the cursor after it
+--   walkFrom            one call of the walker
 --   answersFrom         the answers that a caller sees who hands `next` back until a refusal, in so many calls at most
---   CommandsOf                answers that tell these commands, one each and in order, whatever place is beside each
+--   CommandsOf          answers that tell these commands, one each and in order, whatever place is beside each
 use Prim.Native.Nat.{ℕ, zero, suc}
 use mathlib.Core.Path.{_≡_, refl}
 use mathlib.Core.List.{List, [], _∷_}
@@ -31,24 +31,24 @@ phaseOf phase h blocks = cond (eqb phase 0) Start (cond (eqb phase 1) (Body h bl
 abbrev pub cursorOf : Place → Cursor
 cursorOf p = record { at = p .at; phase = phaseOf (p .phase) (p .head) (p .blocks) }
 
-abbrev pub place : ℕ → ℕ → Head → ℕ → Place
-place at phase h blocks = record { at = at; phase = phase; head = h; blocks = blocks }
+abbrev pub plainNumbers : ℕ → ℕ → Head → ℕ → Place
+plainNumbers at phase h blocks = record { at = at; phase = phase; head = h; blocks = blocks }
 
-abbrev pub placed : ℕ → Phase → Place
-placed at Start = place at 0 noHead 0
-placed at (Body h blocks) = place at 1 h blocks
-placed at Ended = place at 2 noHead 0
-placed at Over = place at 3 noHead 0
+abbrev pub plainIn : ℕ → Phase → Place
+plainIn at Start = plainNumbers at 0 noHead 0
+plainIn at (Body h blocks) = plainNumbers at 1 h blocks
+plainIn at Ended = plainNumbers at 2 noHead 0
+plainIn at Over = plainNumbers at 3 noHead 0
 
 abbrev pub plainOf : Cursor → Place
-plainOf c = placed (c .at) (c .phase)
+plainOf c = plainIn (c .at) (c .phase)
 
 -- the plain numbers of a cursor stand for it: a walk goes on as it would
 pub cursor-plain : (c : Cursor) → cursorOf (plainOf c) ≡ c
 unfolding phaseOf
 cursor-plain c = go (c .at) (c .phase)
   where
-    go : (at : ℕ) (p : Phase) → cursorOf (placed at p) ≡ record { at = at; phase = p }
+    go : (at : ℕ) (p : Phase) → cursorOf (plainIn at p) ≡ record { at = at; phase = p }
     go at Start = refl
     go at (Body h blocks) = refl
     go at Ended = refl

@@ -1,6 +1,6 @@
 -- 01, "Log": "A walker over a lent log hands out one command a call." A walker is the lent log and a cursor; what a call hands out, and where the walker then
 -- stands, is `stepAt` of log/specs/Step.antt, for a walker built by hand too.
---   told       what a call hands out
+--   nextCommand  what a call hands out
 --   nextWalker   the walker after it: the same lent log, at the next cursor
 use denote.Ref.{now}
 use Rattle.log_command.specs.declared.Command.{Command}

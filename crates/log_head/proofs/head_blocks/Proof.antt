@@ -1,4 +1,4 @@
--- `grid`: the sizes of an accepted head fit.
+-- `head_blocks`: the sizes of an accepted head fit.
 use mathlib.Core.Path.{refl}
 use borrow.Author.Needs.{needs}
 use Rattle.frame.specs.Grid.{blocks-few}

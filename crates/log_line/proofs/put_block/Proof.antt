@@ -22,8 +22,13 @@ same-length c = search needs
 returns : tie.Need-returns
 unfolding worded spaced
 returns c =
-    let s = c .before .before .before .before .before .before .before .before .before .before .before .before .before in
-    (put-then (simp (toZ-ofZ (s .fits .dy)) at (c .before .before .before .before .before .before .before .before .before .before .put-signed .ensures .0)) (put-then (simp (toZ-ofZ (s .fits .dx)) at (c .before .before .before .before .before .before .put-signed2 .ensures .0)) (c .before .before .put-field .ensures .0)), omega arith)
+    let d = c .before .before in
+    let x = d .before .before .before .before in
+    let y = x .before .before .before .before in
+    let s = y .before .before .before in
+    let dy = simp (toZ-ofZ (s .fits .dy)) at (y .put-signed .ensures .0) in
+    let dx = simp (toZ-ofZ (s .fits .dx)) at (x .put-signed2 .ensures .0) in
+    (put-then dy (put-then dx (d .put-field .ensures .0)), omega arith)
 
 pub put-block-spec : {M : Type 1} → statement M
 put-block-spec =

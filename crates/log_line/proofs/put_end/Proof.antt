@@ -20,7 +20,9 @@ same-length c = search needs
 
 returns : tie.Need-returns
 unfolding worded spaced endWord
-returns c = (put-then (c .before .before .before .before .before .before .put-word .ensures .0) (c .before .before .put-field .ensures .0), omega arith)
+returns c =
+    let n = c .before .before in
+    (put-then (n .before .before .before .before .put-word .ensures .0) (n .put-field .ensures .0), omega arith)
 
 pub put-end-spec : {M : Type 1} → statement M
 put-end-spec =

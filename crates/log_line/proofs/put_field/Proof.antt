@@ -11,14 +11,20 @@ put-number-requires : tie.Need-put-number-requires
 put-number-requires c κs = search needs
 
 put-byte-requires : tie.Need-put-byte-requires
-put-byte-requires c κs = omega (arith, c .before .before .before .put-number .ensures .place, digits-length 20 (c .before .before .before .before .before .before .args .n))
+put-byte-requires c κs =
+    let n = c .before .before .before in
+    omega (arith, n .put-number .ensures .place, digits-length 20 (n .before .before .before .args .n))
 
 same-length : tie.Need-same-length
 same-length c = search needs
 
 returns : tie.Need-returns
 unfolding numberText
-returns c = (put-then (c .before .before .before .before .before .before .put-number .ensures) (c .before .before .put-byte .ensures), omega (arith, digits-length 20 (c .before .before .before .before .before .before .before .before .before .args .n), c .before .before .before .before .before .before .put-number .ensures .place, c .before .before .put-byte .ensures .place))
+returns c =
+    let b = c .before .before in
+    let n = b .before .before .before .before in
+    let few = digits-length 20 (n .before .before .before .args .n) in
+    (put-then (n .put-number .ensures) (b .put-byte .ensures), omega (arith, few, n .put-number .ensures .place, b .put-byte .ensures .place))
 
 pub put-field-spec : {M : Type 1} → statement M
 put-field-spec = tie.close (tie.spec put-number-requires put-byte-requires same-length returns)

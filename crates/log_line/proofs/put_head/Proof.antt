@@ -29,7 +29,14 @@ same-length c = search needs
 
 returns : tie.Need-returns
 unfolding worded spaced
-returns c = (put-then (c .before .before .before .before .before .before .before .before .before .before .before .before .before .before .before .before .before .before .before .put-field .ensures .0) (put-then (c .before .before .before .before .before .before .before .before .before .before .before .before .before .before .before .put-field2 .ensures .0) (put-then (c .before .before .before .before .before .before .before .before .before .before .before .put-field3 .ensures .0) (put-then (c .before .before .before .before .before .before .before .put-field4 .ensures .0) (c .before .before .put-field5 .ensures .0)))), omega arith)
+returns c =
+    let e = c .before .before in
+    let d = e .before .before .before .before .before in
+    let b = d .before .before .before .before in
+    let a = b .before .before .before .before in
+    let z = a .before .before .before .before in
+    let last = put-then (d .put-field4 .ensures .0) (e .put-field5 .ensures .0) in
+    (put-then (z .put-field .ensures .0) (put-then (a .put-field2 .ensures .0) (put-then (b .put-field3 .ensures .0) last)), omega arith)
 
 pub put-head-spec : {M : Type 1} → statement M
 put-head-spec =

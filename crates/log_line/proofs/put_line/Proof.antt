@@ -80,7 +80,10 @@ same-length-5 : tie.Need-same-length-5
 same-length-5 c = search needs
 
 returns-6 : tie.Need-returns-6
-returns-6 c = (rw (c .before .before .before .before .before .before .command4 .given .1, ne-eqb _ _ (c .before .before .before .before .if1 .left)) (c .before .before .put-refused .ensures .0), omega arith)
+returns-6 c =
+    let w = c .before .before in
+    let e = w .before .before in
+    (rw (e .before .before .command4 .given .1, ne-eqb _ _ (e .if1 .left)) (w .put-refused .ensures .0), omega arith)
 
 pub put-line-spec : {M : Type 1} → statement M
 put-line-spec =

@@ -29,7 +29,13 @@ same-length c = search needs
 
 returns : tie.Need-returns
 unfolding worded spaced refusedWord atWord
-returns c = (put-then (put-then (c .before .before .before .before .before .before .before .before .before .before .before .before .before .before .before .put-word .ensures .0) (put-then (c .before .before .before .before .before .before .before .before .before .before .before .put-field .ensures .0) (c .before .before .before .before .before .before .put-word2 .ensures .0))) (c .before .before .put-field2 .ensures .0), omega arith)
+returns c =
+    let place = c .before .before in
+    let at = place .before .before .before .before in
+    let number = at .before .before .before .before .before in
+    let word = number .before .before .before .before in
+    let words = put-then (word .put-word .ensures .0) (put-then (number .put-field .ensures .0) (at .put-word2 .ensures .0)) in
+    (put-then words (place .put-field2 .ensures .0), omega arith)
 
 pub put-refused-spec : {M : Type 1} → statement M
 put-refused-spec =

@@ -30,11 +30,17 @@ same-length c = search needs
 
 returns : tie.Need-returns
 returns c =
-    let s = c .before .before .before .before .before .before .before .before .before .before .before in
-    let below : ltZ (s .args .z) (pos 0) ≡ true = simp (toZ-ofZ (s .fits .z)) at (c .before .before .before .before .before .before .before .before .if1 .taken) in
-    let h : 0 < dn (s .args .z) = omega (arith, ints, parts (s .args .z)) in
-    let m : c .before .before .before .before .before .before .before .before .before .magnitude .result ≡ natAbs (s .args .z) = simp (toZ-ofZ (s .fits .z)) at (c .before .before .before .before .before .before .before .before .before .magnitude .ensures) in
-    (rw (number-below (s .args .z) (s .args .after) h) (put-then (c .before .before .before .before .before .before .put-byte .ensures) (rw (sym m) (c .before .before .put-field .ensures .0))), omega (arith, c .before .before .before .before .before .before .put-byte .ensures .place))
+    let f = c .before .before in
+    let b = f .before .before .before .before in
+    let i = b .before .before in
+    let m = i .before in
+    let s = m .before .before in
+    let z = s .args .z in
+    let below : ltZ z (pos 0) ≡ true = simp (toZ-ofZ (s .fits .z)) at (i .if1 .taken) in
+    let h : 0 < dn z = omega (arith, ints, parts z) in
+    let e : m .magnitude .result ≡ natAbs z = simp (toZ-ofZ (s .fits .z)) at (m .magnitude .ensures) in
+    let sign = b .put-byte .ensures in
+    (rw (number-below z (s .args .after) h) (put-then sign (rw (sym e) (f .put-field .ensures .0))), omega (arith, sign .place))
 
 put-field-requires-2 : tie.Need-put-field-requires-2
 put-field-requires-2 c κs = search needs
@@ -44,11 +50,15 @@ same-length-2 c = search needs
 
 returns-2 : tie.Need-returns-2
 returns-2 c =
-    let s = c .before .before .before .before .before .before .before in
-    let kept : ltZ (s .args .z) (pos 0) ≡ false = simp (toZ-ofZ (s .fits .z)) at (c .before .before .before .before .if1 .left) in
-    let h : dn (s .args .z) ≡ 0 = omega (arith, ints, parts (s .args .z)) in
-    let m : c .before .before .before .before .before .magnitude .result ≡ natAbs (s .args .z) = simp (toZ-ofZ (s .fits .z)) at (c .before .before .before .before .before .magnitude .ensures) in
-    (rw (number-kept (s .args .z) (s .args .after) h, sym m) (c .before .before .put-field2 .ensures .0), omega arith)
+    let f = c .before .before in
+    let i = f .before .before in
+    let m = i .before in
+    let s = m .before .before in
+    let z = s .args .z in
+    let kept : ltZ z (pos 0) ≡ false = simp (toZ-ofZ (s .fits .z)) at (i .if1 .left) in
+    let h : dn z ≡ 0 = omega (arith, ints, parts z) in
+    let e : m .magnitude .result ≡ natAbs z = simp (toZ-ofZ (s .fits .z)) at (m .magnitude .ensures) in
+    (rw (number-kept z (s .args .after) h, sym e) (f .put-field2 .ensures .0), omega arith)
 
 pub put-signed-spec : {M : Type 1} → statement M
 put-signed-spec =

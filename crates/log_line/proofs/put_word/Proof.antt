@@ -32,11 +32,12 @@ loop-less c = omega arith
 
 loop-again : tie.Need-loop-again Inv-loop μ-loop
 loop-again c =
-    let l = c .before .before .before .before .before .before in
     let p = c .before .before in
-    let s = c .before .before .before .before .before .before .before .before .before in
+    let l = p .before .before .before .before in
+    let s = l .before .before .before in
     let lt : l .loop .i < length (s .args .word .now) = omega arith in
-    (omega arith, omega (arith, p .put-byte .ensures .place, l .loop .inv), p .put-byte .kept .0 ∙ l .loop .inv .2, word-more _ _ lt (l .loop .inv .3) (p .put-byte .ensures))
+    let i = l .loop .inv in
+    (omega arith, omega (arith, p .put-byte .ensures .place, i), p .put-byte .kept .0 ∙ i .2, word-more _ _ lt (i .3) (p .put-byte .ensures))
 
 same-length : tie.Need-same-length Inv-loop μ-loop
 same-length c = c .before .loop .inv .2

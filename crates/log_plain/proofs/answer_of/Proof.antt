@@ -1,4 +1,4 @@
--- `told_of`: case by case.
+-- `answer_of`: case by case.
 use mathlib.Core.Path.{_≡_}
 use borrow.Author.Needs.{needs}
 use mir.Syntax.{w32}

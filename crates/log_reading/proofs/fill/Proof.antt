@@ -1,6 +1,7 @@
 -- `fill`: what is left of the walk, stored from here on, makes the whole.
 use Prim.Native.Nat.{_+_, _≤_, _<_}
-use mathlib.Core.Path.{_≡_, _∙_}
+use mathlib.Core.Path.{_≡_, sym, _∙_}
+use mathlib.Core.Bool.{true, false}
 use native.Mathlib.Omega.{arith}
 use borrow.Author.Needs.{needs}
 use mathlib.Core.List.{flatMap}
@@ -15,10 +16,24 @@ use Rattle.log_reading.proofs.fill.Statement.{statement}
 use Rattle.log_reading.proofs.fill.Tie as tie
 
 abbrev Inv-loop : tie.InvT-loop
-Inv-loop log list₀ cursor₀ at₀ left₀ list cursor at left = (left ≤ length log + 1) × StillToPut list at (fieldOf (commandsFrom left log cursor)) list₀ 0 (fieldOf (walk log))
+Inv-loop log list₀ cursor₀ at₀ left₀ list cursor at left =
+    (left ≤ length log + 1) × StillToPut list at (fieldOf (commandsFrom left log cursor)) list₀ 0 (fieldOf (walk log))
 
 abbrev μ-loop : tie.MeasureT-loop
 μ-loop log list₀ cursor₀ at₀ left₀ list cursor at left = left
+
+-- a turn: where it has stored its command, where it made its call, where it began
+abbrev stored-there : tie.After-is-refused Inv-loop μ-loop → tie.After-store Inv-loop μ-loop
+stored-there c = c .before .before
+
+abbrev called : tie.After-is-refused Inv-loop μ-loop → tie.After-step-at Inv-loop μ-loop
+called c = stored-there c .before .before .before
+
+abbrev began : tie.After-is-refused Inv-loop μ-loop → tie.At-loop Inv-loop μ-loop
+began c = called c .before .before
+
+abbrev start : tie.At-loop Inv-loop μ-loop → tie.Start Inv-loop μ-loop
+start l = l .before .before .before
 
 start-requires : tie.Need-start-requires Inv-loop μ-loop
 start-requires c κs = search needs
@@ -38,22 +53,25 @@ store-requires c κs =
     let l = c .before .before .before .before .loop in
     let s = c .before .before .step-at in
     let some : 0 < l .left = omega arith in
-    (omega (arith, store-room (l .left) _ (l .cursor) (s .result) some (s .ensures), l .inv .1, c .before .before .before .before .before .before .before .pre), rw (s .ensures) (step-fits _ (l .cursor)))
+    let room = store-room (l .left) _ (l .cursor) (s .result) some (s .ensures) in
+    (omega (arith, room, l .inv .1, start (c .before .before .before .before) .pre), rw (s .ensures) (step-fits _ (l .cursor)))
 
 is-refused-requires : tie.Need-is-refused-requires Inv-loop μ-loop
 is-refused-requires c κs = search needs
 
 same-length : tie.Need-same-length Inv-loop μ-loop
-same-length c = c .before .before .before .store .kept .0 ∙ c .before .before .before .before .before .before .before .before .loop .inv .1 .long
+same-length c = stored-there (c .before) .store .kept .0 ∙ began (c .before) .loop .inv .1 .long
 
 returns : tie.Need-returns Inv-loop μ-loop
 unfolding fieldOf flatMap
 returns c =
-    let l = c .before .before .before .before .before .before .before .before .loop in
-    let s = c .before .before .before .before .before .before .step-at in
+    let l = began (c .before) .loop in
+    let s = called (c .before) .step-at in
     let r = c .before .is-refused in
+    let w = stored-there (c .before) .store .ensures in
     let some : 0 < l .left = omega arith in
-    stored (rw (c .if1 .taken) at (turn blockValues (l .left) _ (l .cursor) (s .result) (r .result) some (s .ensures) (r .ensures) (l .inv .1) (c .before .before .before .store .ensures))) (c .before .before .before .before .before .before .before .before .before .before .before .pre)
+    stored (turn blockValues (l .left) _ (l .cursor) (s .result) true some (s .ensures) (sym (c .if1 .taken) ∙ r .ensures) (l .inv .1) w)
+    (start (began (c .before)) .pre)
 
 sub-left : tie.Need-sub-left Inv-loop μ-loop
 sub-left c = search needs
@@ -64,11 +82,12 @@ loop-less c = search needs
 loop-again : tie.Need-loop-again Inv-loop μ-loop
 unfolding fieldOf
 loop-again c =
-    let l = c .before .before .before .before .before .before .before .before .loop in
-    let s = c .before .before .before .before .before .before .step-at in
+    let l = began (c .before) .loop in
+    let s = called (c .before) .step-at in
     let r = c .before .is-refused in
+    let w = stored-there (c .before) .store .ensures in
     let some : 0 < l .left = omega arith in
-    (omega arith, rw (c .if1 .left) at (turn blockValues (l .left) _ (l .cursor) (s .result) (r .result) some (s .ensures) (r .ensures) (l .inv .1) (c .before .before .before .store .ensures)))
+    (omega arith, turn blockValues (l .left) _ (l .cursor) (s .result) false some (s .ensures) (sym (c .if1 .left) ∙ r .ensures) (l .inv .1) w)
 
 same-length-2 : tie.Need-same-length-2 Inv-loop μ-loop
 same-length-2 c = c .before .loop .inv .1 .long
