@@ -61,7 +61,8 @@ unfolding searchRefusal
 search-fine older newer q y x e down across = first-refusal-none (requestRefusal older newer q) _ e ∙ rw (le-leb _ _ down, le-leb _ _ across)
 
 module _ (older newer : List ℕ) (q : Request) (y x : ℕ) where
-  pub block-refused : (searchRefusal (length older) (length newer) q y x ≡ 0 → ⊥) → searchBlock older newer q y x ≡ refusedSearch (searchRefusal (length older) (length newer) q y x)
+  pub block-refused : (searchRefusal (length older) (length newer) q y x ≡ 0 → ⊥)
+      → searchBlock older newer q y x ≡ refusedSearch (searchRefusal (length older) (length newer) q y x)
   unfolding searchBlock
   block-refused h = rw (ne-eqb _ 0 h)
 

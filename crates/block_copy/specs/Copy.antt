@@ -17,12 +17,14 @@ unfolding blockCopy
 length-copy newer width a n = length-concatTo _ n (λ i. length-listTo _ n) n
 
 -- a copied block has the distortion of the block
-pub copy-rows : (μ : Measure) (older newer : List ℕ) (width a b n : ℕ) → rowsApart μ older (blockCopy newer width a n) n width 0 b n n ≡ rowsFrom μ older newer width a b n n
+pub copy-rows : (μ : Measure) (older newer : List ℕ) (width a b n : ℕ)
+    → rowsApart μ older (blockCopy newer width a n) n width 0 b n n ≡ rowsFrom μ older newer width a b n n
 unfolding rowFrom blockCopy
 copy-rows μ older newer width a b n =
     sumOver-ext n n _ _ (λ i j hi hj. ap₂ (μ .diff) (pel-is i j hi hj) refl)
   where
-    pel-is : (i j : ℕ) → i < n → j < n → getD (concatTo (λ i. listTo (λ j. getD newer (a + i * width + j) 0) n) n) (0 + i * n + j) 0 ≡ getD newer (a + i * width + j) 0
+    pel-is : (i j : ℕ) → i < n → j < n
+        → getD (concatTo (λ i. listTo (λ j. getD newer (a + i * width + j) 0) n) n) (0 + i * n + j) 0 ≡ getD newer (a + i * width + j) 0
     pel-is i j hi hj =
         rw zero-add
         (getD-concatTo (λ i. listTo (λ j. getD newer (a + i * width + j) 0) n) n (λ i. length-listTo _ n) n i j 0 hi hj

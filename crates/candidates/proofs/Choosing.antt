@@ -20,7 +20,8 @@ pub choosing-first : {D : ℕ → ℕ} {remaining : List ℕ} {best : Chosen} {b
 choosing-first {D} {remaining} listed some e f =
     record { cost = f; first = e ∙ least-of-one D remaining (omega (arith, listed .long)); small = listed-at listed some e .0 }
 
-pub choosing-more : {D : ℕ → ℕ} {remaining : List ℕ} {i : ℕ} {best : Chosen} {b : SearchBlock} {count k d : ℕ} → ListedCandidates b remaining count → 0 < i → i < count
+pub choosing-more : {D : ℕ → ℕ} {remaining : List ℕ} {i : ℕ} {best : Chosen} {b : SearchBlock} {count k d : ℕ} → ListedCandidates b remaining count → 0 < i
+    → i < count
     → Choice D remaining i best → k ≡ getD remaining i 0 → UpTo (best .distortion) (D k) d → Choice D remaining (i + 1) (improved best k d)
 unfolding improved
 choosing-more {D} {remaining} {i} {best} {b} {count} {k} {d} listed some l s e f = go (ltb d (best .distortion)) refl

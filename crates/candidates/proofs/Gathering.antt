@@ -14,7 +14,8 @@ use Rattle.candidates.specs.Gathered.{candidateAt, Front}
 front-none : (old : List ℕ) → Front [] old old 0
 front-none old = record { many = refl; list = refl }
 
-front-next : {ks old remaining : List ℕ} {count : ℕ} (k : ℕ) → Front ks old remaining count → count < length old → Front (ks ++ (k ∷ [])) old (set remaining count k) (count + 1)
+front-next : {ks old remaining : List ℕ} {count : ℕ} (k : ℕ) → Front ks old remaining count → count < length old
+    → Front (ks ++ (k ∷ [])) old (set remaining count k) (count + 1)
 front-next {ks} {old} {remaining} {count} k f h = record {
   many = omega (arith, f .many, length-append ks (k ∷ []));
   list = rw (f .list) (front-more ks old count k (sym (f .many)) h);
@@ -43,7 +44,8 @@ unfolding pick listTo
 pick-every p zero each = refl
 pick-every p (suc n) each = rw (each n (omega arith), pick-every p n (λ k h. each k (omega arith)))
 
-pub gathered-every : (b : SearchBlock) (old remaining : List ℕ) → length old ≡ 1089 → ((k : ℕ) → k < 1089 → candidateAt b k ≡ true) → remaining ≡ listTo (λ k. k) 1089
+pub gathered-every : (b : SearchBlock) (old remaining : List ℕ) → length old ≡ 1089 → ((k : ℕ) → k < 1089 → candidateAt b k ≡ true)
+    → remaining ≡ listTo (λ k. k) 1089
     → Front (pick (candidateAt b) 1089) old remaining 1089
 gathered-every b old remaining long each e =
     rw (pick-every (candidateAt b) 1089 each)

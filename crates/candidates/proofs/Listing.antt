@@ -27,7 +27,8 @@ pub listed-at : {b : SearchBlock} {remaining : List ℕ} {count i k : ℕ} → L
 listed-at listed h e = rw e (listed .each _ h)
 
 -- places that stand in front of remaining are candidates where all of ks are
-pub listed-front : (b : SearchBlock) (remaining ks : List ℕ) (count : ℕ) → length remaining ≡ 1089 → length ks ≡ count → take count remaining ≡ ks → count ≤ 1089
+pub listed-front : (b : SearchBlock) (remaining ks : List ℕ) (count : ℕ) → length remaining ≡ 1089 → length ks ≡ count → take count remaining ≡ ks
+    → count ≤ 1089
     → ((k : ℕ) → k ∈ ks → k ∈ pick (candidateAt b) 1089) → ListedCandidates b remaining count
 listed-front b remaining ks count long many front few from = record {
   long = long;

@@ -48,7 +48,8 @@ rows-up-to μ ceiling older newer width a b n groups d e = rw (e, mul-comm 4 gro
         ∙ sumOver-ext groups 4 _ _ (λ g i hg hi. ap₂ (λ (p q : ℕ). rowFrom μ older newer p q n) (place a g i) (place b g i))
 
 -- N rows are N / 4 groups of four
-pub by-four : (older newer : List ℕ) (width n a b m groups : ℕ) → BlockRows older newer width n a b → n ≡ m → m ≡ 4 * groups → groups ≤ 256 → Rows older newer width a b m groups
+pub by-four : (older newer : List ℕ) (width n a b m groups : ℕ) → BlockRows older newer width n a b → n ≡ m → m ≡ 4 * groups → groups ≤ 256
+    → Rows older newer width a b m groups
 by-four older newer width n a b m groups k e four few =
     let rows : n * width ≡ 4 * groups * width = rw (e, four) in
     record { in-newer = omega (arith, k .in-newer); in-older = omega (arith, k .in-older); wide = k .wide; thin = omega arith; few = few }

@@ -81,7 +81,8 @@ pub fn distortion_from(
     ceiling: u32,
 ) -> u32
     requires { ⌜ BlockRows (now older) (now newer) width n a b ⌝ }
-    ensures { λ d. ⌜ UpTo ceiling (rowsFrom absolute (now (older .entry)) (now (newer .entry)) width a b n n) d × (d ≤ n * (n * 255)) × (d ≡ rowsUpTo absolute ceiling (now (older .entry)) (now (newer .entry)) width a b n (n / 4)) ⌝ }
+    ensures { λ d. ⌜ UpTo ceiling (rowsFrom absolute (now (older .entry)) (now (newer .entry)) width a b n n) d × (d ≤ n * (n * 255))
+        × (d ≡ rowsUpTo absolute ceiling (now (older .entry)) (now (newer .entry)) width a b n (n / 4)) ⌝ }
 {
     if n == 16 {
         return rows_by_four(older, newer, width, a, b, 16, 4, ceiling);
@@ -103,7 +104,8 @@ pub fn block_distortion(
     c: usize,
 ) -> u32
     requires { ⌜ Comparable (now older) (now newer) s y x r c ⌝ }
-    ensures { λ d. ⌜ (d ≡ distortionBy absolute (s .n) (blockAt (now (newer .entry)) (s .width) y x) (blockAt (now (older .entry)) (s .width) r c)) × (d ≤ s .n * (s .n * 255)) ⌝ }
+    ensures { λ d. ⌜ (d ≡ distortionBy absolute (s .n) (blockAt (now (newer .entry)) (s .width) y x) (blockAt (now (older .entry)) (s .width) r c))
+        × (d ≤ s .n * (s .n * 255)) ⌝ }
 {
     let width = s.width;
     let a = y * width + x;

@@ -16,7 +16,8 @@ use Rattle.candidates.proofs.Older.{comparable, by-rows}
 use Rattle.full.specs.Full.{CopyOf}
 
 module _ (older newer : List ℕ) (b : SearchBlock) (k : ℕ) where
-  pub by-copy : (block : List ℕ) → CopyOf newer b block → rowsApart absolute older block 16 (b .sizes .width) 0 (beginsAt b k) 16 16 ≡ distortionOf older newer b k
+  pub by-copy : (block : List ℕ) → CopyOf newer b block
+      → rowsApart absolute older block 16 (b .sizes .width) 0 (beginsAt b k) 16 16 ≡ distortionOf older newer b k
   by-copy block c =
       let width = b .sizes .width in
       let here = b .y * width + b .x in

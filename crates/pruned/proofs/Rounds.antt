@@ -106,7 +106,8 @@ module _ {e : ℕ} {D : ℕ → ℕ} {d : ℕ → ℕ → ℕ} {N : ℕ} {p : �
       (ap (λ (cs : List ℕ). searchResult (preferred (leastOf D (g .state .left))) (D (leastOf D (g .state .left))) cs (length (g .state .dropped))) five)
 
 -- those that remain are candidates
-pub going-listed : {e : ℕ} {D : ℕ → ℕ} {d : ℕ → ℕ → ℕ} {N : ℕ} {b : SearchBlock} {m : ℕ} {remaining dist : List ℕ} {r : PruneState} → Going e D d N (candidateAt b) m remaining dist r → ListedCandidates b remaining (r .count)
+pub going-listed : {e : ℕ} {D : ℕ → ℕ} {d : ℕ → ℕ → ℕ} {N : ℕ} {b : SearchBlock} {m : ℕ} {remaining dist : List ℕ} {r : PruneState}
+    → Going e D d N (candidateAt b) m remaining dist r → ListedCandidates b remaining (r .count)
 going-listed {b = b} {remaining = remaining} {r = r} g =
     listed-front b remaining (g .state .left) (r .count) (g .held .long) (g .held .many) (g .held .left) (omega (arith, going-few g, pick-few (candidateAt b) 1089)) (λ k i. g .holds .left-from i)
 

@@ -33,7 +33,8 @@ pub record InMemory (z : ℕ) (s : Pruning) (remaining : List ℕ) (r : PruneSta
 
 -- E lowered to the distortion of the nearest
 pub lower-done : (D : ℕ → ℕ) (d : ℕ → ℕ → ℕ) (m : ℕ) {z : ℕ} {s : Pruning} {remaining dist : List ℕ} {r : PruneState} → InMemory z s remaining r → 1 < r .count
-    → r .count ≤ length remaining → Stored (d m) remaining (r .count) dist → InMemory z (lower D d m s) remaining (bounded (D (nearestOf remaining (r .count) dist)) r)
+    → r .count ≤ length remaining → Stored (d m) remaining (r .count) dist
+    → InMemory z (lower D d m s) remaining (bounded (D (nearestOf remaining (r .count) dist)) r)
 unfolding lower
 lower-done D d m {z} {s} {remaining} {dist} {r} h more few g =
     let near = nearest-filled (d m) remaining dist (r .count) g (omega arith) few ∙ ap (leastOf (d m)) (h .left) in
@@ -59,8 +60,10 @@ count-done {z} {s} {remaining} {r} h l =
     )
 
 -- those over E are gone
-pub sift-done : (d : ℕ → ℕ → ℕ) (m : ℕ) {z : ℕ} {s : Pruning} {remaining dist after : List ℕ} {r : PruneState} {k : ℕ} → InMemory z s remaining r → r .bound ≡ s .bound
-    → r .count ≤ length remaining → r .slot < 5 → Stored (d m) remaining (r .count) dist → Front (keptWithin (r .bound) remaining dist (r .count)) (swept (r .bound) remaining dist (r .count)) after k
+pub sift-done : (d : ℕ → ℕ → ℕ) (m : ℕ) {z : ℕ} {s : Pruning} {remaining dist after : List ℕ} {r : PruneState} {k : ℕ} → InMemory z s remaining r
+    → r .bound ≡ s .bound
+    → r .count ≤ length remaining → r .slot < 5 → Stored (d m) remaining (r .count) dist
+    → Front (keptWithin (r .bound) remaining dist (r .count)) (swept (r .bound) remaining dist (r .count)) after k
     → InMemory z (sift d (absolute .limit) m s) after (recounted k r)
 unfolding sift
 sift-done d m {z} {s} {remaining} {dist} {after} {r} {k} h e few l g f =
@@ -90,7 +93,8 @@ one-stays v l (k ∷ []) e h = stays (leb (v k) l) h
     stays false h = absurd (omega arith)
 one-stays v l (k ∷ j ∷ ks) e h = absurd (omega arith)
 
-sift-alone : (D : ℕ → ℕ) (d : ℕ → ℕ → ℕ) (m : ℕ) {z : ℕ} {s : Pruning} {remaining : List ℕ} {r : PruneState} → InMemory z s remaining r → r .count ≡ 1 → r .slot < 5
+sift-alone : (D : ℕ → ℕ) (d : ℕ → ℕ → ℕ) (m : ℕ) {z : ℕ} {s : Pruning} {remaining : List ℕ} {r : PruneState} → InMemory z s remaining r → r .count ≡ 1
+    → r .slot < 5
     → 0 < length (sift d (absolute .limit) m (lower D d m s) .left) → InMemory z (sift d (absolute .limit) m (lower D d m s)) remaining (testsCounted r)
 unfolding sift lower
 sift-alone D d m {z} {s} {remaining} {r} h one l some =
@@ -109,7 +113,8 @@ sift-alone D d m {z} {s} {remaining} {r} h one l some =
 -- ---- a resolution later
 
 -- wherever the search stood, if a candidate remains
-pub level-done : (D : ℕ → ℕ) (d : ℕ → ℕ → ℕ) (m : ℕ) {remaining dist after measured : List ℕ} {r q : PruneState} → Leveled D (d m) remaining dist r after measured q
+pub level-done : (D : ℕ → ℕ) (d : ℕ → ℕ → ℕ) (m : ℕ) {remaining dist after measured : List ℕ} {r q : PruneState}
+    → Leveled D (d m) remaining dist r after measured q
     → length dist ≡ 1089 → 0 < r .count → r .count ≤ 1089 → r .slot < 5 → (z : ℕ) (s : Pruning) → InMemory z s remaining r
     → 0 < length (sift d (absolute .limit) m (lower D d m s) .left) → InMemory z (sift d (absolute .limit) m (lower D d m s)) after q
 level-done D d m {remaining} {dist} {after} {measured} {r} {q} v wide one few room z s h some = ⊎-elim lone many (eq-or-lt-of-le one)

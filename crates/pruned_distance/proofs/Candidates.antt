@@ -195,7 +195,8 @@ module _ (older newer : List ℕ) (b : SearchBlock) (sums : List ℕ) (a : Regio
       place-is : (i j : ℕ) → (w .top - a .top + i) * (a .columns + 1) + (w .left - a .left + j) ≡ corner + i * (a .columns + 1) + j
       place-is i j = omega (arith, add-mul (w .top - a .top) i (a .columns + 1))
 
-      pub compared-corner-region : (i j : ℕ) → i < w .rows → j < w .columns → Compared block steps sums (m * (a .columns + 1)) m (k * k) (corner + i * (a .columns + 1) + j)
+      pub compared-corner-region : (i j : ℕ) → i < w .rows → j < w .columns
+          → Compared block steps sums (m * (a .columns + 1)) m (k * k) (corner + i * (a .columns + 1) + j)
       compared-corner-region i j hi hj = rw (place-is i j) at (compared-at (w .top - a .top + i) (w .left - a .left + j) (corner-region-is .down i hi) (corner-region-is .across j hj))
 
       module _ (i : ℕ) (h : i < count) where

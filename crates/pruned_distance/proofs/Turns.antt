@@ -27,6 +27,7 @@ filling-more {g} {count} {before} {dist} {i} v f h few e = record {
 }
 
 -- rows in front of what was there
-pub over-long : (f : ℕ → ℕ → ℕ) (rows columns : ℕ) (before after : List ℕ) → after ≡ inRows f rows columns ++ drop (rows * columns) before → rows * columns ≤ length before
+pub over-long : (f : ℕ → ℕ → ℕ) (rows columns : ℕ) (before after : List ℕ) → after ≡ inRows f rows columns ++ drop (rows * columns) before
+    → rows * columns ≤ length before
     → length after ≡ length before
 over-long f rows columns before after e h = rw e (length-over (inRows f rows columns) before (rows * columns) (length-in-rows f rows columns) h)

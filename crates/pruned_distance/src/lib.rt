@@ -47,7 +47,8 @@ fn fill_few(
     dist: &mut [u32; 1089],
 )
     requires { ⌜ (now order ≡ flat preference) × (length (now dist) ≡ 1089) × (length (now remaining) ≡ 1089) × (count ≤ 1089) ⌝ }
-    requires { ⌜ ((i : ℕ) → i < count → (getD (now remaining) i 0 < 1089) × Reached o (preferred (getD (now remaining) i 0)) × Compared (now block) (now steps) (now sums) rowoffset m squares (placeOf o (preferred (getD (now remaining) i 0)))) ⌝ }
+    requires { ⌜ ((i : ℕ) → i < count → (getD (now remaining) i 0 < 1089) × Reached o (preferred (getD (now remaining) i 0))
+        × Compared (now block) (now steps) (now sums) rowoffset m squares (placeOf o (preferred (getD (now remaining) i 0)))) ⌝ }
     ensures { λ _. ⌜ now (dist .exit) ≡ fillTo (now (dist .entry)) 0 (λ i. sumTo (differenceAt (now (block .entry)) (now (steps .entry)) (now (sums .entry)) rowoffset m (placeOf o (preferred (getD (now (remaining .entry)) i 0)))) squares) count ⌝ }
 {
     let mut i: usize = 0;
@@ -68,7 +69,8 @@ fn pick(
     dist: &mut [u32; 1089],
 )
     requires { ⌜ (now order ≡ flat preference) × (length (now dist) ≡ 1089) × (length (now remaining) ≡ 1089) × (length (now part) ≡ 1089) × (count ≤ 1089) ⌝ }
-    requires { ⌜ ((i : ℕ) → i < count → (getD (now remaining) i 0 < 1089) × Reached o (preferred (getD (now remaining) i 0)) × (placeOf o (preferred (getD (now remaining) i 0)) < 1089)) ⌝ }
+    requires { ⌜ ((i : ℕ) → i < count → (getD (now remaining) i 0 < 1089) × Reached o (preferred (getD (now remaining) i 0))
+        × (placeOf o (preferred (getD (now remaining) i 0)) < 1089)) ⌝ }
     ensures { λ _. ⌜ now (dist .exit) ≡ fillTo (now (dist .entry)) 0 (λ i. getD (now (part .entry)) (placeOf o (preferred (getD (now (remaining .entry)) i 0))) 0) count ⌝ }
 {
     let mut i: usize = 0;

@@ -64,7 +64,8 @@ nearest-mem remaining dist zero h = absurd (not-suc-le-zero h)
 nearest-mem remaining dist (suc n) h = (_, least-place (λ i. getD dist i 0) (λ i. getD dist i 0) (λ i. i) n (λ i k. refl) .0, refl)
 
 -- an array filled with f of the candidates
-pub filled-is : (f : ℕ → ℕ) (remaining before dist : List ℕ) (count : ℕ) → dist ≡ fillTo before 0 (λ i. f (getD remaining i 0)) count → length before ≡ 1089 → count ≤ 1089
+pub filled-is : (f : ℕ → ℕ) (remaining before dist : List ℕ) (count : ℕ) → dist ≡ fillTo before 0 (λ i. f (getD remaining i 0)) count → length before ≡ 1089
+    → count ≤ 1089
     → Stored f remaining count dist
 filled-is f remaining before dist count e h few = record {
   long = rw e (length-fill before 0 _ count (omega arith) ∙ h);
@@ -72,17 +73,20 @@ filled-is f remaining before dist count e h few = record {
 }
 
 module _ (f : ℕ → ℕ) (remaining dist : List ℕ) where
-  pub nearest-filled : (count : ℕ) → Stored f remaining count dist → 0 < count → count ≤ length remaining → nearestOf remaining count dist ≡ leastOf f (take count remaining)
+  pub nearest-filled : (count : ℕ) → Stored f remaining count dist → 0 < count → count ≤ length remaining
+      → nearestOf remaining count dist ≡ leastOf f (take count remaining)
   unfolding nearestOf
   nearest-filled zero g h few = absurd (not-suc-le-zero h)
   nearest-filled (suc n) g h few = rw (take-list remaining (suc n) few) (sym (least-place f (λ i. getD dist i 0) (λ i. getD remaining i 0) n (g .value) .1))
 
-  within-taken : (limit count : ℕ) → Stored f remaining count dist → (n : ℕ) → n ≤ count → n ≤ length remaining → keptWithin limit remaining dist n ≡ kept f limit (take n remaining)
+  within-taken : (limit count : ℕ) → Stored f remaining count dist → (n : ℕ) → n ≤ count → n ≤ length remaining
+      → keptWithin limit remaining dist n ≡ kept f limit (take n remaining)
   unfolding keptWithin kept
   within-taken limit count g zero h few = refl
   within-taken limit count g (suc n) h few =
       rw (within-taken limit count g n (omega arith) (omega arith), g .value n h)
       (sym (ap (λ (k : ℕ). kept f limit (take k remaining)) (sym (add-one n)) ∙ kept-take f limit remaining n few))
 
-  pub within-filled : (limit count : ℕ) → Stored f remaining count dist → count ≤ length remaining → keptWithin limit remaining dist count ≡ kept f limit (take count remaining)
+  pub within-filled : (limit count : ℕ) → Stored f remaining count dist → count ≤ length remaining
+      → keptWithin limit remaining dist count ≡ kept f limit (take count remaining)
   within-filled limit count g few = within-taken limit count g count (le-refl count) few

@@ -53,7 +53,8 @@ module _ {dist : List ℕ} {count i best : ℕ} (s : Nearest dist count i best) 
     least = least-next-not (λ j. getD dist j 0) _ i best (s .least) (s .some) long (rw same l);
   }
 
-pub nearest-last : {dist : List ℕ} {count best : ℕ} (remaining : List ℕ) → Nearest dist count count best → getD remaining best 0 ≡ nearestOf remaining count dist
+pub nearest-last : {dist : List ℕ} {count best : ℕ} (remaining : List ℕ) → Nearest dist count count best
+    → getD remaining best 0 ≡ nearestOf remaining count dist
 unfolding nearestOf
 nearest-last {dist} {count} {best} remaining s =
     ap (λ (i : ℕ). getD remaining i 0) (s .least ∙ ap (leastOf (λ j. getD dist j 0)) (take-all count (listTo (λ j. j) count) (omega (arith, length-listTo (λ j. j) count))))

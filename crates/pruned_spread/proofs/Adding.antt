@@ -84,7 +84,8 @@ module _ (f : ℕ → ℕ → ℕ → ℕ) (rows columns : ℕ) (before : List �
   sums s i j = sumTo (f i j) s
 
   pub summed-step : (mid after : List ℕ) (s : ℕ) (e : ℕ → ℕ → ℕ) → Rowed (λ i j. sumTo (f i j) s) columns before mid rows
-      → after ≡ inRows (raised e columns mid) rows columns ++ drop (rows * columns) mid → ((i j : ℕ) → e i j ≡ f i j s) → Rowed (λ i j. sumTo (f i j) (s + 1)) columns before after rows
+      → after ≡ inRows (raised e columns mid) rows columns ++ drop (rows * columns) mid → ((i j : ℕ) → e i j ≡ f i j s)
+      → Rowed (λ i j. sumTo (f i j) (s + 1)) columns before after rows
   summed-step mid after s e g a same =
       record { long = rw now (length-over (inRows (sums (s + 1)) rows columns) before (rows * columns) (length-in-rows (sums (s + 1)) rows columns) room); filled = now }
     where

@@ -51,7 +51,8 @@ fn add_square(
     part: &mut [u32],
 )
     requires { ⌜ (value ≤ largestSquareSum) × (0 < columns) × (rows * columns ≤ length (now part)) × (stride ≤ 1025) ⌝ }
-    requires { ⌜ ((i j : ℕ) → i < rows → j < columns → HasSquare (now sums) rowoffset m (at + i * stride + j) × (getD (now part) (i * columns + j) 0 ≤ mostSquares * largestSquareSum)) ⌝ }
+    requires { ⌜ ((i j : ℕ) → i < rows → j < columns → HasSquare (now sums) rowoffset m (at + i * stride + j)
+        × (getD (now part) (i * columns + j) 0 ≤ mostSquares * largestSquareSum)) ⌝ }
     ensures { λ _. ⌜ now (part .exit) ≡ inRows (raised (λ i j. absDiff value (squareSumAt (now (sums .entry)) rowoffset m (at + i * stride + j))) columns (now (part .entry))) rows columns ++ drop (rows * columns) (now (part .entry)) ⌝ }
 {
     let mut i: usize = 0;
@@ -80,7 +81,8 @@ pub fn spread(
     part: &mut [u32],
 )
     requires { ⌜ (0 < rows) × (0 < columns) × (rows * columns ≤ length (now part)) × (stride ≤ 1025) ⌝ }
-    requires { ⌜ ((i j : ℕ) → i < rows → j < columns → Compared (now block) (now steps) (now sums) rowoffset m count (at + i * stride + j) × (getD (now part) (i * columns + j) 0 ≡ 0)) ⌝ }
+    requires { ⌜ ((i j : ℕ) → i < rows → j < columns → Compared (now block) (now steps) (now sums) rowoffset m count (at + i * stride + j)
+        × (getD (now part) (i * columns + j) 0 ≡ 0)) ⌝ }
     ensures { λ _. ⌜ (now (part .exit) ≡ inRows (λ i j. sumTo (differenceAt (now (block .entry)) (now (steps .entry)) (now (sums .entry)) rowoffset m (at + i * stride + j)) count) rows columns ++ drop (rows * columns) (now (part .entry)))
         × ((i j : ℕ) → i < rows → j < columns → IsDistance (now (block .entry)) (now (steps .entry)) (now (sums .entry)) rowoffset m count (at + i * stride + j) (getD (now (part .exit)) (i * columns + j) 0)) ⌝ }
 {

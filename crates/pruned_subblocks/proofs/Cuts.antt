@@ -81,12 +81,14 @@ module _ (a g : Block) (rows columns m k : ℕ) (block steps sums : List ℕ) (t
     square-place : (p q : ℕ) → corner r c + (p * m * (columns + 1) + q * m) ≡ corner (r + p * m) (c + q * m)
     square-place p q = omega (arith, add-mul r (p * m) (columns + 1))
 
-    at-square : (p q : ℕ) → p < k → q < k → squareSumAt sums (m * (columns + 1)) m (corner r c + getD steps (p * k + q) 0) ≡ squareAt g m (r + p * m) (c + q * m)
+    at-square : (p q : ℕ) → p < k → q < k
+        → squareSumAt sums (m * (columns + 1)) m (corner r c + getD steps (p * k + q) 0) ≡ squareAt g m (r + p * m) (c + q * m)
     at-square p q hp hq =
         rw (cut .step p q hp hq, square-place p q)
         (square-sum-at-is g rows columns sums t m (r + p * m) (c + q * m) (omega (arith, row-fits p k m hp)) (omega (arith, row-fits q k m hq)))
 
-    pub distance-is : 0 < m → sumTo (differenceAt block steps sums (m * (columns + 1)) m (corner r c)) (k * k) ≡ distanceBy absolute (k * m) m a (λ i j. g (r + i) (c + j))
+    pub distance-is : 0 < m
+        → sumTo (differenceAt block steps sums (m * (columns + 1)) m (corner r c)) (k * k) ≡ distanceBy absolute (k * m) m a (λ i j. g (r + i) (c + j))
     unfolding distanceBy
     distance-is some =
         sumTo-group _ k k
@@ -94,7 +96,8 @@ module _ (a g : Block) (rows columns m k : ℕ) (block steps sums : List ℕ) (t
         (sumOver-ext k k _ _ (λ p q hp hq. rw (cut .sum p q hp hq, at-square p q hp hq, square-within) refl))
 
     -- of bytes, and N at most the largest: the numbers fit the code's
-    pub compared : ((i j : ℕ) → a i j ≤ 255) → ((i j : ℕ) → g i j ≤ 255) → 2 ≤ m → k * m ≤ largestN → Compared block steps sums (m * (columns + 1)) m (k * k) (corner r c)
+    pub compared : ((i j : ℕ) → a i j ≤ 255) → ((i j : ℕ) → g i j ≤ 255) → 2 ≤ m → k * m ≤ largestN
+        → Compared block steps sums (m * (columns + 1)) m (k * k) (corner r c)
     compared ab gb two sixteen = record {
       few = squares-few k m two sixteen;
       sums-long = cut .sums-long;
@@ -107,6 +110,7 @@ module _ (a g : Block) (rows columns m k : ℕ) (block steps sums : List ℕ) (t
 
 -- ---- what the contracts say of the numbers
 
-pub is-distance : (block steps sums : List ℕ) (rowoffset m count at : ℕ) → IsDistance block steps sums rowoffset m count at (sumTo (differenceAt block steps sums rowoffset m at) count)
+pub is-distance : (block steps sums : List ℕ) (rowoffset m count at : ℕ)
+    → IsDistance block steps sums rowoffset m count at (sumTo (differenceAt block steps sums rowoffset m at) count)
 is-distance block steps sums rowoffset m count at a g rows columns k y x cut t some ec el ea hy hx =
     rw (ec, el, ea) (distance-is a g rows columns m k block steps sums t cut y x hy hx some)

@@ -33,7 +33,8 @@ fn cut_row(
     steps: &mut [usize],
 )
     requires { ⌜ Cuttable (now blocksums) s × (p < s .k) × (from + s .k ≤ length (now block)) × (from + s .k ≤ length (now steps)) ⌝ }
-    ensures { λ _. ⌜ (now (block .exit) ≡ fillTo (now (block .entry)) from (blockSquareSum (now (blocksums .entry)) s p) (s .k)) × (now (steps .exit) ≡ fillTo (now (steps .entry)) from (squareStep s p) (s .k)) ⌝ }
+    ensures { λ _. ⌜ (now (block .exit) ≡ fillTo (now (block .entry)) from (blockSquareSum (now (blocksums .entry)) s p) (s .k))
+        × (now (steps .exit) ≡ fillTo (now (steps .entry)) from (squareStep s p) (s .k)) ⌝ }
 {
     let m = s.m;
     let k = s.k;
@@ -98,7 +99,8 @@ pub fn distance_from(
     at: usize,
 ) -> u32
     requires { ⌜ Compared (now block) (now steps) (now sums) rowoffset m count at ⌝ }
-    ensures { λ r. ⌜ (r ≡ sumTo (differenceAt (now (block .entry)) (now (steps .entry)) (now (sums .entry)) rowoffset m at) count) × IsDistance (now (block .entry)) (now (steps .entry)) (now (sums .entry)) rowoffset m count at r ⌝ }
+    ensures { λ r. ⌜ (r ≡ sumTo (differenceAt (now (block .entry)) (now (steps .entry)) (now (sums .entry)) rowoffset m at) count)
+        × IsDistance (now (block .entry)) (now (steps .entry)) (now (sums .entry)) rowoffset m count at r ⌝ }
 {
     let mut sum: u32 = 0;
     let mut s: usize = 0;

@@ -68,7 +68,8 @@ module _ (t : Target) (v : Vector) where
       go false e = let z : _≡_ {A = ℕ} 0 1 = cc in absurd (omega arith)
 
 -- (0,0) compares the block with the older block at the same place
-pub still-cost : (p : Pair) (y x : ℕ) → distortion p y x (vec (pos 0) (pos 0)) ≡ distortionBy absolute (p .sizes .n) (newerBlock p y x) (blockAt (p .older) (p .sizes .width) y x)
+pub still-cost : (p : Pair) (y x : ℕ)
+    → distortion p y x (vec (pos 0) (pos 0)) ≡ distortionBy absolute (p .sizes .n) (newerBlock p y x) (blockAt (p .older) (p .sizes .width) y x)
 unfolding distortion
 still-cost p y x = rw (add-zero y, add-zero x)
 

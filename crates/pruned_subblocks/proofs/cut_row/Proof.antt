@@ -33,15 +33,26 @@ across-small b =
     let s = start (b .before) in
     omega (arith, s .pre .0 .few, row-fits (b .before .loop .q) (s .args .s .k) (s .args .s .m) (b .loop-test .taken))
 
--- the row's place in a table
-far : (s : tie.Start Inv-loop μ-loop) (stride : ℕ) → stride ≤ 1025 → s .args .p * s .args .s .m * stride ≤ largestN * 1025
-far s stride h = let d = down-small s in mul-le-mul {n₂ = largestN} {m₂ = 1025} (omega arith) h
+-- a place in a table
+far : (d stride : ℕ) → d ≤ largestN → stride ≤ 1025 → d * stride ≤ largestN * 1025
+far d stride h k = mul-le-mul {n₂ = largestN} {m₂ = 1025} h k
+
+-- the place of a turn's square in the block's table
+place-small : (b : tie.In-loop Inv-loop μ-loop) →
+    let a = start (b .before) .args in
+    let q = b .before .loop .q in
+    (a .p * a .s .m * a .s .blockstride ≤ largestN * 1025) × (q * a .s .m * a .s .blockstride ≤ largestN * 1025) × (a .p * a .s .m ≤ largestN) × (q * a .s .m ≤ largestN)
+place-small b =
+    let s = start (b .before) in
+    let down : s .args .p * s .args .s .m ≤ largestN = omega (arith, down-small s) in
+    let across : b .before .loop .q * s .args .s .m ≤ largestN = omega (arith, across-small b) in
+    (far _ _ down (s .pre .0 .near), far _ _ across (s .pre .0 .near), down, across)
 
 mul-rowoffset : tie.Need-mul-rowoffset Inv-loop μ-loop
 mul-rowoffset c =
     let s = c .before .before .before in
-    let small : s .args .s .m * s .args .s .blockstride ≤ largestN * 1025 = mul-le-mul {n₂ = largestN} {m₂ = 1025} (omega (arith, down-small s)) (s .pre .0 .near) in
-    omega arith
+    let thin : s .args .s .m ≤ largestN = omega (arith, down-small s) in
+    omega (arith, far _ _ thin (s .pre .0 .near))
 
 mul-down : tie.Need-mul-down Inv-loop μ-loop
 mul-down c = omega (arith, down-small (c .before .before .before))
@@ -53,10 +64,10 @@ mul-across : tie.Need-mul-across Inv-loop μ-loop
 mul-across c = omega (arith, across-small c)
 
 mul-square-sum-at : tie.Need-mul-square-sum-at Inv-loop μ-loop
-mul-square-sum-at c = let s = start (c .before) in omega (arith, far s _ (s .pre .0 .near))
+mul-square-sum-at c = omega (arith, place-small c)
 
 add-square-sum-at : tie.Need-add-square-sum-at Inv-loop μ-loop
-add-square-sum-at c = let s = start (c .before) in omega (arith, across-small c, far s _ (s .pre .0 .near))
+add-square-sum-at c = omega (arith, place-small c)
 
 square-sum-at-requires : tie.Need-square-sum-at-requires Inv-loop μ-loop
 square-sum-at-requires c κs = let s = start (c .before) in s .pre .0 .each _ _ (s .pre .1) (c .loop-test .taken)
@@ -71,10 +82,16 @@ slice-write-block : tie.Need-slice-write-block Inv-loop μ-loop
 slice-write-block c = omega arith
 
 mul-steps : tie.Need-mul-steps Inv-loop μ-loop
-mul-steps c = let s = start (c .before .before) in omega (arith, far s _ (s .pre .0 .narrow))
+mul-steps c =
+    let s = start (c .before .before) in
+    let p = place-small (c .before) in
+    omega (arith, far _ _ (p .2) (s .pre .0 .narrow))
 
 add-steps : tie.Need-add-steps Inv-loop μ-loop
-add-steps c = let s = start (c .before .before) in omega (arith, across-small (c .before), far s _ (s .pre .0 .narrow))
+add-steps c =
+    let s = start (c .before .before) in
+    let p = place-small (c .before) in
+    omega (arith, p .3, far _ _ (p .2) (s .pre .0 .narrow))
 
 add-steps-2 : tie.Need-add-steps-2 Inv-loop μ-loop
 add-steps-2 c = search needs
