@@ -132,12 +132,12 @@ least-of-one f [] h = refl
 least-of-one f (k ∷ ks) h = refl
 
 -- a turn of the loop that has the first least of the first i as b: the next is less, or it is not
-pub least-next-less : (f : ℕ → ℕ) (ks : List ℕ) (i b : ℕ) → b ≡ leastOf f (take i ks) → 0 < i → i < length ks → f (getD ks i 0) < f b
+pub least-next-yes : (f : ℕ → ℕ) (ks : List ℕ) (i b : ℕ) → b ≡ leastOf f (take i ks) → 0 < i → i < length ks → f (getD ks i 0) < f b
     → getD ks i 0 ≡ leastOf f (take (i + 1) ks)
-least-next-less f ks i b e p h l =
+least-next-yes f ks i b e p h l =
     sym (leastOf-take f ks i p h ∙ ap (λ (t : Bool). cond t (getD ks i 0) (leastOf f (take i ks))) (lt-ltb _ _ (rw e at l)))
 
-pub least-next-not : (f : ℕ → ℕ) (ks : List ℕ) (i b : ℕ) → b ≡ leastOf f (take i ks) → 0 < i → i < length ks → f b ≤ f (getD ks i 0)
+pub least-next-no : (f : ℕ → ℕ) (ks : List ℕ) (i b : ℕ) → b ≡ leastOf f (take i ks) → 0 < i → i < length ks → f b ≤ f (getD ks i 0)
     → b ≡ leastOf f (take (i + 1) ks)
-least-next-not f ks i b e p h l =
+least-next-no f ks i b e p h l =
     e ∙ sym (leastOf-take f ks i p h ∙ ap (λ (t : Bool). cond t (getD ks i 0) (leastOf f (take i ks))) (le-ltb _ _ (rw e at l)))

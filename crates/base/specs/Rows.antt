@@ -42,12 +42,12 @@ pub record Rowed (f : ℕ → ℕ → ℕ) (k : ℕ) (before list : List ℕ) (p
   pub filled : list ≡ inRows f p k ++ drop (p * k) before
 
 module _ (f : ℕ → ℕ → ℕ) (k : ℕ) (before : List ℕ) where
-  pub rowed-none : Rowed f k before before 0
+  pub rowed-first : Rowed f k before before 0
   unfolding concatTo
-  rowed-none = record { long = refl; filled = rw zero-mul }
+  rowed-first = record { long = refl; filled = rw zero-mul }
 
-  pub rowed-step : (list next : List ℕ) (p from : ℕ) → Rowed f k before list p → from ≡ p * k → from + k ≤ length list → next ≡ fillTo list from (f p) k → Rowed f k before next (p + 1)
-  rowed-step list next p from g e room h = record {
+  pub rowed-more : (list next : List ℕ) (p from : ℕ) → Rowed f k before list p → from ≡ p * k → from + k ≤ length list → next ≡ fillTo list from (f p) k → Rowed f k before next (p + 1)
+  rowed-more list next p from g e room h = record {
     long = rw h (length-fill list from (f p) k room ∙ g .long);
     filled =
         rw (h, e)

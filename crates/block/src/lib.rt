@@ -39,7 +39,12 @@ fn refused_search(refusal: u32) -> SearchResult
 }
 
 // Search 2 of a block by itself: the sums of the older squares come from a table of its search window alone.
-fn pruned_alone(older: &[u8], newer: &[u8], order: &[i32; 2178], b: SearchBlock) -> SearchResult
+fn pruned_alone(
+    older: &[u8],
+    newer: &[u8],
+    order: &[i32; order::NUMBERS],
+    b: SearchBlock,
+) -> SearchResult
     requires { ⌜ Ready (now older) (now newer) b × (now order ≡ flat preference) ⌝ }
     ensures { λ r. ⌜ r ≡ prunedSearch (pairOf (now (older .entry)) (now (newer .entry)) (b .sizes)) (b .w) (b .y) (b .x) ⌝ }
 {

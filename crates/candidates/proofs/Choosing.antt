@@ -7,7 +7,7 @@ use native.Mathlib.Omega.{arith}
 use borrow.Author.Tests.{ltb-true, ltb-false}
 use lib.Dec.{ltb}
 use lib.ListN.{length, getD}
-use Rattle.base.specs.Least.{least-next-less, least-next-not, least-of-one}
+use Rattle.base.specs.Least.{least-next-yes, least-next-no, least-of-one}
 use Rattle.distortion.specs.Blocks.{UpTo}
 use Rattle.frame.specs.declared.SearchBlock.{SearchBlock}
 use Rattle.candidates.specs.declared.Chosen.{Chosen}
@@ -34,13 +34,13 @@ choosing-more {D} {remaining} {i} {best} {b} {count} {k} {d} listed some l s e f
         let m = ltb-true d (best .distortion) q in
         record {
           cost = f .below m;
-          first = e ∙ least-next-less D remaining i (best .place) (s .first) some h (omega (arith, s .cost, f .below m, ap D e));
+          first = e ∙ least-next-yes D remaining i (best .place) (s .first) some h (omega (arith, s .cost, f .below m, ap D e));
           small = listed-at listed l e .0;
         }
     go false q =
         let m = ltb-false d (best .distortion) q in
         record {
           cost = s .cost;
-          first = least-next-not D remaining i (best .place) (s .first) some h (omega (arith, s .cost, f .beyond m, ap D e));
+          first = least-next-no D remaining i (best .place) (s .first) some h (omega (arith, s .cost, f .beyond m, ap D e));
           small = s .small;
         }

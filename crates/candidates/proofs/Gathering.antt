@@ -7,6 +7,7 @@ use native.Mathlib.Omega.{arith}
 use lib.ListN.{length, set, length-append, drop-of-length-le}
 use Rattle.base.specs.Lists.{listTo, length-listTo, front-more}
 use Rattle.base.specs.Picks.{pick, pick-none, pick-yes, pick-no}
+use Rattle.order.specs.Vectors.{vectorCount}
 use Rattle.frame.specs.declared.SearchBlock.{SearchBlock}
 use Rattle.candidates.specs.Gathered.{candidateAt, Front}
 
@@ -23,15 +24,15 @@ front-next {ks} {old} {remaining} {count} k f h = record {
 
 -- ---- all candidates: those below k that pass stand in front
 pub record Gathering (p : ℕ → Bool) (old : List ℕ) (k count : ℕ) (remaining : List ℕ) : Type 0 where
-  pub below : k ≤ 1089
+  pub below : k ≤ vectorCount
   pub behind : count ≤ k
-  pub long : length old ≡ 1089
+  pub long : length old ≡ vectorCount
   pub front : Front (pick p k) old remaining count
 
-pub gathering-first : (p : ℕ → Bool) (old : List ℕ) → length old ≡ 1089 → Gathering p old 0 0 old
+pub gathering-first : (p : ℕ → Bool) (old : List ℕ) → length old ≡ vectorCount → Gathering p old 0 0 old
 gathering-first p old h = record { below = zero-le; behind = zero-le; long = h; front = rw (pick-none p) (front-none old) }
 
-module _ (p : ℕ → Bool) {old remaining : List ℕ} {k count : ℕ} (g : Gathering p old k count remaining) (h : k < 1089) where
+module _ (p : ℕ → Bool) {old remaining : List ℕ} {k count : ℕ} (g : Gathering p old k count remaining) (h : k < vectorCount) where
   pub gathering-yes : p k ≡ true → Gathering p old (k + 1) (count + 1) (set remaining count k)
   gathering-yes e = record { below = omega arith; behind = omega arith; long = g .long; front = rw (pick-yes p k e) (front-next k (g .front) (omega arith)) }
 
@@ -44,9 +45,9 @@ unfolding pick listTo
 pick-every p zero each = refl
 pick-every p (suc n) each = rw (each n (omega arith), pick-every p n (λ k h. each k (omega arith)))
 
-pub gathered-every : (b : SearchBlock) (old remaining : List ℕ) → length old ≡ 1089 → ((k : ℕ) → k < 1089 → candidateAt b k ≡ true)
-    → remaining ≡ listTo (λ k. k) 1089
-    → Front (pick (candidateAt b) 1089) old remaining 1089
+pub gathered-every : (b : SearchBlock) (old remaining : List ℕ) → length old ≡ vectorCount → ((k : ℕ) → k < vectorCount → candidateAt b k ≡ true)
+    → remaining ≡ listTo (λ k. k) vectorCount
+    → Front (pick (candidateAt b) vectorCount) old remaining vectorCount
 gathered-every b old remaining long each e =
-    rw (pick-every (candidateAt b) 1089 each)
-    (record { many = sym (length-listTo (λ k. k) 1089); list = e ∙ rw (drop-of-length-le old {i = 1089} (omega arith)) (sym (append-nil _)) })
+    rw (pick-every (candidateAt b) vectorCount each)
+    (record { many = sym (length-listTo (λ k. k) vectorCount); list = e ∙ rw (drop-of-length-le old {i = vectorCount} (omega arith)) (sym (append-nil _)) })

@@ -8,7 +8,7 @@ use lib.Dec.{T, leb, leb→le}
 use Rattle.base.specs.Tests.{and-left, and-right, le-both, T-true}
 use Rattle.signed.specs.Int.{up, dn, parts}
 use Rattle.order.specs.declared.Vector.{Vector}
-use Rattle.order.specs.Vectors.{Within}
+use Rattle.order.specs.Vectors.{Within, vectorCount}
 use Rattle.order.specs.Preference.{preferred}
 use Rattle.order.proofs.Order.{inside}
 use Rattle.frame.specs.declared.Sizes.{Sizes}
@@ -17,7 +17,7 @@ use Rattle.frame.specs.declared.SearchBlock.{SearchBlock}
 use Rattle.candidates.specs.Gathered.{candidateAt, hasMargin, isInterior}
 
 -- 16 pels from each side every vector of window 16 is a candidate
-pub interior-passes : (b : SearchBlock) → T (isInterior b) → (k : ℕ) → k < 1089 → candidateAt b k ≡ true
+pub interior-passes : (b : SearchBlock) → T (isInterior b) → (k : ℕ) → k < vectorCount → candidateAt b k ≡ true
 interior-passes b t k h = T-true (candidateAt b k) (inner (preferred k) (inside k h))
   where
     s : Sizes

@@ -11,6 +11,7 @@ use lib.Dec.{ltb}
 use lib.ListN.{take}
 use Rattle.base.specs.Least.{leastOf}
 use Rattle.order.specs.Preference.{preferred}
+use Rattle.order.specs.Vectors.{vectorCount}
 use Rattle.frame.specs.declared.SearchBlock.{SearchBlock}
 use Rattle.frame.specs.Pictures.{pairOf}
 use Rattle.frame.specs.Candidates.{olderRow, olderColumn}
@@ -41,4 +42,4 @@ improved best k d = cond (ltb d (best .distortion)) (record { place = k; distort
 pub record Choice (D : ℕ → ℕ) (remaining : List ℕ) (i : ℕ) (r : Chosen) : Type 0 where
   pub cost : r .distortion ≡ D (r .place)
   pub first : r .place ≡ leastOf D (take i remaining)
-  pub small : r .place < 1089
+  pub small : r .place < vectorCount

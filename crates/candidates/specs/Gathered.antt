@@ -10,6 +10,7 @@ use mathlib.Core.List.{List, _++_}
 use lib.Dec.{T, leb}
 use lib.ListN.{length, getD, drop}
 use Rattle.order.specs.Preference.{preferred}
+use Rattle.order.specs.Vectors.{vectorCount}
 use Rattle.frame.specs.Candidates.{candidate}
 use Rattle.frame.specs.declared.SearchBlock.{SearchBlock}
 
@@ -27,6 +28,6 @@ pub record Front (ks before after : List ℕ) (r : ℕ) : Type 0 where
   pub list : after ≡ ks ++ drop r before
 
 pub record ListedCandidates (b : SearchBlock) (remaining : List ℕ) (count : ℕ) : Type 0 where
-  pub long : length remaining ≡ 1089
-  pub few : count ≤ 1089
-  pub each : (i : ℕ) → i < count → (getD remaining i 0 < 1089) × T (candidateAt b (getD remaining i 0))
+  pub long : length remaining ≡ vectorCount
+  pub few : count ≤ vectorCount
+  pub each : (i : ℕ) → i < count → (getD remaining i 0 < vectorCount) × T (candidateAt b (getD remaining i 0))

@@ -7,6 +7,7 @@ ghost use lib.ListN.{length};
 ghost use Rattle.base.specs.Lists.{listTo};
 ghost use Rattle.base.specs.Picks.{pick};
 ghost use Rattle.order.specs.Preference.{preference, flat};
+ghost use Rattle.order.specs.Vectors.{vectorCount};
 ghost use Rattle.distortion.specs.Blocks.{UpTo};
 ghost use Rattle.search.specs.Target.{Ready};
 ghost use Rattle.candidates.specs.Gathered.{candidateAt, hasMargin, isInterior, Front, ListedCandidates};
@@ -22,8 +23,8 @@ pub struct Chosen {
 // ---- gathering
 
 // The vector at place k of the preference table is a candidate.
-fn candidate_at(order: &[i32; 2178], b: SearchBlock, k: usize) -> bool
-    requires { ⌜ (now order ≡ flat preference) × (k < 1089) ⌝ }
+fn candidate_at(order: &[i32; order::NUMBERS], b: SearchBlock, k: usize) -> bool
+    requires { ⌜ (now order ≡ flat preference) × (k < vectorCount) ⌝ }
     ensures { λ r. ⌜ r ≡ candidateAt b k ⌝ }
 {
     let v = order::vector_at(order, k);
@@ -62,25 +63,29 @@ fn is_interior(b: SearchBlock) -> bool
 }
 
 // Every place of the preference table.
-fn gather_every(remaining: &mut [u16; 1089])
-    requires { ⌜ length (now remaining) ≡ 1089 ⌝ }
-    ensures { λ _. ⌜ now (remaining .exit) ≡ listTo (λ k. k) 1089 ⌝ }
+fn gather_every(remaining: &mut [u16; order::VECTORS])
+    requires { ⌜ length (now remaining) ≡ vectorCount ⌝ }
+    ensures { λ _. ⌜ now (remaining .exit) ≡ listTo (λ k. k) vectorCount ⌝ }
 {
     let mut k: usize = 0;
-    while k < 1089 {
+    while k < order::VECTORS {
         remaining[k] = k as u16;
         k += 1;
     }
 }
 
 // The places whose vectors are candidates, in front of what the array held; answers how many.
-fn gather_some(order: &[i32; 2178], b: SearchBlock, remaining: &mut [u16; 1089]) -> usize
-    requires { ⌜ (now order ≡ flat preference) × (length (now remaining) ≡ 1089) ⌝ }
-    ensures { λ r. ⌜ Front (pick (candidateAt b) 1089) (now (remaining .entry)) (now (remaining .exit)) r ⌝ }
+fn gather_some(
+    order: &[i32; order::NUMBERS],
+    b: SearchBlock,
+    remaining: &mut [u16; order::VECTORS],
+) -> usize
+    requires { ⌜ (now order ≡ flat preference) × (length (now remaining) ≡ vectorCount) ⌝ }
+    ensures { λ r. ⌜ Front (pick (candidateAt b) vectorCount) (now (remaining .entry)) (now (remaining .exit)) r ⌝ }
 {
     let mut count: usize = 0;
     let mut k: usize = 0;
-    while k < 1089 {
+    while k < order::VECTORS {
         if candidate_at(order, b, k) {
             remaining[count] = k as u16;
             count += 1;
@@ -91,13 +96,17 @@ fn gather_some(order: &[i32; 2178], b: SearchBlock, remaining: &mut [u16; 1089])
 }
 
 // All candidates, in preference order, in front of what the array held; answers how many.
-pub fn gather(order: &[i32; 2178], b: SearchBlock, remaining: &mut [u16; 1089]) -> usize
-    requires { ⌜ (now order ≡ flat preference) × (length (now remaining) ≡ 1089) ⌝ }
-    ensures { λ r. ⌜ Front (pick (candidateAt b) 1089) (now (remaining .entry)) (now (remaining .exit)) r ⌝ }
+pub fn gather(
+    order: &[i32; order::NUMBERS],
+    b: SearchBlock,
+    remaining: &mut [u16; order::VECTORS],
+) -> usize
+    requires { ⌜ (now order ≡ flat preference) × (length (now remaining) ≡ vectorCount) ⌝ }
+    ensures { λ r. ⌜ Front (pick (candidateAt b) vectorCount) (now (remaining .entry)) (now (remaining .exit)) r ⌝ }
 {
     if is_interior(b) {
         gather_every(remaining);
-        return 1089;
+        return order::VECTORS;
     }
     gather_some(order, b, remaining)
 }
@@ -105,8 +114,8 @@ pub fn gather(order: &[i32; 2178], b: SearchBlock, remaining: &mut [u16; 1089]) 
 // ---- measuring and choosing
 
 // Where the older block of the candidate at place k of the preference table begins.
-pub fn begins_at(order: &[i32; 2178], b: SearchBlock, k: usize) -> usize
-    requires { ⌜ Stands b k × (now order ≡ flat preference) × (k < 1089) ⌝ }
+pub fn begins_at(order: &[i32; order::NUMBERS], b: SearchBlock, k: usize) -> usize
+    requires { ⌜ Stands b k × (now order ≡ flat preference) × (k < vectorCount) ⌝ }
     ensures { λ r. ⌜ r ≡ beginsAt b k ⌝ }
 {
     let s = b.sizes;
@@ -120,13 +129,13 @@ pub fn begins_at(order: &[i32; 2178], b: SearchBlock, k: usize) -> usize
 pub fn distortion_of(
     older: &[u8],
     newer: &[u8],
-    order: &[i32; 2178],
+    order: &[i32; order::NUMBERS],
     b: SearchBlock,
     k: usize,
     ceiling: u32,
 ) -> u32
     requires { ⌜ Ready (now older) (now newer) b × (now order ≡ flat preference) ⌝ }
-    requires { ⌜ (k < 1089) × T (candidateAt b k) ⌝ }
+    requires { ⌜ (k < vectorCount) × T (candidateAt b k) ⌝ }
     ensures { λ d. ⌜ UpTo ceiling (distortionOf (now (older .entry)) (now (newer .entry)) b k) d × (d < 4294967295)
         × (d ≡ distortionUpTo (now (older .entry)) (now (newer .entry)) b k ceiling) ⌝ }
 {
@@ -141,9 +150,9 @@ pub fn distortion_of(
 pub fn first_chosen(
     older: &[u8],
     newer: &[u8],
-    order: &[i32; 2178],
+    order: &[i32; order::NUMBERS],
     b: SearchBlock,
-    remaining: &[u16; 1089],
+    remaining: &[u16; order::VECTORS],
     count: usize,
 ) -> Chosen
     requires { ⌜ Ready (now older) (now newer) b × (now order ≡ flat preference) ⌝ }
@@ -169,9 +178,9 @@ pub fn improved(best: Chosen, place: usize, distortion: u32) -> Chosen
 pub fn choose(
     older: &[u8],
     newer: &[u8],
-    order: &[i32; 2178],
+    order: &[i32; order::NUMBERS],
     b: SearchBlock,
-    remaining: &[u16; 1089],
+    remaining: &[u16; order::VECTORS],
     count: usize,
 ) -> Chosen
     requires { ⌜ Ready (now older) (now newer) b × (now order ≡ flat preference) ⌝ }

@@ -18,10 +18,10 @@ unfoldable pub passesIn : ℕ → Target → ℕ → Seen → Seen
 passesIn zero t p s = s
 passesIn (suc n) t p s = passesIn n t (p / 2) (pass t p s)
 
-pass-done : (n : ℕ) (t : Target) (p : ℕ) (s : Seen) → n ≤ 0 → passesIn n t p s ≡ s
+pass-last : (n : ℕ) (t : Target) (p : ℕ) (s : Seen) → n ≤ 0 → passesIn n t p s ≡ s
 unfolding passesIn
-pass-done zero t p s h = refl
-pass-done (suc n) t p s h = absurd (omega arith)
+pass-last zero t p s h = refl
+pass-last (suc n) t p s h = absurd (omega arith)
 
 pass-more : (n : ℕ) (t : Target) (p : ℕ) (s : Seen) → 0 < n → passesIn n t p s ≡ passesIn (n - 1) t (p / 2) (pass t p s)
 unfolding passesIn
@@ -45,8 +45,8 @@ pub record Passing (t : Target) (w : ℕ) (at-origin best : BestSoFar) (p left :
   pub leads : passesIn left t p (seenOf best) ≡ allPasses w t (w / 2) (seenOf at-origin)
 
 module _ (t : Target) (w : ℕ) (at-origin : BestSoFar) where
-  pub passing-none : T (crossWindow w) → at-origin .y ≤ 32 → at-origin .x ≤ 32 → Passing t w at-origin at-origin (w / 2) (log2 w - 1)
-  passing-none c h k = record {
+  pub passing-first : T (crossWindow w) → at-origin .y ≤ 32 → at-origin .x ≤ 32 → Passing t w at-origin at-origin (w / 2) (log2 w - 1)
+  passing-first c h k = record {
     less = omega arith;
     down = h;
     across = k;
@@ -65,10 +65,10 @@ module _ (t : Target) (w : ℕ) (at-origin : BestSoFar) where
           leads = ap (passesIn (left - 1) t (p / 2)) (k .is) ∙ sym (pass-more left t p (seenOf best) h) ∙ g .leads;
         }
 
-    pub passing-done : left ≤ 0 → Holds best (allPasses w t (w / 2) (seenOf at-origin)) (at-origin .count + 27)
-    passing-done h =
+    pub passing-last : left ≤ 0 → Holds best (allPasses w t (w / 2) (seenOf at-origin)) (at-origin .count + 27)
+    passing-last h =
         record {
-          is = sym (pass-done left t p (seenOf best) h) ∙ g .leads;
+          is = sym (pass-last left t p (seenOf best) h) ∙ g .leads;
           down = g .down;
           across = g .across;
           few = let f = g .few in omega arith;

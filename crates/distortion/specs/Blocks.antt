@@ -75,9 +75,9 @@ sumUpTo ceiling f (suc n) =
 abbrev pub rowsUpTo : Measure → ℕ → List ℕ → List ℕ → ℕ → ℕ → ℕ → ℕ → ℕ → ℕ
 rowsUpTo μ ceiling older newer width a b n groups = sumUpTo ceiling (λ g. rowsFrom μ older newer width (a + 4 * g * width) (b + 4 * g * width) n 4) groups
 
-pub row-none : (μ : Measure) (older newer : List ℕ) (a b : ℕ) → rowFrom μ older newer a b 0 ≡ 0
+pub row-first : (μ : Measure) (older newer : List ℕ) (a b : ℕ) → rowFrom μ older newer a b 0 ≡ 0
 unfolding rowFrom
-row-none μ older newer a b = sumTo-none _
+row-first μ older newer a b = sumTo-none _
 
 pub row-more : (μ : Measure) (older newer : List ℕ) (a b j : ℕ)
     → rowFrom μ older newer a b (j + 1) ≡ rowFrom μ older newer a b j + μ .diff (getD newer (a + j) 0) (getD older (b + j) 0)

@@ -12,6 +12,7 @@ use lib.Seq.{sets, sets-eq, take-at, length-sets}
 use lib.ListN.{length, getD, set, take, drop, replicate}
 use Rattle.base.specs.Sum.{sumTo, sumTo-bound}
 use Rattle.base.specs.Lists.{concatTo, concatTo-more, drop-over}
+use Rattle.order.specs.Vectors.{vectorCount}
 use Rattle.refusals.specs.declared.Request.{Request}
 use Rattle.frame.specs.Pictures.{Pair}
 use Rattle.frame.specs.Grid.{blocks}
@@ -27,7 +28,7 @@ use Rattle.field.specs.Field.{countOver, entryOf, entriesOf, fieldAnswer
 use Rattle.field.proofs.Places.{length-entries}
 use Rattle.field.specs.Filling.{totalOver, BlocksFilled}
 
-pub filled-first : (found : ℕ → SearchResult) (list : List ℤ) (votes : List ℕ) → votes ≡ replicate 1089 0
+pub filled-first : (found : ℕ → SearchResult) (list : List ℤ) (votes : List ℕ) → votes ≡ replicate vectorCount 0
     → BlocksFilled found 0 list list votes (asTotal (0 ∷ 0 ∷ 0 ∷ 0 ∷ 0 ∷ []) 0)
 unfolding entriesOf concatTo totalOver sumTo
 filled-first found list votes e = record {
@@ -49,8 +50,8 @@ counts-few c h (suc (suc (suc (suc (suc i))))) = omega arith
 
 module _ (found : ℕ → SearchResult) (n : ℕ) (before after : List ℤ) (votes : List ℕ) (total : Total) (f : BlocksFilled found n before after votes total) where
   -- a sum over the blocks
-  most : n ≤ 1048576 → (g : ℕ → ℕ) → ((k : ℕ) → k < n → g k ≤ 1089) → sumTo g n ≤ 1141899264
-  most few g h = le-trans (sumTo-bound 1089 g n h) (mul-le-mul-right 1089 few)
+  most : n ≤ 1048576 → (g : ℕ → ℕ) → ((k : ℕ) → k < n → g k ≤ vectorCount) → sumTo g n ≤ 1141899264
+  most few g h = le-trans (sumTo-bound vectorCount g n h) (mul-le-mul-right vectorCount few)
 
   pub filled-few : n ≤ 1048576 → Bounded total
   unfolding totalOver

@@ -5,6 +5,7 @@ ghost use mathlib.Core.Path.{_≡_};
 ghost use Prim.Native.Nat.{_≤_};
 ghost use lib.ListN.{length, replicate};
 ghost use Rattle.order.specs.Preference.{preference, flat};
+ghost use Rattle.order.specs.Vectors.{vectorCount};
 ghost use Rattle.frame.specs.Pictures.{pairOf};
 ghost use Rattle.frame.specs.Grid.{blocks};
 ghost use Rattle.refusals.specs.Refusals.{sizesOf};
@@ -54,14 +55,14 @@ fn fill_table(older: &[u8], q: Request, table: &mut [u32])
 fn fill_list(
     older: &[u8],
     newer: &[u8],
-    order: &[i32; 2178],
+    order: &[i32; order::NUMBERS],
     q: Request,
     table: &[u32],
     list: &mut [i32],
-    votes: &mut [u32; 1089],
+    votes: &mut [u32; order::VECTORS],
 ) -> Total
     requires { ⌜ Prepared (now older) (now newer) q (now table) × (now order ≡ flat preference) ⌝ }
-    requires { ⌜ (listSize (sizesOf q) ≤ length (now list)) × (now votes ≡ replicate 1089 0) ⌝ }
+    requires { ⌜ (listSize (sizesOf q) ≤ length (now list)) × (now votes ≡ replicate vectorCount 0) ⌝ }
     ensures { λ r. ⌜ BlocksFilled (searchAt (pairOf (now (older .entry)) (now (newer .entry)) (sizesOf q)) q) (blocks (sizesOf q)) (now (list .entry)) (now (list .exit)) (now (votes .exit)) r ⌝ }
 {
     let n = frame::block_count(refusals::sizes_of(q));
@@ -88,7 +89,7 @@ fn fill(older: &[u8], newer: &[u8], q: Request, list: &mut [i32], table: &mut [u
 {
     let order = order::table();
     fill_table(older, q, table);
-    let mut votes = [0u32; 1089];
+    let mut votes = [0u32; order::VECTORS];
     let total = fill_list(older, newer, &order, q, &*table, list, &mut votes);
     let r = reading::reading_of(&order, &votes);
     let counts = total.counts;

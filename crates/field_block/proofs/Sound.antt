@@ -10,7 +10,7 @@ use lib.ListN.{getD, length}
 use Rattle.base.specs.Tests.{T-true}
 use Rattle.base.specs.Picks.{pick-few}
 use Rattle.order.specs.declared.Vector.{Vector}
-use Rattle.order.specs.Vectors.{Within}
+use Rattle.order.specs.Vectors.{Within, vectorCount}
 use Rattle.refusals.specs.declared.Request.{Request}
 use Rattle.frame.specs.Pictures.{Pair, pairOf, largestDistortion}
 use Rattle.frame.specs.Candidates.{Candidate, candidate, candidate-yes}
@@ -40,7 +40,7 @@ abbrev pub Bytes : List ℕ → Type 0
 Bytes l = (i : ℕ) → getD l i 0 ≤ 255
 
 -- one count alone
-at-one : (n i : ℕ) → n ≤ 1089 → getD (onlyAtOne n) i 0 ≤ 1089
+at-one : (n i : ℕ) → n ≤ vectorCount → getD (onlyAtOne n) i 0 ≤ vectorCount
 at-one n zero h = omega arith
 at-one n (suc zero) h = omega arith
 at-one n (suc (suc zero)) h = omega arith
@@ -49,11 +49,11 @@ at-one n (suc (suc (suc (suc zero)))) h = h
 at-one n (suc (suc (suc (suc (suc i))))) h = omega arith
 
 -- an answer that counts at m = 1 alone
-sound-at-one : (v : Vector) (d n : ℕ) → Within 16 v → d ≤ largestDistortion → n ≤ 1089 → Sound (searchResult v d (onlyAtOne n) 0)
+sound-at-one : (v : Vector) (d n : ℕ) → Within 16 v → d ≤ largestDistortion → n ≤ vectorCount → Sound (searchResult v d (onlyAtOne n) 0)
 sound-at-one v d n near few h = record { within = near; distortion = few; count = λ i. at-one n i h; dropped = omega arith }
 
-places-few : (p : Pair) (w y x : ℕ) → length (places (p .sizes) w y x) ≤ 1089
-places-few p w y x = pick-few _ 1089
+places-few : (p : Pair) (w y x : ℕ) → length (places (p .sizes) w y x) ≤ vectorCount
+places-few p w y x = pick-few _ vectorCount
 
 module _ (p : Pair) (bytes : Bytes (p .older) × Bytes (p .newer)) (allowed : T (blockSizeOk (p .sizes .n))) where
   distortion-few : (y x : ℕ) (v : Vector) → distortion p y x v ≤ largestDistortion
@@ -82,7 +82,7 @@ module _ (p : Pair) (bytes : Bytes (p .older) × Bytes (p .newer)) (allowed : T 
         }
 
     -- searches 3 and 4
-    probed-sound : (s : Seen) → OwnDistortion (target p w y x) s → s .count ≤ 1089 → Sound (resultOf s)
+    probed-sound : (s : Seen) → OwnDistortion (target p w y x) s → s .count ≤ vectorCount → Sound (resultOf s)
     unfolding resultOf
     probed-sound s h few =
         let inside = near _ (candidate-yes (p .sizes) w y x (s .best) (h .chosen)) in

@@ -8,7 +8,7 @@ use mathlib.Core.Path.{_≡_}
 use mathlib.Core.List.{List, [], _∷_}
 use lib.ListN.{length, getD}
 use Rattle.order.specs.declared.Vector.{Vector}
-use Rattle.order.specs.Vectors.{Within}
+use Rattle.order.specs.Vectors.{Within, vectorCount}
 use Rattle.frame.specs.Pictures.{Pair, largestDistortion}
 use Rattle.frame.specs.Grid.{blockRow, blockColumn}
 use Rattle.refusals.specs.declared.Request.{Request}
@@ -34,8 +34,8 @@ pub record Prepared (older newer : List ℕ) (q : Request) (table : List ℕ) : 
 pub record Sound (f : SearchResult) : Type 0 where
   pub within : Within 16 (vectorIn f)
   pub distortion : f .distortion ≤ largestDistortion
-  pub count : (i : ℕ) → getD (f .counts) i 0 ≤ 1089
-  pub dropped : f .dropped ≤ 1089
+  pub count : (i : ℕ) → getD (f .counts) i 0 ≤ vectorCount
+  pub dropped : f .dropped ≤ vectorCount
 
 abbrev pub asTotal : List ℕ → ℕ → Total
 asTotal counts dropped = record { counts = counts; dropped = dropped }

@@ -35,7 +35,7 @@ pub fn whole_frame(q: Request) -> Region
 pub fn search_at(
     older: &[u8],
     newer: &[u8],
-    order: &[i32; 2178],
+    order: &[i32; order::NUMBERS],
     q: Request,
     table: &[u32],
     k: usize,

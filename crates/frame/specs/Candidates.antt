@@ -216,9 +216,9 @@ module _ (s : Sizes) (w y x : ℕ) (v : Vector) where
       go true e = (tt, (let q : r ≡ olderRow y v = cc in q), (let q : c ≡ olderColumn x v = cc in q))
       go false e = let z : _≡_ {A = ℕ} 0 1 = cc in absurd (omega arith)
 
-  pub older-not : olderAt s w y x v ≡ Older·Outside → candidate s w y x v ≡ false
+  pub older-no : olderAt s w y x v ≡ Older·Outside → candidate s w y x v ≡ false
   unfolding olderAt
-  older-not = go (candidate s w y x v)
+  older-no = go (candidate s w y x v)
     where
       go : (b : Bool) → cond b (Older·At (olderRow y v) (olderColumn x v)) Older·Outside ≡ Older·Outside → b ≡ false
       go true e = let z : _≡_ {A = ℕ} 0 1 = cc in absurd (omega arith)

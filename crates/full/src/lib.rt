@@ -4,6 +4,7 @@ ghost use mathlib.Core.Path.{_≡_};
 ghost use Prim.Native.Nat.{_<_};
 ghost use lib.Dec.{T};
 ghost use Rattle.order.specs.Preference.{preference, flat};
+ghost use Rattle.order.specs.Vectors.{vectorCount};
 ghost use Rattle.frame.specs.Pictures.{pairOf};
 ghost use Rattle.search.specs.Target.{Ready};
 ghost use Rattle.candidates.specs.Gathered.{candidateAt, ListedCandidates};
@@ -17,13 +18,13 @@ use search::SearchResult;
 fn copied_distortion_of(
     older: &[u8],
     newer: &[u8],
-    order: &[i32; 2178],
+    order: &[i32; order::NUMBERS],
     b: SearchBlock,
     k: usize,
     block: &[u8; 256],
 ) -> u32
     requires { ⌜ Ready (now older) (now newer) b × (now order ≡ flat preference) ⌝ }
-    requires { ⌜ (k < 1089) × T (candidateAt b k) × CopyOf (now newer) b (now block) ⌝ }
+    requires { ⌜ (k < vectorCount) × T (candidateAt b k) × CopyOf (now newer) b (now block) ⌝ }
     ensures { λ d. ⌜ d ≡ distortionOf (now (older .entry)) (now (newer .entry)) b k ⌝ }
 {
     let s = b.sizes;
@@ -35,9 +36,9 @@ fn copied_distortion_of(
 fn choose_copied(
     older: &[u8],
     newer: &[u8],
-    order: &[i32; 2178],
+    order: &[i32; order::NUMBERS],
     b: SearchBlock,
-    remaining: &[u16; 1089],
+    remaining: &[u16; order::VECTORS],
     count: usize,
     block: &[u8; 256],
 ) -> Chosen
@@ -60,9 +61,9 @@ fn choose_copied(
 fn choose_of_many(
     older: &[u8],
     newer: &[u8],
-    order: &[i32; 2178],
+    order: &[i32; order::NUMBERS],
     b: SearchBlock,
-    remaining: &[u16; 1089],
+    remaining: &[u16; order::VECTORS],
     count: usize,
 ) -> Chosen
     requires { ⌜ Ready (now older) (now newer) b × (now order ≡ flat preference) ⌝ }
@@ -81,11 +82,16 @@ fn choose_of_many(
 }
 
 // Search 1 of one block.
-pub fn search(older: &[u8], newer: &[u8], order: &[i32; 2178], b: SearchBlock) -> SearchResult
+pub fn search(
+    older: &[u8],
+    newer: &[u8],
+    order: &[i32; order::NUMBERS],
+    b: SearchBlock,
+) -> SearchResult
     requires { ⌜ Ready (now older) (now newer) b × (now order ≡ flat preference) ⌝ }
     ensures { λ r. ⌜ r ≡ fullSearch (pairOf (now (older .entry)) (now (newer .entry)) (b .sizes)) (b .w) (b .y) (b .x) ⌝ }
 {
-    let mut remaining = [0u16; 1089];
+    let mut remaining = [0u16; order::VECTORS];
     let count = candidates::gather(order, b, &mut remaining);
     let best = choose_of_many(older, newer, order, b, &remaining, count);
     let v = order::vector_at(order, best.place);

@@ -133,9 +133,9 @@ bodyCursor h at k = record { at = at; phase = Body h k }
 -- ---- laws
 
 module _ (size : ℕ) (log : List ℕ) (at : ℕ) (rest : Command) where
-  pub judged-not : (due : Bool) → due ≡ false → judged due size log at rest ≡ Cmd.Refused 14 at
+  pub judged-no : (due : Bool) → due ≡ false → judged due size log at rest ≡ Cmd.Refused 14 at
   unfolding judged
-  judged-not due e = rw e
+  judged-no due e = rw e
 
   pub judged-short : (due : Bool) → due ≡ true → length log < at + size → judged due size log at rest ≡ Cmd.Refused 13 at
   unfolding judged

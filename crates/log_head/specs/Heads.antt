@@ -19,7 +19,7 @@ use lib.IntN.{ℤ, pos, negsuc, natAbs}
 use Rattle.base.specs.Tests.{and-left, and-right, le-both, true-T}
 use Rattle.signed.specs.declared.Shifted.the-variants.{At, Outside}
 use Rattle.signed.specs.Int.{eqZ, up, dn}
-use Rattle.signed.specs.Values.{shiftedBy, shifted-is, shifted-not}
+use Rattle.signed.specs.Values.{shiftedBy, shifted-is, shifted-no}
 use Rattle.order.specs.Vectors.{vec}
 use Rattle.frame.specs.declared.Sizes.{Sizes}
 use Rattle.frame.specs.Pictures.{sizes, Fitting, largestN, largestDistortion}
@@ -126,7 +126,7 @@ distortion-in n z m e = go z (shifted-is 0 z (255 * (n * n)) m e)
     go (negsuc d) (q, h) = absurd (omega arith)
 
 pub distortion-out : (n : ℕ) (z : ℤ) → shiftedBy 0 z (255 * (n * n)) ≡ Outside → distortionOk n z ≡ false
-distortion-out n z e = go z (shifted-not 0 z (255 * (n * n)) e)
+distortion-out n z e = go z (shifted-no 0 z (255 * (n * n)) e)
   where
     go : (y : ℤ) → (0 + up y < dn y) ⊎ (255 * (n * n) + dn y < 0 + up y) → distortionOk n y ≡ false
     go (pos d) h = lt-leb d (255 * (n * n)) (⊎-elim (λ l. absurd (omega arith)) (λ l. omega arith) h)

@@ -35,9 +35,9 @@ module _ (list : List ℤ) where
     block-moved e = rw e refl
 
   -- the length, block by block
-  pub sized-none : 13 ≡ 13 + length (concatTo (blockBytes list) 0)
+  pub sized-first : 13 ≡ 13 + length (concatTo (blockBytes list) 0)
   unfolding concatTo
-  sized-none = refl
+  sized-first = refl
 
   pub sized-more : (size k more : ℕ) → size ≡ 13 + length (concatTo (blockBytes list) k) → more ≡ length (blockBytes list k)
       → size + more ≡ 13 + length (concatTo (blockBytes list) (k + 1))

@@ -8,6 +8,12 @@ use preference::ORDER;
 ghost use mathlib.Core.Path.{_≡_};
 ghost use Prim.Native.Nat.{_<_};
 ghost use Rattle.order.specs.Preference.{preference, preferred, flat};
+ghost use Rattle.order.specs.Vectors.{vectorCount};
+
+// How many vectors window 16 has, and how many numbers the table of them: two a vector.
+pub const VECTORS: usize = 1089;
+
+pub const NUMBERS: usize = 2 * VECTORS;
 
 // A motion vector: how far down and how far to the right the older block stands from the newer one.
 pub struct Vector {
@@ -16,15 +22,15 @@ pub struct Vector {
 }
 
 // The table: the 1,089 vectors in preference order, dy and dx of each in turn.
-pub fn table() -> [i32; 2178]
+pub fn table() -> [i32; NUMBERS]
     ensures { λ r. ⌜ r ≡ flat preference ⌝ }
 {
     ORDER
 }
 
 // The vector at place k of the table.
-pub fn vector_at(order: &[i32; 2178], k: usize) -> Vector
-    requires { ⌜ (now order ≡ flat preference) × (k < 1089) ⌝ }
+pub fn vector_at(order: &[i32; NUMBERS], k: usize) -> Vector
+    requires { ⌜ (now order ≡ flat preference) × (k < vectorCount) ⌝ }
     ensures { λ r. ⌜ r ≡ preferred k ⌝ }
 {
     let dy = order[2 * k];

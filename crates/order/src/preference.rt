@@ -1,5 +1,7 @@
 // The preference order of document 01: the 1,089 vectors of window 16 as signed pairs, dy then dx, the vector beside each pair.
-pub const ORDER: [i32; 2178] = [
+use crate::NUMBERS;
+
+pub const ORDER: [i32; NUMBERS] = [
     0,
     0, // (0,0)
     -1,

@@ -149,9 +149,9 @@ pairs-more : (l : List (List ℤ)) (i : ℕ) → i < length l → pairs (drop i 
 unfolding pairs
 pairs-more l i h = rw (drop-cons l i [] h, add-one)
 
-pairs-done : (l : List (List ℤ)) (i : ℕ) → length l ≤ i → pairs (drop i l) ≡ []
+pairs-last : (l : List (List ℤ)) (i : ℕ) → length l ≤ i → pairs (drop i l) ≡ []
 unfolding pairs
-pairs-done l i h = rw (drop-of-length-le l h)
+pairs-last l i h = rw (drop-of-length-le l h)
 
 -- a table that is a pattern, by a test that antt computes
 unfoldable pub pattern? : List (List ℤ) → Bool
@@ -172,8 +172,8 @@ pub record Missing (y x cy cx : ℕ) (offsets : List (List ℤ)) (i : ℕ) : Typ
   pub left : isIn (point y x) (around (point cy cx) (pairs (drop i offsets))) ≡ isIn (point y x) (around (point cy cx) (pairs offsets))
 
 module _ (y x cy cx : ℕ) (offsets : List (List ℤ)) where
-  pub missing-none : Missing y x cy cx offsets 0
-  missing-none = record { passed = omega arith; left = refl }
+  pub missing-first : Missing y x cy cx offsets 0
+  missing-first = record { passed = omega arith; left = refl }
 
   module _ (i : ℕ) (m : Missing y x cy cx offsets i) where
     abbrev hit : Bool
@@ -190,9 +190,9 @@ module _ (y x cy cx : ℕ) (offsets : List (List ℤ)) where
     pub missing-more : i < length offsets → hit ≡ false → Missing y x cy cx offsets (i + 1)
     missing-more h a = record { passed = omega arith; left = rw a at (turn h) }
 
-    pub missing-done : length offsets ≤ i → false ≡ isIn (point y x) (around (point cy cx) (pairs offsets))
+    pub missing-last : length offsets ≤ i → false ≡ isIn (point y x) (around (point cy cx) (pairs offsets))
     unfolding isIn around
-    missing-done h = rw (pairs-done offsets i h) at (m .left)
+    missing-last h = rw (pairs-last offsets i h) at (m .left)
 
 -- ---- a pattern, one point after another: what is left leads from the best by now to where all leads from the first
 
@@ -212,8 +212,8 @@ pub record Going (t : Target) (before : List Vector) (cy cx p : ℕ) (offsets : 
   pub few : best .count ≤ at-origin .count + i
 
 module _ (t : Target) (before : List Vector) (cy cx p : ℕ) (offsets : List (List ℤ)) (at-origin : BestSoFar) where
-  pub going-none : Each (Within 2) (pairs offsets) → at-origin .y ≤ 32 → at-origin .x ≤ 32 → Going t before cy cx p offsets at-origin at-origin 0
-  going-none e h k = record { passed = omega arith; near = e; left = refl; down = h; across = k; few = omega arith }
+  pub going-first : Each (Within 2) (pairs offsets) → at-origin .y ≤ 32 → at-origin .x ≤ 32 → Going t before cy cx p offsets at-origin at-origin 0
+  going-first e h k = record { passed = omega arith; near = e; left = refl; down = h; across = k; few = omega arith }
 
   module _ (best : BestSoFar) (i : ℕ) (g : Going t before cy cx p offsets at-origin best i) where
     pub going-near : i < length offsets → Within 2 (offset (getD offsets i []))
@@ -233,6 +233,6 @@ module _ (t : Target) (before : List Vector) (cy cx p : ℕ) (offsets : List (Li
           few = let f = g .few in let q = k .few in omega arith;
         }
 
-    pub going-done : length offsets ≤ i → seenOf best ≡ probe t (seenOf at-origin) (fresh before (around (point cy cx) (widened p (pairs offsets))))
+    pub going-last : length offsets ≤ i → seenOf best ≡ probe t (seenOf at-origin) (fresh before (around (point cy cx) (widened p (pairs offsets))))
     unfolding probe around widened fresh
-    going-done h = rw (pairs-done offsets i h) at (g .left)
+    going-last h = rw (pairs-last offsets i h) at (g .left)

@@ -14,7 +14,7 @@ use Rattle.base.specs.Sum.{sumTo, sumTo-ext}
 use Rattle.base.specs.Least.{_∈_}
 use Rattle.base.specs.Picks.{pick, picked, pick-length}
 use Rattle.order.specs.declared.Vector.{Vector}
-use Rattle.order.specs.Vectors.{same?, same-true, same-self}
+use Rattle.order.specs.Vectors.{same?, same-yes, same-self, vectorCount}
 use Rattle.order.specs.Preference.{preferred}
 use Rattle.order.proofs.Order.{once}
 use Rattle.frame.specs.Pictures.{Pair}
@@ -48,7 +48,7 @@ unfolding isIn vectorsAt
 in-mem v [] t = absurd t
 in-mem v (j ∷ js) t =
     ⊎-elim
-    (λ s. (j, List·Memᴰ·head refl, sym (same-true v (preferred j) (T-true _ s))))
+    (λ s. (j, List·Memᴰ·head refl, sym (same-yes v (preferred j) (T-true _ s))))
     (λ s. let r = in-mem v js s in (r .0, List·Memᴰ·tail (r .1), r .2))
     (or-cases (same? v (preferred j)) (isIn v (vectorsAt js)) t)
 
@@ -106,11 +106,11 @@ module _ (p : Pair) (w y x : ℕ) (allowed : T (blockSizeOk (p .sizes .n))) (sma
         go true e =
             let h = pruned-holds p w y x (block-size-power (p .sizes .n) allowed) small down across in
             let r = in-mem (preferred k) gone (true-T (isGone k) e) in
-            let same-place : r .0 ≡ k = once (r .0) k (picked passes 1089 (h .dropped-from (r .1)) .0) (picked passes 1089 (h .left-from m) .0) (r .2) in
+            let same-place : r .0 ≡ k = once (r .0) k (picked passes vectorCount (h .dropped-from (r .1)) .0) (picked passes vectorCount (h .left-from m) .0) (r .2) in
             absurd (h .apart m (subst (λ (j : ℕ). j ∈ gone) same-place (r .1)))
 
-    counted : (b : ℕ → Bool) → total (λ k. one (b k)) (pruning p w y x .left) + total (λ k. one (b k)) gone ≡ length (pick (λ k. passes k && b k) 1089)
-    counted b = pruned-counted p w y x .parts (λ k. one (b k)) ∙ total-many passes b 1089
+    counted : (b : ℕ → Bool) → total (λ k. one (b k)) (pruning p w y x .left) + total (λ k. one (b k)) gone ≡ length (pick (λ k. passes k && b k) vectorCount)
+    counted b = pruned-counted p w y x .parts (λ k. one (b k)) ∙ total-many passes b vectorCount
 
     pub dropped-many : prunedSearch p w y x .dropped ≡ howMany (isDropped p w y x)
     unfolding prunedSearch

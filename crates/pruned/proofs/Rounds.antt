@@ -10,6 +10,7 @@ use lib.Seq.{take-suc-set, take-all}
 use Rattle.base.specs.Least.{_∈_, leastOf}
 use Rattle.base.specs.Picks.{pick, pick-few}
 use Rattle.order.specs.Preference.{preferred}
+use Rattle.order.specs.Vectors.{vectorCount}
 use Rattle.distortion.specs.Blocks.{absolute}
 use Rattle.frame.specs.declared.SearchBlock.{SearchBlock}
 use Rattle.search.specs.declared.SearchResult.{SearchResult}
@@ -40,19 +41,19 @@ pub record Going (e : ℕ) (D : ℕ → ℕ) (d : ℕ → ℕ → ℕ) (N : ℕ)
   pub unused : ℕ
   pub state : Pruning
   pub held : InMemory unused state remaining r
-  pub holds : Holds D (pick p 1089) state
-  pub testsCounted : Counted (pick p 1089) state
-  pub ahead : prune e D d (absolute .limit) N (resolutions N) (pick p 1089) ≡ rounds D d (absolute .limit) (halvings m) state
+  pub holds : Holds D (pick p vectorCount) state
+  pub testsCounted : Counted (pick p vectorCount) state
+  pub ahead : prune e D d (absolute .limit) N (resolutions N) (pick p vectorCount) ≡ rounds D d (absolute .limit) (halvings m) state
   pub divides : (i : ℕ) → i ∈ halvings m → i ∣ N
   pub slots : r .slot + length (halvings m) ≡ 4
-  pub wide : length dist ≡ 1089
+  pub wide : length dist ≡ vectorCount
 
 module _ (e : ℕ) (D : ℕ → ℕ) (d : ℕ → ℕ → ℕ) (N : ℕ) (p : ℕ → Bool) where
   abbrev ended : Pruning
-  ended = prune e D d (absolute .limit) N (resolutions N) (pick p 1089)
+  ended = prune e D d (absolute .limit) N (resolutions N) (pick p vectorCount)
 
   abbrev best : ℕ
-  best = prunedBest e D d (absolute .limit) N (resolutions N) (pick p 1089)
+  best = prunedBest e D d (absolute .limit) N (resolutions N) (pick p vectorCount)
 
   abbrev pub answered : SearchResult
   answered = searchResult (preferred best) (D best) (counts ended) (length (ended .dropped))
@@ -63,7 +64,7 @@ module _ {e : ℕ} {D : ℕ → ℕ} {d : ℕ → ℕ → ℕ} {N : ℕ} {p : �
   going-some = rw (← g .held .many) (holds-some (g .holds))
 
   -- at most all candidates do
-  pub going-few : r .count ≤ length (pick p 1089)
+  pub going-few : r .count ≤ length (pick p vectorCount)
   going-few = omega (arith, g .held .many, counted-length (g .testsCounted))
 
   pub going-room : 2 ≤ m → r .slot < 4
@@ -76,18 +77,18 @@ module _ {e : ℕ} {D : ℕ → ℕ} {d : ℕ → ℕ → ℕ} {N : ℕ} {p : �
   pub going-more : (after dist′ : List ℕ) (q : PruneState) → ((i : ℕ) → i ∣ N → Safe D d (absolute .limit) i) → 2 ≤ m
       → ((z : ℕ) (s : Pruning) → InMemory z s remaining r → 0 < length (sift d (absolute .limit) m (lower D d m s) .left)
       → InMemory z (sift d (absolute .limit) m (lower D d m s)) after q)
-      → length dist′ ≡ 1089
+      → length dist′ ≡ vectorCount
       → Going e D d N p (m / 2) after dist′ q
   unfolding lower sift
   going-more after dist′ q safe h steps wide =
-      let holds = sift-holds D d (pick p 1089) (absolute .limit) m _ (safe m (going-divides h)) (lower-holds D d (pick p 1089) m _ (g .holds)) in
+      let holds = sift-holds D d (pick p vectorCount) (absolute .limit) m _ (safe m (going-divides h)) (lower-holds D d (pick p vectorCount) m _ (g .holds)) in
       let held = steps (g .unused) (g .state) (g .held) (holds-some holds) in
       record {
         unused = g .unused;
         state = sift d (absolute .limit) m (lower D d m (g .state));
         held = held;
         holds = holds;
-        testsCounted = sift-counted D d (absolute .limit) (pick p 1089) m _ (lower-counted D d (absolute .limit) (pick p 1089) m _ (g .testsCounted));
+        testsCounted = sift-counted D d (absolute .limit) (pick p vectorCount) m _ (lower-counted D d (absolute .limit) (pick p vectorCount) m _ (g .testsCounted));
         ahead = g .ahead ∙ rounds-more D d (absolute .limit) m (g .state) h;
         divides = λ i k. g .divides i (rw (halvings-more m h) (List·Memᴰ·tail k));
         slots = omega (arith, g .slots, g .held .slot, held .slot, length-append (g .state .tested) (length (g .state .left) ∷ []), ap length (halvings-more m h));
@@ -95,9 +96,9 @@ module _ {e : ℕ} {D : ℕ → ℕ} {d : ℕ → ℕ → ℕ} {N : ℕ} {p : �
       }
 
   -- no round is left: the answer made of memory is the search's
-  pub going-done : (all : ℕ) → m < 2 → length (pick p 1089) ≡ all → measureRemaining D remaining all r ≡ answered e D d N p
+  pub going-last : (all : ℕ) → m < 2 → length (pick p vectorCount) ≡ all → measureRemaining D remaining all r ≡ answered e D d N p
   unfolding prunedBest counts
-  going-done all h same =
+  going-last all h same =
       let at-end : ended e D d N p ≡ g .state = g .ahead ∙ rounds-none D d (absolute .limit) m (g .state) h in
       let last : r .slot ≡ 4 = omega (arith, g .slots, ap length (halvings-none m h)) in
       let five = filled-up (g .unused) (r .counts) (g .state .tested) (r .slot) (r .count) last (g .held .five) (g .held .slot) (g .held .tested) in
@@ -109,7 +110,7 @@ module _ {e : ℕ} {D : ℕ → ℕ} {d : ℕ → ℕ → ℕ} {N : ℕ} {p : �
 pub going-listed : {e : ℕ} {D : ℕ → ℕ} {d : ℕ → ℕ → ℕ} {N : ℕ} {b : SearchBlock} {m : ℕ} {remaining dist : List ℕ} {r : PruneState}
     → Going e D d N (candidateAt b) m remaining dist r → ListedCandidates b remaining (r .count)
 going-listed {b = b} {remaining = remaining} {r = r} g =
-    listed-front b remaining (g .state .left) (r .count) (g .held .long) (g .held .many) (g .held .left) (omega (arith, going-few g, pick-few (candidateAt b) 1089)) (λ k i. g .holds .left-from i)
+    listed-front b remaining (g .state .left) (r .count) (g .held .long) (g .held .many) (g .held .left) (omega (arith, going-few g, pick-few (candidateAt b) vectorCount)) (λ k i. g .holds .left-from i)
 
 -- ---- before the loop
 
@@ -118,11 +119,11 @@ take-zeros zero n h = refl
 take-zeros (suc z) zero h = absurd (not-suc-le-zero h)
 take-zeros (suc z) (suc n) h = ap (λ (ks : List ℕ). 0 ∷ ks) (take-zeros z n (le-of-suc-le-suc h))
 
-module _ (e : ℕ) (D : ℕ → ℕ) (N : ℕ) (b : SearchBlock) {before remaining : List ℕ} {all : ℕ} {r : PruneState} (long : length before ≡ 1089)
-    (a : Front (pick (candidateAt b) 1089) before remaining all) (f : Begun e N all r)
+module _ (e : ℕ) (D : ℕ → ℕ) (N : ℕ) (b : SearchBlock) {before remaining : List ℕ} {all : ℕ} {r : PruneState} (long : length before ≡ vectorCount)
+    (a : Front (pick (candidateAt b) vectorCount) before remaining all) (f : Begun e N all r)
   where
     -- all candidates are in memory, and E
-    start-held : InMemory (r .slot) (allRemaining e (pick (candidateAt b) 1089)) remaining r
+    start-held : InMemory (r .slot) (allRemaining e (pick (candidateAt b) vectorCount)) remaining r
     unfolding allRemaining
     start-held = record {
       long = gathered-long b a long;
@@ -135,21 +136,21 @@ module _ (e : ℕ) (D : ℕ → ℕ) (N : ℕ) (b : SearchBlock) {before remaini
     }
 
     -- after the test at N the rounds from N / 2 on lead to the end
-    pub going-start : (d : ℕ → ℕ → ℕ) {after dist : List ℕ} {q : PruneState}
-        → (InMemory (r .slot) (allRemaining e (pick (candidateAt b) 1089)) remaining r → r .bound ≡ allRemaining e (pick (candidateAt b) 1089) .bound
-        → InMemory (r .slot) (sift d (absolute .limit) N (allRemaining e (pick (candidateAt b) 1089))) after q)
-        → length dist ≡ 1089 → Attained D (pick (candidateAt b) 1089) e → Safe D d (absolute .limit) N → ((i : ℕ) → i ∈ resolutions N → i ∣ N)
+    pub going-first : (d : ℕ → ℕ → ℕ) {after dist : List ℕ} {q : PruneState}
+        → (InMemory (r .slot) (allRemaining e (pick (candidateAt b) vectorCount)) remaining r → r .bound ≡ allRemaining e (pick (candidateAt b) vectorCount) .bound
+        → InMemory (r .slot) (sift d (absolute .limit) N (allRemaining e (pick (candidateAt b) vectorCount))) after q)
+        → length dist ≡ vectorCount → Attained D (pick (candidateAt b) vectorCount) e → Safe D d (absolute .limit) N → ((i : ℕ) → i ∈ resolutions N → i ∣ N)
         → length (resolutions N) ≤ 3
         → Going e D d N (candidateAt b) (N / 2) after dist q
     unfolding prune sift allRemaining
-    going-start d steps wide given safe divides few =
+    going-first d steps wide given safe divides few =
         let held = steps start-held (f .bound) in
         record {
           unused = r .slot;
-          state = sift d (absolute .limit) N (allRemaining e (pick (candidateAt b) 1089));
+          state = sift d (absolute .limit) N (allRemaining e (pick (candidateAt b) vectorCount));
           held = held;
-          holds = sift-holds D d (pick (candidateAt b) 1089) (absolute .limit) N _ safe (all-remaining-holds e D (pick (candidateAt b) 1089) given);
-          testsCounted = sift-counted D d (absolute .limit) (pick (candidateAt b) 1089) N _ (all-remaining-counted e (pick (candidateAt b) 1089));
+          holds = sift-holds D d (pick (candidateAt b) vectorCount) (absolute .limit) N _ safe (all-remaining-holds e D (pick (candidateAt b) vectorCount) given);
+          testsCounted = sift-counted D d (absolute .limit) (pick (candidateAt b) vectorCount) N _ (all-remaining-counted e (pick (candidateAt b) vectorCount));
           ahead = refl;
           divides = divides;
           slots = omega (arith, held .slot, f .slot);

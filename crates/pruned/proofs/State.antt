@@ -11,6 +11,7 @@ use lib.Dec.{leb}
 use lib.ListN.{length, take, length-set, length-append, replicate}
 use lib.Seq.{take-suc-set}
 use Rattle.base.specs.Least.{leastOf}
+use Rattle.order.specs.Vectors.{vectorCount}
 use Rattle.distortion.specs.Blocks.{absolute}
 use Rattle.pruned_rule.specs.Sift.{kept}
 use Rattle.pruned_rule.specs.Prune.{Pruning, lower, sift}
@@ -23,7 +24,7 @@ use Rattle.pruned_steps.specs.Memory.{testsCounted, recounted, bounded, Leveled
 
 -- the search stands at s, with z of the five counts unused; E is kept as long as more than one candidate remains
 pub record InMemory (z : ℕ) (s : Pruning) (remaining : List ℕ) (r : PruneState) : Type 0 where
-  pub long : length remaining ≡ 1089
+  pub long : length remaining ≡ vectorCount
   pub bound : 1 < r .count → r .bound ≡ s .bound
   pub many : length (s .left) ≡ r .count
   pub left : take (r .count) remaining ≡ s .left
@@ -115,7 +116,7 @@ sift-alone D d m {z} {s} {remaining} {r} h one l some =
 -- wherever the search stood, if a candidate remains
 pub level-done : (D : ℕ → ℕ) (d : ℕ → ℕ → ℕ) (m : ℕ) {remaining dist after measured : List ℕ} {r q : PruneState}
     → Leveled D (d m) remaining dist r after measured q
-    → length dist ≡ 1089 → 0 < r .count → r .count ≤ 1089 → r .slot < 5 → (z : ℕ) (s : Pruning) → InMemory z s remaining r
+    → length dist ≡ vectorCount → 0 < r .count → r .count ≤ vectorCount → r .slot < 5 → (z : ℕ) (s : Pruning) → InMemory z s remaining r
     → 0 < length (sift d (absolute .limit) m (lower D d m s) .left) → InMemory z (sift d (absolute .limit) m (lower D d m s)) after q
 level-done D d m {remaining} {dist} {after} {measured} {r} {q} v wide one few room z s h some = ⊎-elim lone many (eq-or-lt-of-le one)
   where
@@ -134,6 +135,6 @@ level-done D d m {remaining} {dist} {after} {measured} {r} {q} v wide one few ro
         rw c (sift-done d m low (low .bound l) short room g (record { many = refl; list = b }))
 
 pub level-wide : (D f : ℕ → ℕ) {remaining dist after measured : List ℕ} {r q : PruneState} → Leveled D f remaining dist r after measured q
-    → length dist ≡ 1089 → 0 < r .count → r .count ≤ 1089 → length measured ≡ 1089
+    → length dist ≡ vectorCount → 0 < r .count → r .count ≤ vectorCount → length measured ≡ vectorCount
 level-wide D f {remaining} {dist} {after} {measured} {r} {q} v wide one few =
     ⊎-elim (λ l. rw (v .alone (sym l) .1) wide) (λ l. filled-is f remaining dist measured (r .count) (v .more l .0) wide few .long) (eq-or-lt-of-le one)

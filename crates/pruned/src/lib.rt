@@ -13,7 +13,7 @@ use search::SearchResult;
 pub fn search(
     older: &[u8],
     newer: &[u8],
-    order: &[i32; 2178],
+    order: &[i32; order::NUMBERS],
     b: SearchBlock,
     sums: &[u32],
     a: Region,
@@ -21,8 +21,8 @@ pub fn search(
     requires { ⌜ Lent (now older) (now newer) b (now sums) a × (now order ≡ flat preference) ⌝ }
     ensures { λ r. ⌜ r ≡ prunedSearch (pairOf (now (older .entry)) (now (newer .entry)) (b .sizes)) (b .w) (b .y) (b .x) ⌝ }
 {
-    let mut remaining = [0u16; 1089];
-    let mut dist = [0u32; 1089];
+    let mut remaining = [0u16; order::VECTORS];
+    let mut dist = [0u32; order::VECTORS];
     let s = b.sizes;
     let n = s.n;
     let mut blocksums = [0u32; pruned_sums::BLOCK_TABLE];

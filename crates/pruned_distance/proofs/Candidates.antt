@@ -12,6 +12,7 @@ use Rattle.base.specs.Rows.{inRows, in-rows-at}
 use Rattle.signed.specs.Int.{parts}
 use Rattle.order.specs.declared.Vector.{Vector}
 use Rattle.order.specs.Preference.{preferred}
+use Rattle.order.specs.Vectors.{vectorCount}
 use Rattle.frame.specs.Pictures.{pel, largestN}
 use Rattle.frame.specs.Candidates.{olderRow, olderColumn, candidate-older}
 use Rattle.distortion.specs.Blocks.{Block, absolute, blockAt}
@@ -189,7 +190,7 @@ module _ (older newer : List ℕ) (b : SearchBlock) (sums : List ℕ) (a : Regio
             across = λ j h. omega (arith, left, s .across, v .behind (b .x - b .w + j) (omega arith) (omega (arith, s .across)));
           }
 
-      pub few : w .rows * w .columns ≤ 1089
+      pub few : w .rows * w .columns ≤ vectorCount
       few = mul-le-mul {n₂ = 33} {m₂ = 33} (corner-region-is .few-rows) (corner-region-is .few-columns)
 
       place-is : (i j : ℕ) → (w .top - a .top + i) * (a .columns + 1) + (w .left - a .left + j) ≡ corner + i * (a .columns + 1) + j
@@ -209,7 +210,7 @@ module _ (older newer : List ℕ) (b : SearchBlock) (sums : List ℕ) (a : Regio
         pub reached-corner-region : Reached cornerOrigin (vector i)
         reached-corner-region = let p = within in reached i (w .top) (w .left) (w .columns) (at-candidate i h) (p .0) (p .1) (omega (arith, corner-region-is .few-columns))
 
-        pub place-corner-region : placeOf cornerOrigin (vector i) < 1089
+        pub place-corner-region : placeOf cornerOrigin (vector i) < vectorCount
         place-corner-region = let p = within in omega (arith, few, p .3, row-fits (R i h - w .top) (w .rows) (w .columns) (p .2))
 
         -- the same place of the table, cornerOrigin from the part's corner

@@ -7,17 +7,18 @@ use native.Mathlib.Omega.{arith}
 use lib.ListN.{length, set, drop, length-set}
 use Rattle.base.specs.Lists.{fillTo, fill-none, fill-front, length-over}
 use Rattle.base.specs.Rows.{inRows, length-in-rows}
+use Rattle.order.specs.Vectors.{vectorCount}
 
 pub record Filling (g : ℕ → ℕ) (count : ℕ) (before dist : List ℕ) (i : ℕ) : Type 0 where
   pub rowoffset : i ≤ count
-  pub long : length dist ≡ 1089
-  pub room : length before ≡ 1089
+  pub long : length dist ≡ vectorCount
+  pub room : length before ≡ vectorCount
   pub filled : dist ≡ fillTo before 0 g i
 
-pub filling-none : (g : ℕ → ℕ) (count : ℕ) (before : List ℕ) → length before ≡ 1089 → Filling g count before before 0
-filling-none g count before h = record { rowoffset = omega arith; long = h; room = h; filled = fill-none before 0 g }
+pub filling-first : (g : ℕ → ℕ) (count : ℕ) (before : List ℕ) → length before ≡ vectorCount → Filling g count before before 0
+filling-first g count before h = record { rowoffset = omega arith; long = h; room = h; filled = fill-none before 0 g }
 
-pub filling-more : {g : ℕ → ℕ} {count : ℕ} {before dist : List ℕ} {i : ℕ} (v : ℕ) → Filling g count before dist i → i < count → count ≤ 1089 → v ≡ g i
+pub filling-more : {g : ℕ → ℕ} {count : ℕ} {before dist : List ℕ} {i : ℕ} (v : ℕ) → Filling g count before dist i → i < count → count ≤ vectorCount → v ≡ g i
     → Filling g count before (set dist i v) (i + 1)
 filling-more {g} {count} {before} {dist} {i} v f h few e = record {
   rowoffset = omega arith;

@@ -6,6 +6,7 @@ ghost use lib.ListN.{length, getD};
 ghost use Rattle.base.specs.Sum.{sumTo};
 ghost use Rattle.base.specs.Lists.{fillTo};
 ghost use Rattle.order.specs.Preference.{preference, preferred, flat};
+ghost use Rattle.order.specs.Vectors.{vectorCount};
 ghost use Rattle.distortion.specs.Blocks.{blockAt};
 ghost use Rattle.pruned_subblocks.specs.Squares.{BlockSums, Cut, differenceAt, Compared};
 ghost use Rattle.pruned_distance.specs.Remaining.{Reached, placeOf, distanceOf, Tested};
@@ -24,8 +25,8 @@ pub struct Origin {
 }
 
 // The place of the older block of the vector at place k of the preference table.
-fn place_of(order: &[i32; 2178], k: usize, o: Origin) -> usize
-    requires { ⌜ (now order ≡ flat preference) × (k < 1089) × Reached o (preferred k) ⌝ }
+fn place_of(order: &[i32; order::NUMBERS], k: usize, o: Origin) -> usize
+    requires { ⌜ (now order ≡ flat preference) × (k < vectorCount) × Reached o (preferred k) ⌝ }
     ensures { λ r. ⌜ r ≡ placeOf o (preferred k) ⌝ }
 {
     let v = order::vector_at(order, k);
@@ -40,14 +41,14 @@ fn fill_few(
     rowoffset: usize,
     m: usize,
     squares: usize,
-    order: &[i32; 2178],
+    order: &[i32; order::NUMBERS],
     o: Origin,
-    remaining: &[u16; 1089],
+    remaining: &[u16; order::VECTORS],
     count: usize,
-    dist: &mut [u32; 1089],
+    dist: &mut [u32; order::VECTORS],
 )
-    requires { ⌜ (now order ≡ flat preference) × (length (now dist) ≡ 1089) × (length (now remaining) ≡ 1089) × (count ≤ 1089) ⌝ }
-    requires { ⌜ ((i : ℕ) → i < count → (getD (now remaining) i 0 < 1089) × Reached o (preferred (getD (now remaining) i 0))
+    requires { ⌜ (now order ≡ flat preference) × (length (now dist) ≡ vectorCount) × (length (now remaining) ≡ vectorCount) × (count ≤ vectorCount) ⌝ }
+    requires { ⌜ ((i : ℕ) → i < count → (getD (now remaining) i 0 < vectorCount) × Reached o (preferred (getD (now remaining) i 0))
         × Compared (now block) (now steps) (now sums) rowoffset m squares (placeOf o (preferred (getD (now remaining) i 0)))) ⌝ }
     ensures { λ _. ⌜ now (dist .exit) ≡ fillTo (now (dist .entry)) 0 (λ i. sumTo (differenceAt (now (block .entry)) (now (steps .entry)) (now (sums .entry)) rowoffset m (placeOf o (preferred (getD (now (remaining .entry)) i 0)))) squares) count ⌝ }
 {
@@ -61,16 +62,16 @@ fn fill_few(
 
 // Each remaining candidate from the distances of all older blocks.
 fn pick(
-    part: &[u32; 1089],
-    order: &[i32; 2178],
+    part: &[u32; order::VECTORS],
+    order: &[i32; order::NUMBERS],
     o: Origin,
-    remaining: &[u16; 1089],
+    remaining: &[u16; order::VECTORS],
     count: usize,
-    dist: &mut [u32; 1089],
+    dist: &mut [u32; order::VECTORS],
 )
-    requires { ⌜ (now order ≡ flat preference) × (length (now dist) ≡ 1089) × (length (now remaining) ≡ 1089) × (length (now part) ≡ 1089) × (count ≤ 1089) ⌝ }
-    requires { ⌜ ((i : ℕ) → i < count → (getD (now remaining) i 0 < 1089) × Reached o (preferred (getD (now remaining) i 0))
-        × (placeOf o (preferred (getD (now remaining) i 0)) < 1089)) ⌝ }
+    requires { ⌜ (now order ≡ flat preference) × (length (now dist) ≡ vectorCount) × (length (now remaining) ≡ vectorCount) × (length (now part) ≡ vectorCount) × (count ≤ vectorCount) ⌝ }
+    requires { ⌜ ((i : ℕ) → i < count → (getD (now remaining) i 0 < vectorCount) × Reached o (preferred (getD (now remaining) i 0))
+        × (placeOf o (preferred (getD (now remaining) i 0)) < vectorCount)) ⌝ }
     ensures { λ _. ⌜ now (dist .exit) ≡ fillTo (now (dist .entry)) 0 (λ i. getD (now (part .entry)) (placeOf o (preferred (getD (now (remaining .entry)) i 0))) 0) count ⌝ }
 {
     let mut i: usize = 0;
@@ -84,7 +85,7 @@ fn pick(
 fn fill_many(
     older: &[u8],
     newer: &[u8],
-    order: &[i32; 2178],
+    order: &[i32; order::NUMBERS],
     b: SearchBlock,
     sums: &[u32],
     a: Region,
@@ -92,11 +93,11 @@ fn fill_many(
     block: &[u32],
     steps: &[usize],
     k: usize,
-    remaining: &[u16; 1089],
+    remaining: &[u16; order::VECTORS],
     count: usize,
-    dist: &mut [u32; 1089],
+    dist: &mut [u32; order::VECTORS],
 )
-    requires { ⌜ (now order ≡ flat preference) × (length (now dist) ≡ 1089) × Tested (now older) (now newer) b (now sums) a m (now remaining) count ⌝ }
+    requires { ⌜ (now order ≡ flat preference) × (length (now dist) ≡ vectorCount) × Tested (now older) (now newer) b (now sums) a m (now remaining) count ⌝ }
     requires { ⌜ (k * m ≡ b .sizes .n) × Cut (blockAt (now newer) (b .sizes .width) (b .y) (b .x)) m k (a .columns + 1) (now block) (now steps) ⌝ }
     ensures { λ _. ⌜ now (dist .exit) ≡ fillTo (now (dist .entry)) 0 (λ i. distanceOf (now (older .entry)) (now (newer .entry)) b m (getD (now (remaining .entry)) i 0)) count ⌝ }
 {
@@ -109,7 +110,7 @@ fn fill_many(
     let rows = r.rows;
     let columns = r.columns;
     let at = (top - a.top) * stride + (left - a.left);
-    let mut part = [0u32; 1089];
+    let mut part = [0u32; order::VECTORS];
     pruned_spread::spread(
         block,
         steps,
@@ -137,17 +138,17 @@ fn fill_many(
 pub fn fill_distances(
     older: &[u8],
     newer: &[u8],
-    order: &[i32; 2178],
+    order: &[i32; order::NUMBERS],
     b: SearchBlock,
     sums: &[u32],
     a: Region,
     blocksums: &[u32],
     m: usize,
-    remaining: &[u16; 1089],
+    remaining: &[u16; order::VECTORS],
     count: usize,
-    dist: &mut [u32; 1089],
+    dist: &mut [u32; order::VECTORS],
 )
-    requires { ⌜ (now order ≡ flat preference) × (length (now dist) ≡ 1089) × Tested (now older) (now newer) b (now sums) a m (now remaining) count
+    requires { ⌜ (now order ≡ flat preference) × (length (now dist) ≡ vectorCount) × Tested (now older) (now newer) b (now sums) a m (now remaining) count
         × BlockSums (now newer) b (now blocksums) ⌝ }
     ensures { λ _. ⌜ now (dist .exit) ≡ fillTo (now (dist .entry)) 0 (λ i. distanceOf (now (older .entry)) (now (newer .entry)) b m (getD (now (remaining .entry)) i 0)) count ⌝ }
 {

@@ -11,6 +11,7 @@ use lib.ListN.{length, getD, take, length-append, length-set}
 use lib.Seq.{take-suc}
 use Rattle.base.specs.Lists.{listTo, fillTo, length-listTo, length-fill, fill-in}
 use Rattle.base.specs.Least.{leastOf, leastFrom, leastOf-more}
+use Rattle.order.specs.Vectors.{vectorCount}
 use Rattle.pruned_rule.specs.Sift.{kept}
 use Rattle.pruned_rule.proofs.Loops.{kept-take}
 use Rattle.pruned_remaining.specs.Kept.{nearestOf, keptWithin, swept}
@@ -34,7 +35,7 @@ swept-long limit remaining dist (suc n) = rw length-set (swept-long limit remain
 
 -- dist holds f of each of the first count
 pub record Stored (f : ℕ → ℕ) (remaining : List ℕ) (count : ℕ) (dist : List ℕ) : Type 0 where
-  pub long : length dist ≡ 1089
+  pub long : length dist ≡ vectorCount
   pub value : (i : ℕ) → i < count → getD dist i 0 ≡ f (getD remaining i 0)
 
 -- the first least of a list by a rule, by its place
@@ -64,8 +65,8 @@ nearest-mem remaining dist zero h = absurd (not-suc-le-zero h)
 nearest-mem remaining dist (suc n) h = (_, least-place (λ i. getD dist i 0) (λ i. getD dist i 0) (λ i. i) n (λ i k. refl) .0, refl)
 
 -- an array filled with f of the candidates
-pub filled-is : (f : ℕ → ℕ) (remaining before dist : List ℕ) (count : ℕ) → dist ≡ fillTo before 0 (λ i. f (getD remaining i 0)) count → length before ≡ 1089
-    → count ≤ 1089
+pub filled-is : (f : ℕ → ℕ) (remaining before dist : List ℕ) (count : ℕ) → dist ≡ fillTo before 0 (λ i. f (getD remaining i 0)) count → length before ≡ vectorCount
+    → count ≤ vectorCount
     → Stored f remaining count dist
 filled-is f remaining before dist count e h few = record {
   long = rw e (length-fill before 0 _ count (omega arith) ∙ h);

@@ -11,7 +11,7 @@ use lib.Dec.{leb}
 use lib.ListN.{length, getD, take, drop, set, length-append, length-set, take-append-drop}
 use lib.Seq.{take-all, take-set-le, take-suc-set, drop-set-lt, getD-set-other}
 use Rattle.base.specs.Lists.{listTo, length-listTo, getD-listTo}
-use Rattle.base.specs.Least.{leastOf, least-next-less, least-next-not, least-of-one}
+use Rattle.base.specs.Least.{leastOf, least-next-yes, least-next-no, least-of-one}
 use Rattle.candidates.specs.Gathered.{Front}
 use Rattle.pruned_remaining.specs.Kept.{nearestOf, keptWithin, swept}
 
@@ -42,7 +42,7 @@ module _ {dist : List ℕ} {count i best : ℕ} (s : Nearest dist count i best) 
     some = omega arith;
     inside = omega arith;
     behind = omega arith;
-    least = sym same ∙ least-next-less (λ j. getD dist j 0) _ i best (s .least) (s .some) long (rw same l);
+    least = sym same ∙ least-next-yes (λ j. getD dist j 0) _ i best (s .least) (s .some) long (rw same l);
   }
 
   pub nearest-no : getD dist best 0 ≤ getD dist i 0 → Nearest dist count (i + 1) best
@@ -50,7 +50,7 @@ module _ {dist : List ℕ} {count i best : ℕ} (s : Nearest dist count i best) 
     some = omega arith;
     inside = omega arith;
     behind = omega arith;
-    least = least-next-not (λ j. getD dist j 0) _ i best (s .least) (s .some) long (rw same l);
+    least = least-next-no (λ j. getD dist j 0) _ i best (s .least) (s .some) long (rw same l);
   }
 
 pub nearest-last : {dist : List ℕ} {count best : ℕ} (remaining : List ℕ) → Nearest dist count count best

@@ -4,12 +4,17 @@
 ghost use mathlib.Core.Path.{_≡_};
 ghost use Prim.Native.Nat.{_+_, _≤_, _<_};
 ghost use lib.ListN.{length, drop};
+ghost use Rattle.order.specs.Vectors.{vectorCount};
 ghost use Rattle.candidates.specs.Gathered.{Front};
 ghost use Rattle.pruned_remaining.specs.Kept.{nearestOf, keptWithin, swept};
 
 // The first remaining candidate of least distance.
-pub fn nearest(remaining: &[u16; 1089], count: usize, dist: &[u32; 1089]) -> usize
-    requires { ⌜ (length (now remaining) ≡ 1089) × (0 < count) × (count ≤ 1089) ⌝ }
+pub fn nearest(
+    remaining: &[u16; order::VECTORS],
+    count: usize,
+    dist: &[u32; order::VECTORS],
+) -> usize
+    requires { ⌜ (length (now remaining) ≡ vectorCount) × (0 < count) × (count ≤ vectorCount) ⌝ }
     ensures { λ r. ⌜ r ≡ nearestOf (now (remaining .entry)) count (now (dist .entry)) ⌝ }
 {
     let mut best: usize = 0;
@@ -26,12 +31,12 @@ pub fn nearest(remaining: &[u16; 1089], count: usize, dist: &[u32; 1089]) -> usi
 // Drops each candidate whose distance exceeds `limit`; answers how many remain. Each is stored behind those that stay, and counted if it stays too: a
 // branch around the store costs more than the store. So the place just behind those that stay may hold one that was dropped; what comes after it is kept.
 pub fn keep_within(
-    remaining: &mut [u16; 1089],
+    remaining: &mut [u16; order::VECTORS],
     count: usize,
-    dist: &[u32; 1089],
+    dist: &[u32; order::VECTORS],
     limit: u32,
 ) -> usize
-    requires { ⌜ (length (now remaining) ≡ 1089) × (count ≤ 1089) ⌝ }
+    requires { ⌜ (length (now remaining) ≡ vectorCount) × (count ≤ vectorCount) ⌝ }
     ensures { λ r. ⌜ Front (keptWithin limit (now (remaining .entry)) (now (dist .entry)) count) (swept limit (now (remaining .entry)) (now (dist .entry)) count) (now (remaining .exit)) r
         × (drop (r + 1) (now (remaining .exit)) ≡ drop (r + 1) (now (remaining .entry))) ⌝ }
 {

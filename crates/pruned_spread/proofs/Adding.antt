@@ -8,7 +8,7 @@ use lib.ListN.{length, getD, set, drop, length-set}
 use Rattle.base.specs.Sum.{sumTo, sumTo-none, sumTo-more}
 use Rattle.base.specs.Index.{row-next, row-fits}
 use Rattle.base.specs.Lists.{fillTo, fill-none, fill-more, fill-ext, fill-after, drop-over, length-over}
-use Rattle.base.specs.Rows.{inRows, length-in-rows, in-rows-ext, in-rows-at, in-rows-self, Rowed, rowed-none, rowed-step, rowed-behind}
+use Rattle.base.specs.Rows.{inRows, length-in-rows, in-rows-ext, in-rows-at, in-rows-self, Rowed, rowed-first, rowed-more, rowed-behind}
 use Rattle.pruned_spread.specs.Spread.{raised}
 
 -- what a row of `columns` places from `from` on holds, once e is added
@@ -22,8 +22,8 @@ pub record Raising (e : ℕ → ℕ) (columns : ℕ) (before after : List ℕ) (
   pub filled : after ≡ fillTo before from (raisedRow e before from) c
 
 module _ (e : ℕ → ℕ) (columns : ℕ) (before : List ℕ) (from : ℕ) where
-  pub raising-none : Raising e columns before before from 0
-  raising-none = record { rowoffset = omega arith; long = refl; filled = fill-none before from _ }
+  pub raising-first : Raising e columns before before from 0
+  raising-first = record { rowoffset = omega arith; long = refl; filled = fill-none before from _ }
 
   module _ (room : from + columns ≤ length before) (after : List ℕ) (c : ℕ) (g : Raising e columns before after from c) where
     -- the next place holds what it held
@@ -32,8 +32,8 @@ module _ (e : ℕ → ℕ) (columns : ℕ) (before : List ℕ) (from : ℕ) wher
         let p : from + c + 0 ≡ from + c = omega arith in
         rw (g .filled) (rw p at (fill-after before from (raisedRow e before from) c 0 0 (omega (arith, g .rowoffset))))
 
-    pub raising-step : (x : ℕ) → x ≡ e c → c < columns → Raising e columns before (set after (from + c) (getD after (from + c) 0 + x)) from (c + 1)
-    raising-step x h l = record {
+    pub raising-more : (x : ℕ) → x ≡ e c → c < columns → Raising e columns before (set after (from + c) (getD after (from + c) 0 + x)) from (c + 1)
+    raising-more x h l = record {
       rowoffset = omega arith;
       long = length-set after _ _ ∙ g .long;
       filled = rw (raising-read, h, g .filled) (fill-more before from (raisedRow e before from) c (omega arith));
@@ -47,8 +47,8 @@ pub record Adding (f : ℕ → ℕ → ℕ) (rows columns at stride : ℕ) (befo
   pub rowed : Rowed (raised f columns before) columns before after i
 
 module _ (f : ℕ → ℕ → ℕ) (rows columns at stride : ℕ) (before : List ℕ) where
-  pub adding-none : Adding f rows columns at stride before before 0 at 0
-  adding-none = record { rowoffset = omega arith; here-is = rw (zero-mul, add-zero); from-is = sym (zero-mul columns); rowed = rowed-none _ columns before }
+  pub adding-first : Adding f rows columns at stride before before 0 at 0
+  adding-first = record { rowoffset = omega arith; here-is = rw (zero-mul, add-zero); from-is = sym (zero-mul columns); rowed = rowed-first _ columns before }
 
   module _ (after : List ℕ) (i here from : ℕ) (g : Adding f rows columns at stride before after i here from) where
     -- the next row holds what it held
@@ -60,22 +60,22 @@ module _ (f : ℕ → ℕ → ℕ) (rows columns at stride : ℕ) (before : List
       pub adding-room : from + columns ≤ length after
       adding-room = omega (arith, g .rowed .long, g .from-is, row-fits i rows columns h)
 
-      pub adding-step : (e : ℕ → ℕ) → ((c : ℕ) → e c ≡ f i c)
+      pub adding-more : (e : ℕ → ℕ) → ((c : ℕ) → e c ≡ f i c)
           → Adding f rows columns at stride before (fillTo after from (raisedRow e after from) columns) (i + 1) (here + stride) (from + columns)
-      adding-step e same = record {
+      adding-more e same = record {
         rowoffset = omega arith;
         here-is = omega (arith, g .here-is, row-next i stride);
         from-is = omega (arith, g .from-is, row-next i columns);
         rowed =
-            rowed-step _ columns before after _ i from (g .rowed) (g .from-is) adding-room
+            rowed-more _ columns before after _ i from (g .rowed) (g .from-is) adding-room
             (fill-ext after from (raisedRow e after from) (raised f columns before i) columns (λ c l. ap₂ _+_ (adding-read c) (same c)));
       }
 
 -- ---- one square more: after s squares each place holds the sum of the first s terms
 
 module _ (f : ℕ → ℕ → ℕ → ℕ) (rows columns : ℕ) (before : List ℕ) (room : rows * columns ≤ length before) where
-  pub summed-none : ((i j : ℕ) → i < rows → j < columns → getD before (i * columns + j) 0 ≡ 0) → Rowed (λ i j. sumTo (f i j) 0) columns before before rows
-  summed-none z = record {
+  pub summed-first : ((i j : ℕ) → i < rows → j < columns → getD before (i * columns + j) 0 ≡ 0) → Rowed (λ i j. sumTo (f i j) 0) columns before before rows
+  summed-first z = record {
     long = refl;
     filled = in-rows-self before rows columns room ∙ ap (λ (l : List ℕ). l ++ drop (rows * columns) before) (in-rows-ext _ _ rows columns (λ i j hi hj. z i j hi hj ∙ sym (sumTo-none _)));
   }
@@ -83,10 +83,10 @@ module _ (f : ℕ → ℕ → ℕ → ℕ) (rows columns : ℕ) (before : List �
   abbrev sums : ℕ → ℕ → ℕ → ℕ
   sums s i j = sumTo (f i j) s
 
-  pub summed-step : (mid after : List ℕ) (s : ℕ) (e : ℕ → ℕ → ℕ) → Rowed (λ i j. sumTo (f i j) s) columns before mid rows
+  pub summed-more : (mid after : List ℕ) (s : ℕ) (e : ℕ → ℕ → ℕ) → Rowed (λ i j. sumTo (f i j) s) columns before mid rows
       → after ≡ inRows (raised e columns mid) rows columns ++ drop (rows * columns) mid → ((i j : ℕ) → e i j ≡ f i j s)
       → Rowed (λ i j. sumTo (f i j) (s + 1)) columns before after rows
-  summed-step mid after s e g a same =
+  summed-more mid after s e g a same =
       record { long = rw now (length-over (inRows (sums (s + 1)) rows columns) before (rows * columns) (length-in-rows (sums (s + 1)) rows columns) room); filled = now }
     where
       held : (i j : ℕ) → i < rows → j < columns → getD mid (i * columns + j) 0 ≡ sumTo (f i j) s

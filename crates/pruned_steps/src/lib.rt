@@ -6,6 +6,7 @@ ghost use Prim.Native.Nat.{_≤_, _<_};
 ghost use lib.Dec.{T};
 ghost use lib.ListN.{length};
 ghost use Rattle.order.specs.Preference.{preference, flat};
+ghost use Rattle.order.specs.Vectors.{vectorCount};
 ghost use Rattle.frame.specs.Pictures.{pairOf};
 ghost use Rattle.refusals.specs.Refusals.{blockSizeOk};
 ghost use Rattle.search.specs.Target.{Ready};
@@ -40,7 +41,7 @@ fn first_slot(n: usize) -> usize
 pub fn begin(
     older: &[u8],
     newer: &[u8],
-    order: &[i32; 2178],
+    order: &[i32; order::NUMBERS],
     b: SearchBlock,
     total: usize,
 ) -> PruneState
@@ -62,10 +63,10 @@ pub fn begin(
 fn lowered(
     older: &[u8],
     newer: &[u8],
-    order: &[i32; 2178],
+    order: &[i32; order::NUMBERS],
     b: SearchBlock,
-    remaining: &[u16; 1089],
-    dist: &[u32; 1089],
+    remaining: &[u16; order::VECTORS],
+    dist: &[u32; order::VECTORS],
     r: PruneState,
 ) -> PruneState
     requires { ⌜ Ready (now older) (now newer) b × (now order ≡ flat preference) ⌝ }
@@ -91,7 +92,7 @@ fn lowered(
 
 // Counts the tests at a resolution: one for each remaining candidate.
 fn count_tests(r: PruneState) -> PruneState
-    requires { ⌜ (r .count ≤ 1089) × (r .slot < 5) ⌝ }
+    requires { ⌜ (r .count ≤ vectorCount) × (r .slot < 5) ⌝ }
     ensures { λ q. ⌜ q ≡ testsCounted r ⌝ }
 {
     let count = r.count;
@@ -108,8 +109,12 @@ fn count_tests(r: PruneState) -> PruneState
 }
 
 // Counts the tests and drops each candidate whose distance exceeds E.
-pub fn sifted(remaining: &mut [u16; 1089], dist: &[u32; 1089], r: PruneState) -> PruneState
-    requires { ⌜ (length (now remaining) ≡ 1089) × (r .count ≤ 1089) × (r .slot < 5) ⌝ }
+pub fn sifted(
+    remaining: &mut [u16; order::VECTORS],
+    dist: &[u32; order::VECTORS],
+    r: PruneState,
+) -> PruneState
+    requires { ⌜ (length (now remaining) ≡ vectorCount) × (r .count ≤ vectorCount) × (r .slot < 5) ⌝ }
     ensures { λ q. ⌜ Front (keptWithin (r .bound) (now (remaining .entry)) (now (dist .entry)) (r .count)) (swept (r .bound) (now (remaining .entry)) (now (dist .entry)) (r .count)) (now (remaining .exit)) (q .count) × (q ≡ recounted (q .count) r) ⌝ }
 {
     let kept = pruned_remaining::keep_within(remaining, r.count, dist, r.bound);
@@ -127,17 +132,17 @@ pub fn sifted(remaining: &mut [u16; 1089], dist: &[u32; 1089], r: PruneState) ->
 pub fn level(
     older: &[u8],
     newer: &[u8],
-    order: &[i32; 2178],
+    order: &[i32; order::NUMBERS],
     b: SearchBlock,
     sums: &[u32],
     a: Region,
     blocksums: &[u32],
     m: usize,
-    remaining: &mut [u16; 1089],
-    dist: &mut [u32; 1089],
+    remaining: &mut [u16; order::VECTORS],
+    dist: &mut [u32; order::VECTORS],
     r: PruneState,
 ) -> PruneState
-    requires { ⌜ (now order ≡ flat preference) × (length (now dist) ≡ 1089) × Tested (now older) (now newer) b (now sums) a m (now remaining) (r .count)
+    requires { ⌜ (now order ≡ flat preference) × (length (now dist) ≡ vectorCount) × Tested (now older) (now newer) b (now sums) a m (now remaining) (r .count)
         × BlockSums (now newer) b (now blocksums) × (0 < r .count) × (r .slot < 5) ⌝ }
     ensures { λ q. ⌜ Leveled (distortionOf (now (older .entry)) (now (newer .entry)) b) (distanceOf (now (older .entry)) (now (newer .entry)) b m) (now (remaining .entry)) (now (dist .entry)) r (now (remaining .exit)) (now (dist .exit)) q ⌝ }
 {
@@ -166,14 +171,14 @@ pub fn level(
 pub fn measure_remaining(
     older: &[u8],
     newer: &[u8],
-    order: &[i32; 2178],
+    order: &[i32; order::NUMBERS],
     b: SearchBlock,
-    remaining: &[u16; 1089],
+    remaining: &[u16; order::VECTORS],
     total: usize,
     r: PruneState,
 ) -> SearchResult
     requires { ⌜ Ready (now older) (now newer) b × (now order ≡ flat preference) ⌝ }
-    requires { ⌜ ListedCandidates b (now remaining) (r .count) × (0 < r .count) × (r .slot < 5) × (r .count ≤ total) × (total ≤ 1089) ⌝ }
+    requires { ⌜ ListedCandidates b (now remaining) (r .count) × (0 < r .count) × (r .slot < 5) × (r .count ≤ total) × (total ≤ vectorCount) ⌝ }
     ensures { λ q. ⌜ q ≡ measureRemaining (distortionOf (now (older .entry)) (now (newer .entry)) b) (now (remaining .entry)) total r ⌝ }
 {
     let count = r.count;

@@ -17,8 +17,8 @@ pub record RowGoing (frame : List ℕ) (from : ℕ) (before : List ℕ) (above h
   pub filled : table ≡ fillTo before here (nextRow frame from before above) c
 
 module _ (frame : List ℕ) (from : ℕ) (before : List ℕ) (above here columns : ℕ) where
-  pub row-none : RowGoing frame from before above here columns before 0 0
-  row-none = record { low = omega arith; long = refl; small = omega arith; sum = sym (sumTo-none _); filled = fill-none before here _ }
+  pub row-first : RowGoing frame from before above here columns before 0 0
+  row-first = record { low = omega arith; long = refl; small = omega arith; sum = sym (sumTo-none _); filled = fill-none before here _ }
 
   module _ (apart : above + columns < here) (room : here + columns < length before) (table : List ℕ) (run c : ℕ) (g : RowGoing frame from before above here columns table run c) where
     -- the row above is as it was
@@ -29,9 +29,9 @@ module _ (frame : List ℕ) (from : ℕ) (before : List ℕ) (above here columns
     pub row-filled : set table (here + c) (getD table (above + c) 0 + run) ≡ fillTo before here (nextRow frame from before above) (c + 1)
     row-filled = rw (row-read, g .sum, g .filled) (fill-more before here (nextRow frame from before above) c (omega arith))
 
-    pub row-step : (x : ℕ) → x ≡ getD frame (from + c) 0 → x ≤ 255 → c < columns
+    pub row-more : (x : ℕ) → x ≡ getD frame (from + c) 0 → x ≤ 255 → c < columns
         → RowGoing frame from before above here columns (set table (here + c) (getD table (above + c) 0 + run)) (run + x) (c + 1)
-    row-step x e b h = record {
+    row-more x e b h = record {
       low = omega arith;
       long = length-set table _ _ ∙ g .long;
       small = omega arith;

@@ -37,8 +37,8 @@ module _ (frame : List ℕ) (width : ℕ) (a : Region) where
   sums-front d =
       rw (one-mul, sums-one, fill-zero, drop-over (listTo (λ c. 0) (a .columns + 1)) d (a .columns + 1) (a .columns + 1) (length-listTo _ _) (omega arith))
 
-  pub sums-none : (d : List ℕ) → SumsGoing (cleared d) (cleared d) 0 (a .top * width + a .left) 0
-  sums-none d = record {
+  pub sums-first : (d : List ℕ) → SumsGoing (cleared d) (cleared d) 0 (a .top * width + a .left) 0
+  sums-first d = record {
     low = omega arith;
     long = refl;
     from-is = rw add-zero;
@@ -76,8 +76,8 @@ module _ (frame : List ℕ) (width : ℕ) (a : Region) where
             row : (c : ℕ) → sumTo (λ j. getD frame ((a .top + r) * width + a .left + j) 0) c ≡ sumTo (λ j. part r j) c
             row c = sumTo-ext _ _ c (λ j l. rw add-assoc)
 
-        pub sums-step : SumsGoing before (fillTo table (here + (a .columns + 1)) (nextRow frame from table here) (a .columns + 1)) (r + 1) (from + width) (here + (a .columns + 1))
-        sums-step = record {
+        pub sums-more : SumsGoing before (fillTo table (here + (a .columns + 1)) (nextRow frame from table here) (a .columns + 1)) (r + 1) (from + width) (here + (a .columns + 1))
+        sums-more = record {
           low = omega arith;
           long = length-fill table _ _ (a .columns + 1) sums-room ∙ g .long;
           from-is = omega (arith, g .from-is, row-next (a .top + r) width);
@@ -89,10 +89,10 @@ module _ (frame : List ℕ) (width : ℕ) (a : Region) where
         }
 
   -- all rows are made
-  pub sums-done : (d table : List ℕ) (r from here : ℕ) → a .rows ≤ r → SumsGoing (cleared d) table r from here
+  pub sums-last : (d table : List ℕ) (r from here : ℕ) → a .rows ≤ r → SumsGoing (cleared d) table r from here
       → table ≡ summed part (a .rows) (a .columns) ++ drop ((a .rows + 1) * (a .columns + 1)) d
   unfolding summed
-  sums-done d table r from here h g =
+  sums-last d table r from here h g =
       let e : r ≡ a .rows = omega arith in
       rw (g .filled, e, fill-zero)
       (ap (_++_ (sumsTo part (a .columns) (a .rows + 1)))

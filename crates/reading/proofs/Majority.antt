@@ -1,6 +1,6 @@
 -- The vector of most blocks is the one that the walk along the preference table keeps: every vector of window 16 stands there, in the order's order,
 -- and a vector outside it has no block.
---   same-false                         what the test of two vectors says
+--   same-no                         what the test of two vectors says
 --   votes-none, votes-more, votes-few  how votes grow; votes-ext: blocks with the same vectors, the same votes
 --   majority-most                      the majority has most blocks, ties by preference order; most-unique: no other has
 use Prim.Native.Nat.{ℕ, zero, suc, _+_, _≤_, _<_}
@@ -15,15 +15,15 @@ use Rattle.base.specs.Tests.{one, one-le}
 use Rattle.base.specs.Greatest.{mostTo, most-ext, greatest}
 use Rattle.base.specs.Sum.{sumTo, sumTo-none, sumTo-more, sumTo-ext, sumTo-bound}
 use Rattle.order.specs.declared.Vector.{Vector}
-use Rattle.order.specs.Vectors.{Within, Precedes, same?, same-true, same-self}
+use Rattle.order.specs.Vectors.{Within, Precedes, same?, same-yes, same-self, vectorCount}
 use Rattle.order.specs.Preference.{preferred}
 use Rattle.order.proofs.Order.{stands, in-order, precedes-trans, precedes-irrefl}
 use Rattle.reading.specs.Reading.{votes, majority, Most}
 
 -- ---- the test that two vectors are one
 
-pub same-false : (u v : Vector) → same? u v ≡ false → u ≡ v → ⊥
-same-false u v e q =
+pub same-no : (u v : Vector) → same? u v ≡ false → u ≡ v → ⊥
+same-no u v e q =
     let t : true ≡ false = sym (same-self u) ∙ ap (same? u) q ∙ e in
     let z : _≡_ {A = ℕ} 0 1 = cc in
     omega arith
@@ -60,14 +60,14 @@ votes-outside has u zero h = refl
 votes-outside has u (suc n) h = omega (arith, votes-outside has u n (λ k l. h k (omega arith)), none (same? (has n) u) refl)
   where
     none : (t : Bool) → same? (has n) u ≡ t → one t ≡ 0
-    none true e = absurd (h n (omega arith) (same-true (has n) u e))
+    none true e = absurd (h n (omega arith) (same-yes (has n) u e))
     none false e = refl
 
 -- ---- the majority
 
 pub majority-ext : (f g : ℕ → Vector) (n : ℕ) → ((k : ℕ) → k < n → f k ≡ g k) → majority f n ≡ majority g n
 unfolding majority
-majority-ext f g n e = ap preferred (most-ext _ _ 1089 (λ k h. votes-ext f g n e (preferred k)))
+majority-ext f g n e = ap preferred (most-ext _ _ vectorCount (λ k h. votes-ext f g n e (preferred k)))
 
 within? : (v : Vector) → Dec (Within 16 v)
 within? v = go (decLe (natAbs (v .dy)) 16) (decLe (natAbs (v .dx)) 16)
@@ -87,11 +87,11 @@ module _ (has : ℕ → Vector) (n : ℕ) where
 
   -- the place of the majority in the table
   abbrev top : ℕ
-  top = mostTo score 1089
+  top = mostTo score vectorCount
 
-  at-place : (k : ℕ) → k < 1089 → (k ≡ top → ⊥) → Behind has n (preferred top) (preferred k)
+  at-place : (k : ℕ) → k < vectorCount → (k ≡ top → ⊥) → Behind has n (preferred top) (preferred k)
   at-place k h ne =
-      let g = greatest score 1089 k h in
+      let g = greatest score vectorCount k h in
       ne-cases k top _ ne (λ l. inl (g .1 l))
       (λ l. ⊎-elim (λ e. inr (e, in-order top k l h)) inl (eq-or-lt-of-le (g .0)))
 
@@ -105,8 +105,8 @@ module _ (has : ℕ → Vector) (n : ℕ) where
   highest u w = go (same? u (preferred top)) refl
     where
       go : (t : Bool) → same? u (preferred top) ≡ t → votes has n u ≤ votes has n (preferred top)
-      go true e = le-of-eq (ap (votes has n) (same-true u (preferred top) e))
-      go false e = ⊎-elim le-of-lt (λ q. le-of-eq (q .0)) (behind u w (same-false u (preferred top) e))
+      go true e = le-of-eq (ap (votes has n) (same-yes u (preferred top) e))
+      go false e = ⊎-elim le-of-lt (λ q. le-of-eq (q .0)) (behind u w (same-no u (preferred top) e))
 
 pub majority-most : (has : ℕ → Vector) (n : ℕ) → 0 < n → ((k : ℕ) → k < n → Within 16 (has k)) → Most has n (majority has n)
 unfolding majority
@@ -127,5 +127,5 @@ most-unique has n u v a b = go (same? u v) refl
     clash (inr l) (inr m) = precedes-irrefl (precedes-trans (l .1) (m .1))
 
     go : (t : Bool) → same? u v ≡ t → u ≡ v
-    go true e = same-true u v e
-    go false e = let ne = same-false u v e in absurd (clash (b .most u ne) (a .most v (λ q. ne (sym q))))
+    go true e = same-yes u v e
+    go false e = let ne = same-no u v e in absurd (clash (b .most u ne) (a .most v (λ q. ne (sym q))))

@@ -16,12 +16,12 @@ use Rattle.base.specs.Greatest.{mostTo, most-one, most-yes, most-no, most-below
 use Rattle.signed.specs.Int.{same, parts}
 use Rattle.signed.specs.Values.{bias, bias-is}
 use Rattle.order.specs.declared.Vector.{Vector}
-use Rattle.order.specs.Vectors.{vec, Within, same?, same-true}
+use Rattle.order.specs.Vectors.{vec, Within, same?, same-yes, vectorCount}
 use Rattle.order.specs.Preference.{preferred}
 use Rattle.order.proofs.Order.{inside}
 use Rattle.reading.specs.Reading.{votes, majority, readingOf}
 use Rattle.reading.specs.Tally.{code, votesAt, readingIn, Tally}
-use Rattle.reading.proofs.Majority.{same-false, votes-none, votes-more, votes-few}
+use Rattle.reading.proofs.Majority.{same-no, votes-none, votes-more, votes-few}
 
 -- ---- places
 
@@ -31,7 +31,7 @@ bias-small d h = omega (arith, bias-is 16 d h, parts d)
 bias-inj : (a b : ℤ) → natAbs a ≤ 16 → natAbs b ≤ 16 → bias 16 a ≡ bias 16 b → a ≡ b
 bias-inj a b h l e = same a b (omega (arith, bias-is 16 a h, bias-is 16 b l))
 
-pub code-below : (v : Vector) → Within 16 v → code v < 1089
+pub code-below : (v : Vector) → Within 16 v → code v < vectorCount
 code-below v w = omega (arith, bias-small (v .dy) (w .down), bias-small (v .dx) (w .across))
 
 code-inj : (u v : Vector) → Within 16 u → Within 16 v → code u ≡ code v → u ≡ v
@@ -44,8 +44,8 @@ code-inj u v a b e =
 
 -- ---- votes
 
-pub tally-first : (has : ℕ → Vector) → Tally has 0 (replicate 1089 0)
-tally-first has = record { long = refl; each = λ v h. getD-replicate 1089 (code v) 0 0 (code-below v h) ∙ sym (votes-none has v) }
+pub tally-first : (has : ℕ → Vector) → Tally has 0 (replicate vectorCount 0)
+tally-first has = record { long = refl; each = λ v h. getD-replicate vectorCount (code v) 0 0 (code-below v h) ∙ sym (votes-none has v) }
 
 pub tally-more : (has : ℕ → Vector) (n : ℕ) (l : List ℕ) (v : Vector) → v ≡ has n → Within 16 v → Tally has n l
     → Tally has (n + 1) (set l (code v) (getD l (code v) 0 + 1))
@@ -57,11 +57,11 @@ tally-more has n l v e w t = record {
     step : (u : Vector) → Within 16 u → (b : Bool) → same? v u ≡ b
         → getD (set l (code v) (getD l (code v) 0 + 1)) (code u) 0 ≡ votes has n u + cond b 1 0
     step u h true q =
-        let s = sym (same-true v u q) in
+        let s = sym (same-yes v u q) in
         let room : code v < length l = omega (arith, t .long, code-below v w) in
         rw s (getD-set-same l (code v) _ 0 room ∙ ap (λ (x : ℕ). x + 1) (t .each v w))
     step u h false q =
-        let apart : code u ≡ code v → ⊥ = λ s. same-false v u q (code-inj v u w h (sym s)) in
+        let apart : code u ≡ code v → ⊥ = λ s. same-no v u q (code-inj v u w h (sym s)) in
         getD-set-other l (code v) (code u) _ 0 apart ∙ t .each u h ∙ omega arith
 
 pub tally-room : (has : ℕ → Vector) (n : ℕ) (l : List ℕ) (v : Vector) → Within 16 v → Tally has n l → n < 4294967295 → getD l (code v) 0 < 4294967295
@@ -71,16 +71,16 @@ tally-room has n l v w t h = omega (arith, t .each v w, votes-few has n v)
 pub tally-reading : (has : ℕ → Vector) (n : ℕ) (l : List ℕ) → Tally has n l → readingIn l ≡ readingOf has n
 unfolding readingIn readingOf majority
 tally-reading has n l t =
-    rw (most-ext (votesAt l) (λ k. votes has n (preferred k)) 1089 (λ k h. t .each (preferred k) (inside k h)))
+    rw (most-ext (votesAt l) (λ k. votes has n (preferred k)) vectorCount (λ k h. t .each (preferred k) (inside k h)))
     (ap (λ (x : ℕ). record { dy = preferred most .dy; dx = preferred most .dx; votes = x }) (t .each (preferred most) (inside most (most-below _ 1088))))
   where
     most : ℕ
-    most = mostTo (λ k. votes has n (preferred k)) 1089
+    most = mostTo (λ k. votes has n (preferred k)) vectorCount
 
 -- ---- the walk along the table: the first greatest of k vectors
 
 pub record Walked (l : List ℕ) (k : ℕ) (best : Vector) (most : ℕ) : Type 0 where
-  pub below : k ≤ 1089
+  pub below : k ≤ vectorCount
   pub lead : best ≡ preferred (mostTo (votesAt l) k)
   pub has : most ≡ votesAt l (mostTo (votesAt l) k)
 
@@ -91,7 +91,7 @@ walked-first l best most e g = record {
   has = rw (most-one (votesAt l)) (g ∙ ap (λ (v : Vector). getD l (code v) 0) e);
 }
 
-module _ {l : List ℕ} {k : ℕ} {best : Vector} {most : ℕ} (s : Walked l k best most) (h : k < 1089) (v : Vector) (x : ℕ)
+module _ {l : List ℕ} {k : ℕ} {best : Vector} {most : ℕ} (s : Walked l k best most) (h : k < vectorCount) (v : Vector) (x : ℕ)
     (e : v ≡ preferred k) (g : x ≡ getD l (code v) 0)
   where
     next-is : x ≡ votesAt l k
@@ -107,6 +107,6 @@ module _ {l : List ℕ} {k : ℕ} {best : Vector} {most : ℕ} (s : Walked l k b
         let i = most-no (votesAt l) k (omega (arith, next-is, s .has)) in
         record { below = omega arith; lead = rw (← i) (s .lead); has = rw (← i) (s .has) }
 
-pub walked-last : {l : List ℕ} {best : Vector} {most : ℕ} → Walked l 1089 best most → record { dy = best .dy; dx = best .dx; votes = most } ≡ readingIn l
+pub walked-last : {l : List ℕ} {best : Vector} {most : ℕ} → Walked l vectorCount best most → record { dy = best .dy; dx = best .dx; votes = most } ≡ readingIn l
 unfolding readingIn
 walked-last s = rw (s .lead, s .has)

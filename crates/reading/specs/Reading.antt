@@ -11,7 +11,7 @@ use mathlib.Core.Bool.{cond}
 use Rattle.base.specs.Sum.{sumTo}
 use Rattle.base.specs.Greatest.{mostTo}
 use Rattle.order.specs.declared.Vector.{Vector}
-use Rattle.order.specs.Vectors.{Precedes, same?}
+use Rattle.order.specs.Vectors.{Precedes, same?, vectorCount}
 use Rattle.order.specs.Preference.{preferred}
 use Rattle.reading.specs.declared.Reading.{Reading}
 
@@ -19,7 +19,7 @@ unfoldable pub votes : (ℕ → Vector) → ℕ → Vector → ℕ
 votes has n v = sumTo (λ k. cond (same? (has k) v) 1 0) n
 
 unfoldable pub majority : (ℕ → Vector) → ℕ → Vector
-majority has n = preferred (mostTo (λ k. votes has n (preferred k)) 1089)
+majority has n = preferred (mostTo (λ k. votes has n (preferred k)) vectorCount)
 
 -- any other vector has fewer blocks, or as many and is preceded by v
 pub record Most (has : ℕ → Vector) (n : ℕ) (v : Vector) : Type 0 where

@@ -10,7 +10,7 @@ use lib.ListN.{length, getD}
 use Rattle.base.specs.Greatest.{mostTo}
 use Rattle.signed.specs.Values.{bias}
 use Rattle.order.specs.declared.Vector.{Vector}
-use Rattle.order.specs.Vectors.{Within}
+use Rattle.order.specs.Vectors.{Within, vectorCount}
 use Rattle.order.specs.Preference.{preferred}
 use Rattle.reading.specs.declared.Reading.{Reading}
 use Rattle.reading.specs.Reading.{votes}
@@ -23,9 +23,9 @@ votesAt counted k = getD counted (code (preferred k)) 0
 
 unfoldable pub readingIn : List ℕ → Reading
 readingIn counted =
-    let k = mostTo (votesAt counted) 1089 in
+    let k = mostTo (votesAt counted) vectorCount in
     record { dy = preferred k .dy; dx = preferred k .dx; votes = votesAt counted k }
 
 pub record Tally (has : ℕ → Vector) (n : ℕ) (counted : List ℕ) : Type 0 where
-  pub long : length counted ≡ 1089
+  pub long : length counted ≡ vectorCount
   pub each : (v : Vector) → Within 16 v → getD counted (code v) 0 ≡ votes has n v

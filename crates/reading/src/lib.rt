@@ -4,7 +4,7 @@ ghost use mathlib.Core.Path.{_≡_};
 ghost use Prim.Native.Nat.{_+_, _<_};
 ghost use lib.ListN.{length, getD, set};
 ghost use Rattle.order.specs.Preference.{preference, flat};
-ghost use Rattle.order.specs.Vectors.{Within};
+ghost use Rattle.order.specs.Vectors.{Within, vectorCount};
 ghost use Rattle.reading.specs.Tally.{code, readingIn};
 use order::Vector;
 
@@ -18,14 +18,14 @@ pub struct Reading {
 // A vector's place among the votes.
 fn code_of(v: Vector) -> usize
     requires { ⌜ Within 16 v ⌝ }
-    ensures { λ r. ⌜ (r ≡ code v) × (r < 1089) ⌝ }
+    ensures { λ r. ⌜ (r ≡ code v) × (r < vectorCount) ⌝ }
 {
     signed::biased(v.dy) * 33 + signed::biased(v.dx)
 }
 
 // One vote more for v.
-pub fn vote(votes: &mut [u32; 1089], v: Vector)
-    requires { ⌜ Within 16 v × (length (now votes) ≡ 1089) × (getD (now votes) (code v) 0 < 4294967295) ⌝ }
+pub fn vote(votes: &mut [u32; order::VECTORS], v: Vector)
+    requires { ⌜ Within 16 v × (length (now votes) ≡ vectorCount) × (getD (now votes) (code v) 0 < 4294967295) ⌝ }
     ensures { λ _. ⌜ now (votes .exit) ≡ set (now (votes .entry)) (code v) (getD (now (votes .entry)) (code v) 0 + 1) ⌝ }
 {
     let c = code_of(v);
@@ -33,7 +33,7 @@ pub fn vote(votes: &mut [u32; 1089], v: Vector)
 }
 
 // The vector of most votes, the first in preference order where several are equal.
-pub fn reading_of(order: &[i32; 2178], votes: &[u32; 1089]) -> Reading
+pub fn reading_of(order: &[i32; order::NUMBERS], votes: &[u32; order::VECTORS]) -> Reading
     requires { ⌜ now order ≡ flat preference ⌝ }
     ensures { λ r. ⌜ r ≡ readingIn (now (votes .entry)) ⌝ }
 {
@@ -41,7 +41,7 @@ pub fn reading_of(order: &[i32; 2178], votes: &[u32; 1089]) -> Reading
     let c = code_of(best);
     let mut most = votes[c];
     let mut k: usize = 1;
-    while k < 1089 {
+    while k < order::VECTORS {
         let v = order::vector_at(order, k);
         let e = code_of(v);
         let x = votes[e];

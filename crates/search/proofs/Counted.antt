@@ -13,18 +13,18 @@ use Rattle.base.specs.Picks.{pick, pick-length}
 use Rattle.signed.specs.Int.{parts, same}
 use Rattle.signed.specs.Values.{bias, unbias, bias-is, unbias-is, bias-unbias}
 use Rattle.order.specs.declared.Vector.{Vector}
-use Rattle.order.specs.Vectors.{vec, Within, same?, same-true, same-self}
+use Rattle.order.specs.Vectors.{vec, Within, same?, same-yes, same-self, vectorCount}
 use Rattle.order.specs.Preference.{preferred}
 use Rattle.order.proofs.Order.{stands, inside, once}
 use Rattle.frame.specs.declared.Sizes.{Sizes}
 use Rattle.frame.specs.Candidates.{Candidate, candidate, candidate-yes, candidate-true, candidate-older}
 use Rattle.search.specs.Exhaustive.{places, howOften, gridVector, candidates}
 
-same-not : (u v : Vector) → (u ≡ v → ⊥) → same? u v ≡ false
-same-not u v h = go (same? u v) refl
+same-no : (u v : Vector) → (u ≡ v → ⊥) → same? u v ≡ false
+same-no u v h = go (same? u v) refl
   where
     go : (t : Bool) → same? u v ≡ t → t ≡ false
-    go true e = absurd (h (same-true u v e))
+    go true e = absurd (h (same-yes u v e))
     go false e = refl
 
 -- what is counted of u where it is v: nothing elsewhere
@@ -35,19 +35,19 @@ nothing : (t : Bool) → cond {A = ℕ} t 0 0 ≡ 0
 nothing true = refl
 nothing false = refl
 
-where-not : (u v : Vector) (c : ℕ) → (u ≡ v → ⊥) → where? u v c ≡ 0
-where-not u v c h = rw (same-not u v h)
+where-no : (u v : Vector) (c : ℕ) → (u ≡ v → ⊥) → where? u v c ≡ 0
+where-no u v c h = rw (same-no u v h)
 
 where-self : (u v : Vector) (c : ℕ) → u ≡ v → where? u v c ≡ c
 where-self u v c e = rw (e, same-self v)
 
 -- ---- the table has each vector of window 16 once
 
-in-table : (v : Vector) (c : ℕ) → Within 16 v → sumTo (λ k. where? (preferred k) v c) 1089 ≡ c
+in-table : (v : Vector) (c : ℕ) → Within 16 v → sumTo (λ k. where? (preferred k) v c) vectorCount ≡ c
 in-table v c h =
     let s = stands v h in
-    sumTo-one (λ k. where? (preferred k) v c) 1089 (s .0) (s .1)
-    (λ k l other. where-not (preferred k) v c (λ e. other (once k (s .0) l (s .1) (e ∙ sym (s .2)))))
+    sumTo-one (λ k. where? (preferred k) v c) vectorCount (s .0) (s .1)
+    (λ k l other. where-no (preferred k) v c (λ e. other (once k (s .0) l (s .1) (e ∙ sym (s .2)))))
     ∙ where-self (preferred (s .0)) v c (s .2)
 
 -- ---- and so have the 33 rows and columns
@@ -61,9 +61,9 @@ grid-within i j hi hj = record {
 in-grid : (v : Vector) (F : Vector → ℕ) → Within 16 v → sumOver 33 33 (λ i j. where? v (gridVector i j) (F (gridVector i j))) ≡ F v
 in-grid v F h =
     sumTo-one _ 33 i (omega (arith, bias-is 16 (v .dy) (h .down), parts (v .dy)))
-    (λ k l other. sumTo-zero _ 33 (λ m hm. where-not v (gridVector k m) _ (λ e. other (sym (ap (λ u. bias 16 (u .dy)) e ∙ bias-unbias 16 k)))))
+    (λ k l other. sumTo-zero _ 33 (λ m hm. where-no v (gridVector k m) _ (λ e. other (sym (ap (λ u. bias 16 (u .dy)) e ∙ bias-unbias 16 k)))))
     ∙ sumTo-one _ 33 j (omega (arith, bias-is 16 (v .dx) (h .across), parts (v .dx)))
-    (λ m hm other. where-not v (gridVector i m) _ (λ e. other (sym (ap (λ u. bias 16 (u .dx)) e ∙ bias-unbias 16 m))))
+    (λ m hm other. where-no v (gridVector i m) _ (λ e. other (sym (ap (λ u. bias 16 (u .dx)) e ∙ bias-unbias 16 m))))
     ∙ where-self v (gridVector i j) _ (sym here)
     ∙ ap F here
   where
@@ -80,12 +80,12 @@ in-grid v F h =
     here = ap₂ vec (back (v .dy) (h .down)) (back (v .dx) (h .across))
 
 -- so a sum over the table is one over the rows and columns
-table-grid : (F : Vector → ℕ) → sumTo (λ k. F (preferred k)) 1089 ≡ sumOver 33 33 (λ i j. F (gridVector i j))
+table-grid : (F : Vector → ℕ) → sumTo (λ k. F (preferred k)) vectorCount ≡ sumOver 33 33 (λ i j. F (gridVector i j))
 table-grid F =
-    sumTo-ext _ _ 1089 (λ k l. sym (in-grid (preferred k) F (inside k l)))
-    ∙ sumTo-swap (λ k i. sumTo (λ j. at k i j) 33) 1089 33
+    sumTo-ext _ _ vectorCount (λ k l. sym (in-grid (preferred k) F (inside k l)))
+    ∙ sumTo-swap (λ k i. sumTo (λ j. at k i j) 33) vectorCount 33
     ∙ sumTo-ext _ _ 33 (λ i hi.
-    sumTo-swap (λ k j. at k i j) 1089 33
+    sumTo-swap (λ k j. at k i j) vectorCount 33
     ∙ sumTo-ext _ _ 33 (λ j hj. in-table (gridVector i j) (F (gridVector i j)) (grid-within i j hi hj)))
   where
     at : ℕ → ℕ → ℕ → ℕ
@@ -112,25 +112,25 @@ module _ (s : Sizes) (w y x : ℕ) where
   -- as many as there are candidates
   pub places-counted : length (places s w y x) ≡ candidates s w y x
   unfolding candidates
-  places-counted = pick-length _ 1089 ∙ table-grid (λ v. cond (candidate s w y x v) 1 0)
+  places-counted = pick-length _ vectorCount ∙ table-grid (λ v. cond (candidate s w y x v) 1 0)
 
   module _ (small : w ≤ 16) (v : Vector) where
     -- each candidate once, and nothing else
     pub places-once : howOften v (places s w y x) ≡ cond (candidate s w y x v) 1 0
-    places-once = often-pick v _ 1089 ∙ sumTo-ext _ _ 1089 (λ k l. turn (preferred k)) ∙ all (candidate s w y x v) refl
+    places-once = often-pick v _ vectorCount ∙ sumTo-ext _ _ vectorCount (λ k l. turn (preferred k)) ∙ all (candidate s w y x v) refl
       where
         turn : (u : Vector) → cond (candidate s w y x u) (where? u v 1) 0 ≡ where? u v (cond (candidate s w y x v) 1 0)
         turn u = go (same? u v) refl
           where
             go : (t : Bool) → same? u v ≡ t → cond {A = ℕ} (candidate s w y x u) (cond t 1 0) 0 ≡ cond t (cond (candidate s w y x v) 1 0) 0
-            go true e = ap (λ u. cond (candidate s w y x u) 1 0) (same-true u v e)
+            go true e = ap (λ u. cond (candidate s w y x u) 1 0) (same-yes u v e)
             go false e = nothing (candidate s w y x u)
 
-        all : (t : Bool) → candidate s w y x v ≡ t → sumTo (λ k. where? (preferred k) v (cond t 1 0)) 1089 ≡ cond t 1 0
+        all : (t : Bool) → candidate s w y x v ≡ t → sumTo (λ k. where? (preferred k) v (cond t 1 0)) vectorCount ≡ cond t 1 0
         all true e =
             let near = candidate-older s w y x v (true-T _ e) .window in
             in-table v 1 (record { down = omega arith; across = omega arith })
-        all false e = sumTo-zero _ 1089 (λ k l. nothing (same? (preferred k) v))
+        all false e = sumTo-zero _ vectorCount (λ k l. nothing (same? (preferred k) v))
 
     pub places-candidate : Candidate s w y x v → howOften v (places s w y x) ≡ 1
     places-candidate c = places-once ∙ ap (λ t. cond t 1 0) (T-true (candidate s w y x v) (candidate-true s w y x v c))

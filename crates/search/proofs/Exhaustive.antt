@@ -10,7 +10,7 @@ use lib.IntN.{pos}
 use Rattle.base.specs.Tests.{T-true, true-T}
 use Rattle.base.specs.Picks.{BestBelow, pick-head, leastOf-pick}
 use Rattle.order.specs.declared.Vector.{Vector}
-use Rattle.order.specs.Vectors.{vec, Precedes}
+use Rattle.order.specs.Vectors.{vec, Precedes, vectorCount}
 use Rattle.order.specs.Preference.{preferred}
 use Rattle.order.proofs.Order.{first-still, in-order, stands, precedes-trans, precedes-irrefl}
 use Rattle.frame.specs.Pictures.{Pair}
@@ -26,12 +26,12 @@ module _ (p : Pair) (w y x : ℕ) (small : w ≤ 16) where
   costs k = distortion p y x (preferred k)
 
   -- where each candidate stands in the table
-  place-of : (u : Vector) → Candidate (p .sizes) w y x u → (k : ℕ) × (k < 1089) × (preferred k ≡ u)
+  place-of : (u : Vector) → Candidate (p .sizes) w y x u → (k : ℕ) × (k < vectorCount) × (preferred k ≡ u)
   place-of u c =
       stands u (record { down = le-trans (c .window .down) small; across = le-trans (c .window .across) small })
 
   -- the best of the table's candidates is the best of all
-  pub best-below : (k : ℕ) → BestBelow costs passes 1089 k → Best p w y x (preferred k)
+  pub best-below : (k : ℕ) → BestBelow costs passes vectorCount k → Best p w y x (preferred k)
   best-below k b = record {
     candidate = candidate-yes (p .sizes) w y x (preferred k) (true-T (passes k) (b .passes));
     least = λ u c. let s = place-of u c in subst (λ (v : Vector). costs k ≤ distortion p y x v) (s .2) (b .least (s .0) (s .1) (is-passing u c));
@@ -53,7 +53,7 @@ module _ (p : Pair) (w y x : ℕ) (small : w ≤ 16) where
   pub best-is : y + p .sizes .n ≤ p .sizes .height → x + p .sizes .n ≤ p .sizes .width → Best p w y x (best p w y x)
   unfolding best
   best-is hy hx =
-      best-below _ (leastOf-pick costs passes 1089 (pick-head passes 1088 (still-passes hy hx) .0))
+      best-below _ (leastOf-pick costs passes vectorCount (pick-head passes 1088 (still-passes hy hx) .0))
 
   -- of two exhaustive bests none precedes the other
   pub best-unique : (u v : Vector) → Best p w y x u → Best p w y x v → u ≡ v
@@ -65,10 +65,10 @@ module _ (p : Pair) (w y x : ℕ) (small : w ≤ 16) where
       not-after : (u v : Vector) (a : Best p w y x u) (b : Best p w y x v) → place-of u (a .candidate) .0 ≤ place-of v (b .candidate) .0
       not-after u v a b = go (decLe (i .0) (j .0))
         where
-          i : (k : ℕ) × (k < 1089) × (preferred k ≡ u)
+          i : (k : ℕ) × (k < vectorCount) × (preferred k ≡ u)
           i = place-of u (a .candidate)
 
-          j : (k : ℕ) × (k < 1089) × (preferred k ≡ v)
+          j : (k : ℕ) × (k < vectorCount) × (preferred k ≡ v)
           j = place-of v (b .candidate)
 
           same-cost : distortion p y x v ≡ distortion p y x u

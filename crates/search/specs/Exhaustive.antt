@@ -16,7 +16,7 @@ use Rattle.base.specs.Least.{leastOf}
 use Rattle.base.specs.Picks.{pick}
 use Rattle.signed.specs.Values.{unbias}
 use Rattle.order.specs.declared.Vector.{Vector}
-use Rattle.order.specs.Vectors.{vec, Precedes, same?}
+use Rattle.order.specs.Vectors.{vec, Precedes, same?, vectorCount}
 use Rattle.order.specs.Preference.{preferred}
 use Rattle.frame.specs.declared.Sizes.{Sizes}
 use Rattle.frame.specs.Pictures.{Pair}
@@ -29,7 +29,7 @@ pub record Best (p : Pair) (w y x : ℕ) (v : Vector) : Type 0 where
   pub first : (u : Vector) → Candidate (p .sizes) w y x u → distortion p y x u ≡ distortion p y x v → (u ≡ v → ⊥) → Precedes v u
 
 abbrev pub passing : (Vector → Bool) → List ℕ
-passing test = pick (λ k. test (preferred k)) 1089
+passing test = pick (λ k. test (preferred k)) vectorCount
 
 abbrev pub places : Sizes → ℕ → ℕ → ℕ → List ℕ
 places s w y x = passing (candidate s w y x)

@@ -54,13 +54,13 @@ at-place-is (pos m) last n e = go (leb m last) refl
     go false q = let z : _≡_ {A = ℕ} 0 1 = cc in absurd (omega arith)
 at-place-is (negsuc m) last n e = let z : _≡_ {A = ℕ} 0 1 = cc in absurd (omega arith)
 
-at-place-not : (z : ℤ) (last : ℕ) → atPlace z last ≡ Outside → (up z < dn z) ⊎ (last + dn z < up z)
-at-place-not (pos m) last e = go (leb m last) refl
+at-place-no : (z : ℤ) (last : ℕ) → atPlace z last ≡ Outside → (up z < dn z) ⊎ (last + dn z < up z)
+at-place-no (pos m) last e = go (leb m last) refl
   where
     go : (t : Bool) → leb m last ≡ t → (m < 0) ⊎ (last + 0 < m)
     go true q = let z : _≡_ {A = ℕ} 0 1 = cc in absurd (omega arith)
     go false q = inr (omega (arith, leb-false m last q))
-at-place-not (negsuc m) last e = inl (omega arith)
+at-place-no (negsuc m) last e = inl (omega arith)
 
 module _ (at : ℕ) (d : ℤ) (last : ℕ) where
   -- read back: what each answer says
@@ -68,11 +68,11 @@ module _ (at : ℕ) (d : ℤ) (last : ℕ) where
   unfolding shiftedBy
   shifted-is n e = omega (arith, at-place-is (pos at +ℤ d) last n e, added (pos at) d)
 
-  pub shifted-not : shiftedBy at d last ≡ Outside → (at + up d < dn d) ⊎ (last + dn d < at + up d)
+  pub shifted-no : shiftedBy at d last ≡ Outside → (at + up d < dn d) ⊎ (last + dn d < at + up d)
   unfolding shiftedBy
-  shifted-not e =
+  shifted-no e =
       ⊎-elim (λ h. inl (omega (arith, added (pos at) d))) (λ h. inr (omega (arith, added (pos at) d)))
-      (at-place-not (pos at +ℤ d) last e)
+      (at-place-no (pos at +ℤ d) last e)
 
   -- and what gives it
   pub shifted-at : (n : ℕ) → at + up d ≡ n + dn d → n ≤ last → shiftedBy at d last ≡ At n
@@ -159,4 +159,4 @@ module _ (b : ℕ) (d e : ℤ) (h : natAbs d ≤ b) where
   pub point-out : shiftedBy (bias b d) e (b + b) ≡ Outside → b < natAbs (d +ℤ e)
   point-out q =
       ⊎-elim (λ k. omega (arith, bias-is b d h, added d e)) (λ k. omega (arith, bias-is b d h, added d e))
-      (shifted-not (bias b d) e (b + b) q)
+      (shifted-no (bias b d) e (b + b) q)

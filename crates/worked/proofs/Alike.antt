@@ -12,7 +12,7 @@ use lib.IntN.{natAbs}
 use Rattle.base.specs.Sum.{sumTo}
 use Rattle.base.specs.Tests.{and-left, and-right, le-both, T-true, true-T}
 use Rattle.order.specs.declared.Vector.{Vector}
-use Rattle.order.specs.Vectors.{Within, same?, same-true, same-self}
+use Rattle.order.specs.Vectors.{Within, same?, same-yes, same-self}
 use Rattle.reading.specs.Reading.{votes, majority}
 use Rattle.reading.proofs.Majority.{votes-few, majority-most, most-unique}
 
@@ -29,7 +29,7 @@ unfolding votes sumTo
 votes-other has u v n e ne = go (same? (has n) u) refl
   where
     go : (t : Bool) → same? (has n) u ≡ t → votes has (suc n) u ≤ n
-    go true q = absurd (ne (sym (same-true (has n) u q) ∙ e))
+    go true q = absurd (ne (sym (same-yes (has n) u q) ∙ e))
     go false q = let z : _≡_ {A = ℕ} (cond (same? (has n) u) 1 0) 0 = rw q in omega (arith, votes-few has n u)
 
 pub all-same : (has : ℕ → Vector) (v : Vector) (n : ℕ) → 0 < n → Within 16 v → ((k : ℕ) → k < n → has k ≡ v) → majority has n ≡ v
@@ -49,7 +49,7 @@ unfolding every
 every-is has v zero e k h = absurd (not-suc-le-zero h)
 every-is has v (suc n) e k h =
     let t = true-T (same? (has n) v && every has v n) e in
-    ⊎-elim (λ (q : k ≡ n). ap has q ∙ same-true (has n) v (T-true _ (and-left (same? (has n) v) (every has v n) t)))
+    ⊎-elim (λ (q : k ≡ n). ap has q ∙ same-yes (has n) v (T-true _ (and-left (same? (has n) v) (every has v n) t)))
     (λ l. every-is has v n (T-true _ (and-right (same? (has n) v) (every has v n) t)) k l)
     (eq-or-lt-of-le (le-of-suc-le-suc h))
 

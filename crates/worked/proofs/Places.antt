@@ -12,7 +12,7 @@ use lib.IntN.{pos}
 use lib.ListN.{length, getD}
 use Rattle.base.specs.Picks.{consIf, pickFrom, pick-from}
 use Rattle.order.specs.declared.Vector.{Vector}
-use Rattle.order.specs.Vectors.{vec}
+use Rattle.order.specs.Vectors.{vec, vectorCount}
 use Rattle.order.specs.Preference.{preference, preferred}
 use Rattle.order.proofs.Order.{length-preference}
 use Rattle.frame.specs.declared.Sizes.{Sizes}
@@ -35,7 +35,7 @@ walk-is test p z k (v ∷ vs) h =
 places-walk : (s : Sizes) (w y x : ℕ) → places s w y x ≡ walkPlaces (candidate s w y x) 0 preference
 places-walk s w y x =
     let p : ℕ → Bool = λ k. candidate s w y x (preferred k) in
-    pick-from p 1089
+    pick-from p vectorCount
     ∙ ap (pickFrom p 0) (sym length-preference)
     ∙ walk-is (candidate s w y x) p (vec (pos 0) (pos 0)) 0 preference (λ i. ap p (zero-add i))
 

@@ -5,7 +5,7 @@ use native.Mathlib.Omega.{arith}
 use lib.ListN.{length, getD}
 use denote.Ref.{now}
 use Rattle.base.specs.Index.{row-fits}
-use Rattle.base.specs.Rows.{Rowed, rowed-none, rowed-step, rowed-all}
+use Rattle.base.specs.Rows.{Rowed, rowed-first, rowed-more, rowed-all}
 use Rattle.block_copy.specs.Copy.{blockCopy}
 use Rattle.block_copy.proofs.copy_block.Statement.{statement}
 use Rattle.block_copy.proofs.copy_block.Tie as tie
@@ -23,7 +23,7 @@ turn i =
     omega (arith, row-fits (i .before .loop .i) 16 (a .width) (i .loop-test .taken))
 
 loop-holds : tie.Need-loop-holds Inv-loop μ-loop
-loop-holds c = (omega arith, rowed-none _ _ _)
+loop-holds c = (omega arith, rowed-first _ _ _)
 
 mul-copy-row : tie.Need-mul-copy-row Inv-loop μ-loop
 mul-copy-row c = omega (arith, turn c)
@@ -49,7 +49,7 @@ loop-again : tie.Need-loop-again Inv-loop μ-loop
 loop-again c =
     let i = c .before .before in
     let l = i .before .loop in
-    (omega arith, rowed-step _ _ _ _ _ _ _ (l .inv .1) refl (omega (arith, l .inv .1 .long, i .before .before .before .pre .2)) (c .copy-row .ensures))
+    (omega arith, rowed-more _ _ _ _ _ _ _ (l .inv .1) refl (omega (arith, l .inv .1 .long, i .before .before .before .pre .2)) (c .copy-row .ensures))
 
 returns : tie.Need-returns Inv-loop μ-loop
 unfolding blockCopy

@@ -7,14 +7,15 @@ use borrow.Author.Needs.{needs}
 use lib.ListN.{drop-of-length-le, length}
 use denote.Ref.{now}
 use Rattle.base.specs.Lists.{fillTo, fill-none, fill-front, fill-zero}
+use Rattle.order.specs.Vectors.{vectorCount}
 use Rattle.candidates.proofs.gather_every.Statement.{statement}
 use Rattle.candidates.proofs.gather_every.Tie as tie
 
 abbrev Inv-loop : tie.InvT-loop
-Inv-loop remaining₀ k₀ remaining k = (remaining ≡ fillTo remaining₀ 0 (λ i. i) k) × (k ≤ 1089) × (length remaining₀ ≡ 1089)
+Inv-loop remaining₀ k₀ remaining k = (remaining ≡ fillTo remaining₀ 0 (λ i. i) k) × (k ≤ vectorCount) × (length remaining₀ ≡ vectorCount)
 
 abbrev μ-loop : tie.MeasureT-loop
-μ-loop remaining₀ k₀ remaining k = 1089 - k
+μ-loop remaining₀ k₀ remaining k = vectorCount - k
 
 loop-holds : tie.Need-loop-holds Inv-loop μ-loop
 loop-holds c = (fill-none _ 0 _, search needs, search needs)
@@ -42,8 +43,8 @@ loop-again c =
 returns : tie.Need-returns Inv-loop μ-loop
 returns c =
     let l = c .before .loop in
-    let e : l .k ≡ 1089 = omega arith in
-    l .inv .0 ∙ (rw (e, fill-zero, drop-of-length-le (now (c .before .before .args .remaining)) {i = 1089} (omega (arith, l .inv .2))) (append-nil _))
+    let e : l .k ≡ vectorCount = omega arith in
+    l .inv .0 ∙ (rw (e, fill-zero, drop-of-length-le (now (c .before .before .args .remaining)) {i = vectorCount} (omega (arith, l .inv .2))) (append-nil _))
 
 pub gather-every-spec : {M : Type 1} → statement M
 gather-every-spec =

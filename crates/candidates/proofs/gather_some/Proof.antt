@@ -4,6 +4,7 @@ use mathlib.Core.Path.{_≡_, sym, _∙_}
 use mathlib.Core.Logic.{⊎-elim}
 use native.Mathlib.Omega.{arith}
 use borrow.Author.Needs.{needs}
+use Rattle.order.specs.Vectors.{vectorCount}
 use Rattle.candidates.specs.Gathered.{candidateAt}
 use Rattle.candidates.proofs.Gathering.{Gathering, gathering-first, gathering-yes, gathering-no}
 use Rattle.candidates.proofs.gather_some.Statement.{statement}
@@ -13,7 +14,7 @@ abbrev Inv-loop : tie.InvT-loop
 Inv-loop order b remaining₀ count₀ k₀ remaining count k = Gathering (candidateAt b) remaining₀ k count remaining
 
 abbrev μ-loop : tie.MeasureT-loop
-μ-loop order b remaining₀ count₀ k₀ remaining count k = 1089 - k
+μ-loop order b remaining₀ count₀ k₀ remaining count k = vectorCount - k
 
 loop-holds : tie.Need-loop-holds Inv-loop μ-loop
 loop-holds c = gathering-first _ _ (search needs)
@@ -51,7 +52,7 @@ loop-again c =
 returns : tie.Need-returns Inv-loop μ-loop
 returns c =
     let l = c .before .loop in
-    let e : l .k ≡ 1089 = omega arith in
+    let e : l .k ≡ vectorCount = omega arith in
     rw e at (l .inv .front)
 
 pub gather-some-spec : {M : Type 1} → statement M

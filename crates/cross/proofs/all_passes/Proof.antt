@@ -2,7 +2,7 @@
 use native.Mathlib.Omega.{arith}
 use borrow.Author.Needs.{needs}
 use Rattle.search.specs.Target.{targetOf}
-use Rattle.cross.proofs.Passes.{Passing, log2-some, passing-none, passing-more, passing-done}
+use Rattle.cross.proofs.Passes.{Passing, log2-some, passing-first, passing-more, passing-last}
 use Rattle.cross.proofs.all_passes.Statement.{statement}
 use Rattle.cross.proofs.all_passes.Tie as tie
 
@@ -27,7 +27,7 @@ sub-left c = omega (arith, c .log2-window .ensures, log2-some _ (c .before .befo
 loop-holds : tie.Need-loop-holds Inv-loop μ-loop
 loop-holds c =
     let q = c .before .before .before .before .pre in
-    rw (c .log2-window .ensures) (passing-none _ _ _ (q .1) (q .0 .down) (q .0 .across))
+    rw (c .log2-window .ensures) (passing-first _ _ _ (q .1) (q .0 .down) (q .0 .across))
 
 pass-at-requires : tie.Need-pass-at-requires Inv-loop μ-loop
 pass-at-requires c κs =
@@ -45,7 +45,7 @@ loop-again : tie.Need-loop-again Inv-loop μ-loop
 loop-again c = passing-more _ _ _ _ _ _ (c .before .before .loop .inv) _ (omega arith) (c .pass-at .ensures)
 
 returns : tie.Need-returns Inv-loop μ-loop
-returns c = passing-done _ _ _ _ _ _ (c .before .loop .inv) (omega arith)
+returns c = passing-last _ _ _ _ _ _ (c .before .loop .inv) (omega arith)
 
 pub all-passes-spec : {M : Type 1} → statement M
 all-passes-spec =

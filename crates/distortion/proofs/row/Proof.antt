@@ -3,7 +3,7 @@ use Prim.Native.Nat.{_-_, _*_, _≤_}
 use mathlib.Core.Path.{_≡_, sym}
 use native.Mathlib.Omega.{arith}
 use borrow.Author.Needs.{needs}
-use Rattle.distortion.specs.Blocks.{absolute, rowFrom, row-none, row-more}
+use Rattle.distortion.specs.Blocks.{absolute, rowFrom, row-first, row-more}
 use Rattle.distortion.proofs.row.Statement.{statement}
 use Rattle.distortion.proofs.row.Tie as tie
 
@@ -17,7 +17,7 @@ abbrev start : tie.After-shared-slice-known3 Inv-loop μ-loop → tie.Start Inv-
 start c = c .before .before .before .before .before
 
 loop-holds : tie.Need-loop-holds Inv-loop μ-loop
-loop-holds c = (search needs, search needs, sym (row-none absolute _ _ _ _))
+loop-holds c = (search needs, search needs, sym (row-first absolute _ _ _ _))
 
 add-abs-diff : tie.Need-add-abs-diff Inv-loop μ-loop
 add-abs-diff c = search needs

@@ -4,7 +4,7 @@ use borrow.Author.Needs.{needs}
 use mir.Facts.{toZ-ofZ}
 use Rattle.order.specs.Vectors.{vec}
 use Rattle.base.specs.Tests.{T-true}
-use Rattle.frame.specs.Candidates.{olderAt, older-is, older-not}
+use Rattle.frame.specs.Candidates.{olderAt, older-is, older-no}
 use Rattle.frame.proofs.is_candidate.Statement.{statement}
 use Rattle.frame.proofs.is_candidate.Tie as tie
 
@@ -30,7 +30,7 @@ returns-2 : tie.Need-returns-2
 returns-2 c =
     let b = c .before .before in
     let a = b .before .args in
-    sym (older-not (a .s) (a .w) (a .y) (a .x) (vec (a .dy) (a .dx)) (sym (answer b) ∙ c .enum-told2 .given .1))
+    sym (older-no (a .s) (a .w) (a .y) (a .x) (vec (a .dy) (a .dx)) (sym (answer b) ∙ c .enum-told2 .given .1))
 
 pub is-candidate-spec : {M : Type 1} → statement M
 is-candidate-spec = tie.close (tie.spec older-at-requires enum-told enum-told-2 returns returns-2)

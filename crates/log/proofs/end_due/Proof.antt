@@ -3,7 +3,7 @@ use mathlib.Core.Path.{sym, _∙_}
 use native.Mathlib.Omega.{arith}
 use borrow.Author.Needs.{needs}
 use borrow.Author.Tests.{lt-leb, le-leb}
-use Rattle.log.specs.Step.{judged-not, judged-short, judged-whole, end-no, end-yes}
+use Rattle.log.specs.Step.{judged-no, judged-short, judged-whole, end-no, end-yes}
 use Rattle.log.proofs.end_due.Statement.{statement}
 use Rattle.log.proofs.end_due.Tie as tie
 
@@ -16,7 +16,7 @@ refused-requires c κs = search needs
 returns : tie.Need-returns
 returns c =
     let s = c .before .before .before in
-    c .refused .ensures ∙ sym (judged-not _ _ _ _ _ (lt-leb _ _ (rw (s .pre .1) at (c .before .if1 .taken))))
+    c .refused .ensures ∙ sym (judged-no _ _ _ _ _ (lt-leb _ _ (rw (s .pre .1) at (c .before .if1 .taken))))
 
 refused-requires-2 : tie.Need-refused-requires-2
 refused-requires-2 c κs = search needs

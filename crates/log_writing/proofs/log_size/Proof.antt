@@ -6,7 +6,7 @@ use borrow.Author.Needs.{needs}
 use Rattle.base.specs.Lists.{concatTo}
 use Rattle.log_head.specs.Heads.{headBlocks}
 use Rattle.log_writing.specs.Parts.{blockBytes}
-use Rattle.log_writing.proofs.Bytes.{sized-none, sized-more, sized-all}
+use Rattle.log_writing.proofs.Bytes.{sized-first, sized-more, sized-all}
 use lib.ListN.{length}
 use Rattle.log_writing.proofs.log_size.Statement.{statement}
 use Rattle.log_writing.proofs.log_size.Tie as tie
@@ -21,7 +21,7 @@ head-blocks-requires : tie.Need-head-blocks-requires Inv-loop μ-loop
 head-blocks-requires c κs = c .pre .fine
 
 loop-holds : tie.Need-loop-holds Inv-loop μ-loop
-loop-holds c = (omega arith, omega arith, sized-none _)
+loop-holds c = (omega arith, omega arith, sized-first _)
 
 block-size-requires : tie.Need-block-size-requires Inv-loop μ-loop
 block-size-requires c κs = let s = c .before .before .before in (omega (arith, s .pre .room, c .before .before .head-blocks .ensures), omega (arith, c .before .before .head-blocks .ensures))

@@ -9,7 +9,7 @@ use Rattle.order.specs.declared.Vector.{Vector}
 use Rattle.order.specs.Vectors.{vec}
 use Rattle.base.specs.Tests.{T-true}
 use Rattle.frame.specs.Pictures.{Pair, pairOf}
-use Rattle.frame.specs.Candidates.{candidate, olderAt, olderRow, olderColumn, candidate-older, older-is, older-not}
+use Rattle.frame.specs.Candidates.{candidate, olderAt, olderRow, olderColumn, candidate-older, older-is, older-no}
 use Rattle.refusals.specs.Refusals.{placedRefusal, placed}
 use Rattle.distortion.specs.Blocks.{distortion}
 use Rattle.measuring.specs.Measured.{refusedBy, measured-refused, measured-outside, measured-at}
@@ -76,7 +76,7 @@ returns-2 c =
     let o = c .before .before .before in
     let s = o .before .before .before .before .before in
     c .refused2 .ensures
-    ∙ sym (measured-outside (pairIn s) _ _ (vectorIn s) (zero-is (o .before)) (older-not _ 16 _ _ _ (sym (found o) ∙ c .before .enum-told .given .1)))
+    ∙ sym (measured-outside (pairIn s) _ _ (vectorIn s) (zero-is (o .before)) (older-no _ 16 _ _ _ (sym (found o) ∙ c .before .enum-told .given .1)))
 
 block-distortion-requires : tie.Need-block-distortion-requires
 block-distortion-requires c κs =

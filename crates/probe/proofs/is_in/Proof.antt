@@ -10,7 +10,7 @@ use mir.Facts.{toZ-ofZ}
 use Rattle.order.specs.Vectors.{same?}
 use Rattle.probe.specs.Probe.{plus}
 use Rattle.probe.specs.BestSoFar.{point, offset}
-use Rattle.probe.proofs.Looks.{Missing, missing-none, missing-hit, missing-more, missing-done}
+use Rattle.probe.proofs.Looks.{Missing, missing-first, missing-hit, missing-more, missing-last}
 use Rattle.probe.proofs.is_in.Statement.{statement}
 use Rattle.probe.proofs.is_in.Tie as tie
 
@@ -29,7 +29,7 @@ asked c =
     rw (toZ-ofZ (sfits-of (c .before .before .is-at-arg .given)), toZ-ofZ (sfits-of (c .before .is-at-arg2 .given))) at (c .is-at .ensures)
 
 loop-holds : tie.Need-loop-holds Inv-loop μ-loop
-loop-holds c = missing-none _ _ _ _ _
+loop-holds c = missing-first _ _ _ _ _
 
 mul-is-at : tie.Need-mul-is-at Inv-loop μ-loop
 mul-is-at c = search needs
@@ -65,7 +65,7 @@ loop-again : tie.Need-loop-again Inv-loop μ-loop
 loop-again c = missing-more _ _ _ _ _ _ (c .before .before .before .before .before .loop .inv) (omega arith) (sym (asked (c .before)) ∙ c .if1 .left)
 
 returns-2 : tie.Need-returns-2 Inv-loop μ-loop
-returns-2 c = missing-done _ _ _ _ _ _ (c .before .loop .inv) (omega arith)
+returns-2 c = missing-last _ _ _ _ _ _ (c .before .loop .inv) (omega arith)
 
 pub is-in-spec : {M : Type 1} → statement M
 is-in-spec =

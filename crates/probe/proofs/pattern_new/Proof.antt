@@ -16,7 +16,7 @@ use Rattle.search.specs.Target.{targetOf}
 use Rattle.probe.specs.Probe.{around}
 use Rattle.probe.specs.BestSoFar.{point, offset, pairs}
 use Rattle.probe.proofs.Probe.{within-more}
-use Rattle.probe.proofs.Looks.{Going, going-none, going-near, going-more, going-done}
+use Rattle.probe.proofs.Looks.{Going, going-first, going-near, going-more, going-last}
 use Rattle.probe.proofs.pattern_new.Statement.{statement}
 use Rattle.probe.proofs.pattern_new.Tie as tie
 
@@ -37,7 +37,7 @@ loop-holds : tie.Need-loop-holds Inv-loop μ-loop
 loop-holds c =
     let q = c .before .before .pre in
     let o = q .0 in
-    (o .down, o .across, going-none _ _ _ _ _ _ _ (q .1 .near) (o .down) (o .across))
+    (o .down, o .across, going-first _ _ _ _ _ _ _ (q .1 .near) (o .down) (o .across))
 
 -- the two offsets are small, and reach probe_new as p times what the table has
 small : (c : tie.In-loop Inv-loop μ-loop) →
@@ -110,7 +110,7 @@ loop-again c =
 returns : tie.Need-returns Inv-loop μ-loop
 returns c =
     let g = c .before .loop .inv .2 in
-    record { is = going-done _ _ _ _ _ _ _ _ _ g (omega arith); down = g .down; across = g .across; few = omega arith }
+    record { is = going-last _ _ _ _ _ _ _ _ _ g (omega arith); down = g .down; across = g .across; few = omega arith }
 
 pub pattern-new-spec : {M : Type 1} → statement M
 pattern-new-spec =

@@ -9,6 +9,7 @@ use lib.ListN.{length}
 use denote.Ref.{now}
 use Rattle.base.specs.Picks.{pick}
 use Rattle.order.proofs.Order.{first-still}
+use Rattle.order.specs.Vectors.{vectorCount}
 use Rattle.frame.specs.Pictures.{pairOf}
 use Rattle.pruned_subblocks.specs.Squares.{BlockSums}
 use Rattle.pruned_sums.specs.Area.{sums-of}
@@ -25,13 +26,13 @@ use Rattle.pruned.proofs.Blocks.{block-fillable, block-size-power, few-
 use Rattle.candidates.proofs.Listing.{gathered-few, gathered-long, gathered-listed}
 use Rattle.pruned_remaining.proofs.Listing.{filled-is}
 use Rattle.pruned.proofs.State.{sift-done, level-done, level-wide}
-use Rattle.pruned.proofs.Rounds.{Going, going-start, going-some, going-few, going-room, going-divides, going-listed, going-more, going-done}
+use Rattle.pruned.proofs.Rounds.{Going, going-first, going-some, going-few, going-room, going-divides, going-listed, going-more, going-last}
 use Rattle.pruned.proofs.search.Statement.{statement}
 use Rattle.pruned.proofs.search.Tie as tie
 
 abbrev Inv-loop : tie.InvT-loop
 Inv-loop older newer order b sums a remaining₀ dist₀ n blocksums total r₀ m₀ remaining dist r m =
-    Going (stillDistortion (pairOf older newer (b .sizes)) (b .y) (b .x)) (distortionOf older newer b) (distanceOf older newer b) (b .sizes .n) (candidateAt b) m remaining dist r × (length (pick (candidateAt b) 1089) ≡ total)
+    Going (stillDistortion (pairOf older newer (b .sizes)) (b .y) (b .x)) (distortionOf older newer b) (distanceOf older newer b) (b .sizes .n) (candidateAt b) m remaining dist r × (length (pick (candidateAt b) vectorCount) ≡ total)
 
 abbrev μ-loop : tie.MeasureT-loop
 μ-loop older newer order b sums a remaining₀ dist₀ n blocksums total r₀ m₀ remaining dist r m = m
@@ -101,7 +102,7 @@ loop-holds c =
     let t = c .sifted .ensures in
     let r = s .pre .0 .ready in
     let p = pairOf (now (s .args .older)) (now (s .args .newer)) (s .args .b .sizes) in (
-      going-start _ _ _ _ refl a f _
+      going-first _ _ _ _ refl a f _
           (λ h e. rw (t .1) (sift-done _ _ h e (omega (arith, h .long, gathered-few _ a, f .count)) (omega (arith, f .slot)) (rw (f .count) d) (t .0))) (d .long)
           (still-attained _ _ _ _ (still-passes p _ _ _ (r .window) (r .placed .down) (r .placed .across)) (ap (distortion p _ _) first-still)) (safe-at p _ _ _ (dvd-refl _))
           (λ i k. resolutions-divide _ (block-size-power _ (r .placed .paired .allowed)) i (List·Memᴰ·tail k)) (few-rounds _ (r .placed .paired .allowed)),
@@ -160,7 +161,7 @@ returns : tie.Need-returns Inv-loop μ-loop
 unfolding prunedSearch prunedPlace pruning
 returns c =
     let l = c .before .before .before .loop .inv in
-    c .measure-remaining .ensures ∙ going-done (l .0) _ (omega (arith, c .before .before .loop-test .left)) (l .1)
+    c .measure-remaining .ensures ∙ going-last (l .0) _ (omega (arith, c .before .before .loop-test .left)) (l .1)
 
 pub search-spec : {M : Type 1} → statement M
 search-spec =

@@ -7,9 +7,10 @@ use denote.Ref.{now}
 use lib.ListN.{getD}
 use Rattle.base.specs.Sum.{sumTo}
 use Rattle.order.specs.Preference.{preferred}
+use Rattle.order.specs.Vectors.{vectorCount}
 use Rattle.pruned_subblocks.specs.Squares.{differenceAt, Compared}
 use Rattle.pruned_distance.specs.Remaining.{Reached, placeOf}
-use Rattle.pruned_distance.proofs.Turns.{Filling, filling-none, filling-more}
+use Rattle.pruned_distance.proofs.Turns.{Filling, filling-first, filling-more}
 use Rattle.pruned_distance.proofs.fill_few.Statement.{statement}
 use Rattle.pruned_distance.proofs.fill_few.Tie as tie
 
@@ -24,11 +25,11 @@ abbrev μ-loop : tie.MeasureT-loop
 candidate : (b : tie.In-loop Inv-loop μ-loop) →
     let a = b .before .before .before .before .before .args in
     let k = getD (now (a .remaining)) (b .before .loop .i) 0 in
-    (k < 1089) × Reached (a .o) (preferred k) × Compared (now (a .block)) (now (a .steps)) (now (a .sums)) (a .rowoffset) (a .m) (a .squares) (placeOf (a .o) (preferred k))
+    (k < vectorCount) × Reached (a .o) (preferred k) × Compared (now (a .block)) (now (a .steps)) (now (a .sums)) (a .rowoffset) (a .m) (a .squares) (placeOf (a .o) (preferred k))
 candidate b = b .before .before .before .before .before .pre .1 (b .before .loop .i) (b .loop-test .taken)
 
 loop-holds : tie.Need-loop-holds Inv-loop μ-loop
-loop-holds c = filling-none _ _ _ (c .before .before .before .pre .0 .1)
+loop-holds c = filling-first _ _ _ (c .before .before .before .pre .0 .1)
 
 mul-wide-u16 : tie.Need-mul-wide-u16 Inv-loop μ-loop
 mul-wide-u16 c = search needs

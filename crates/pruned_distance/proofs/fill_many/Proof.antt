@@ -8,6 +8,7 @@ use denote.Ref.{now}
 use lib.ListN.{getD, getD-replicate, length-replicate}
 use Rattle.base.specs.Index.{row-fits}
 use Rattle.base.specs.Lists.{fill-ext}
+use Rattle.order.specs.Vectors.{vectorCount}
 use Rattle.distortion.specs.Blocks.{blockAt}
 use Rattle.pruned_subblocks.specs.Squares.{Cut}
 use Rattle.pruned_distance.specs.Remaining.{Tested}
@@ -101,7 +102,7 @@ spread-requires c κs =
       (p .rows, p .columns, many, narrow _ _ _ _ _ _ _ _ (tested r)),
       λ i j hi hj. (
         compared-corner-region _ _ _ _ _ _ _ _ (tested r) _ _ _ (whole r) (squares r) (olds r) (news r) w (r .corner-region .ensures) i j hi hj,
-        getD-replicate 1089 (i * w .columns + j) 0 0 (omega (arith, many, row-fits i (w .rows) (w .columns) hi)),
+        getD-replicate vectorCount (i * w .columns + j) 0 0 (omega (arith, many, row-fits i (w .rows) (w .columns) hi)),
       ),
     )
 
@@ -111,8 +112,8 @@ pick-requires c κs =
     let t = tested r in
     let w = r .corner-region .result in
     let many = few _ _ _ _ _ _ _ _ t _ _ _ (whole r) (squares r) (olds r) (news r) w (r .corner-region .ensures) in
-    let long = over-long _ (w .rows) (w .columns) _ _ (c .before .before .before .spread .ensures .0) (rw (length-replicate {A = ℕ} 1089 0) many) in (
-      (start r .pre .0 .0, start r .pre .0 .1, t .listed .long, long ∙ length-replicate {A = ℕ} 1089 0, t .listed .few),
+    let long = over-long _ (w .rows) (w .columns) _ _ (c .before .before .before .spread .ensures .0) (rw (length-replicate {A = ℕ} vectorCount 0) many) in (
+      (start r .pre .0 .0, start r .pre .0 .1, t .listed .long, long ∙ length-replicate {A = ℕ} vectorCount 0, t .listed .few),
       λ i h. (
         t .listed .each i h .0,
         reached-corner-region _ _ _ _ _ _ _ _ t _ _ _ (whole r) (squares r) (olds r) (news r) w (r .corner-region .ensures) i h,

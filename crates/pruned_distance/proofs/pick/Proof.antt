@@ -6,8 +6,9 @@ use borrow.Author.Needs.{needs}
 use denote.Ref.{now}
 use lib.ListN.{getD}
 use Rattle.order.specs.Preference.{preferred}
+use Rattle.order.specs.Vectors.{vectorCount}
 use Rattle.pruned_distance.specs.Remaining.{Reached, placeOf}
-use Rattle.pruned_distance.proofs.Turns.{Filling, filling-none, filling-more}
+use Rattle.pruned_distance.proofs.Turns.{Filling, filling-first, filling-more}
 use Rattle.pruned_distance.proofs.pick.Statement.{statement}
 use Rattle.pruned_distance.proofs.pick.Tie as tie
 
@@ -24,13 +25,13 @@ start c = c .before .before .before .before .before
 candidate : (b : tie.In-loop Inv-loop μ-loop) →
     let a = b .before .before .args in
     let k = getD (now (a .remaining)) (b .before .loop .i) 0 in
-    (k < 1089) × Reached (a .o) (preferred k) × (placeOf (a .o) (preferred k) < 1089)
+    (k < vectorCount) × Reached (a .o) (preferred k) × (placeOf (a .o) (preferred k) < vectorCount)
 candidate b = b .before .before .pre .1 (b .before .loop .i) (b .loop-test .taken)
 
 -- the place of a turn's candidate
 at-place : (c : tie.After-place-of Inv-loop μ-loop) →
     let a = c .before .before .before .before .before .args in
-    (c .place-of .result ≡ placeOf (a .o) (preferred (getD (now (a .remaining)) (c .before .before .before .before .loop .i) 0))) × (c .place-of .result < 1089)
+    (c .place-of .result ≡ placeOf (a .o) (preferred (getD (now (a .remaining)) (c .before .before .before .before .loop .i) 0))) × (c .place-of .result < vectorCount)
 at-place c =
     let a = c .before .before .before .before .before .args in
     let e : c .place-of .result ≡ placeOf (a .o) (preferred (getD (now (a .remaining)) (c .before .before .before .before .loop .i) 0)) =
@@ -38,7 +39,7 @@ at-place c =
     (e, rw e (candidate (c .before .before .before) .2))
 
 loop-holds : tie.Need-loop-holds Inv-loop μ-loop
-loop-holds c = filling-none _ _ _ (c .pre .0 .1)
+loop-holds c = filling-first _ _ _ (c .pre .0 .1)
 
 mul-wide-u16 : tie.Need-mul-wide-u16 Inv-loop μ-loop
 mul-wide-u16 c = search needs

@@ -8,7 +8,7 @@ use lib.ListN.{getD}
 use Rattle.signed.specs.Values.{absDiff}
 use Rattle.pruned_sums.specs.Square.{largestSquareSum, squareSumAt, HasSquare}
 use Rattle.pruned_subblocks.specs.Squares.{mostSquares}
-use Rattle.pruned_spread.proofs.Adding.{Raising, raising-none, raising-read, raising-step}
+use Rattle.pruned_spread.proofs.Adding.{Raising, raising-first, raising-read, raising-more}
 use Rattle.pruned_spread.proofs.add_run.Statement.{statement}
 use Rattle.pruned_spread.proofs.add_run.Tie as tie
 
@@ -50,7 +50,7 @@ turn c =
     (e, omega (arith, e, here b .0 .small, s .pre .0 .0), here b .1)
 
 loop-holds : tie.Need-loop-holds Inv-loop μ-loop
-loop-holds c = raising-none _ _ _ _
+loop-holds c = raising-first _ _ _ _
 
 add-part : tie.Need-add-part Inv-loop μ-loop
 add-part c = search needs
@@ -91,7 +91,7 @@ loop-less c = search needs
 loop-again : tie.Need-loop-again Inv-loop μ-loop
 loop-again c =
     let b = c .before .before .before in
-    raising-step _ _ _ _ (b .before .before .before .before .pre .0 .1) _ _ (b .before .loop .inv) (c .abs-diff-u32 .result) (turn c .0) (b .loop-test .taken)
+    raising-more _ _ _ _ (b .before .before .before .before .pre .0 .1) _ _ (b .before .loop .inv) (c .abs-diff-u32 .result) (turn c .0) (b .loop-test .taken)
 
 same-length : tie.Need-same-length Inv-loop μ-loop
 same-length c = c .before .loop .inv .long

@@ -8,7 +8,7 @@ use lib.ListN.{getD}
 use Rattle.signed.specs.Values.{absDiff}
 use Rattle.pruned_sums.specs.Square.{largestSquareSum, squareSumAt, HasSquare}
 use Rattle.pruned_subblocks.specs.Squares.{mostSquares}
-use Rattle.pruned_spread.proofs.Adding.{Adding, adding-none, adding-read, adding-room, adding-step}
+use Rattle.pruned_spread.proofs.Adding.{Adding, adding-first, adding-read, adding-room, adding-more}
 use Rattle.pruned_spread.proofs.add_square.Statement.{statement}
 use Rattle.pruned_spread.proofs.add_square.Tie as tie
 
@@ -31,7 +31,7 @@ row b c h =
     (rw (l .inv .here-is) (p .0), rw (adding-read _ _ _ _ _ _ _ _ _ _ (l .inv) c) (p .1))
 
 loop-holds : tie.Need-loop-holds Inv-loop μ-loop
-loop-holds c = adding-none _ _ _ _ _ _
+loop-holds c = adding-first _ _ _ _ _ _
 
 add-run-requires : tie.Need-add-run-requires Inv-loop μ-loop
 add-run-requires c κs =
@@ -63,7 +63,7 @@ loop-again c =
     let l = b .before .loop in
     let s = b .before .before .before .before in
     rw (c .before .before .add-run .ensures)
-    (adding-step _ _ _ _ _ _ _ _ _ _ (l .inv) (b .loop-test .taken) (s .pre .0 .2) _
+    (adding-more _ _ _ _ _ _ _ _ _ _ (l .inv) (b .loop-test .taken) (s .pre .0 .2) _
     (λ j. ap (λ (h : ℕ). absDiff (s .args .value) (squareSumAt (now (s .args .sums)) (s .args .rowoffset) (s .args .m) (h + j))) (l .inv .here-is)))
 
 same-length : tie.Need-same-length Inv-loop μ-loop

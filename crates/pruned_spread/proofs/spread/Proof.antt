@@ -12,7 +12,7 @@ use Rattle.signed.specs.Values.{absDiff}
 use Rattle.pruned_sums.specs.Square.{largestSquareSum, squareSumAt, HasSquare}
 use Rattle.pruned_subblocks.specs.Squares.{mostSquares, differenceAt, Compared}
 use Rattle.pruned_subblocks.proofs.Cuts.{is-distance}
-use Rattle.pruned_spread.proofs.Adding.{summed-none, summed-step}
+use Rattle.pruned_spread.proofs.Adding.{summed-first, summed-more}
 use Rattle.pruned_spread.proofs.spread.Statement.{statement}
 use Rattle.pruned_spread.proofs.spread.Tie as tie
 
@@ -54,7 +54,7 @@ square b i j hi hj =
 loop-holds : tie.Need-loop-holds Inv-loop μ-loop
 loop-holds c =
     let s = c .before .before .before .before in
-    (search needs, summed-none _ _ _ _ (s .pre .0 .2) (λ i j hi hj. s .pre .1 i j hi hj .1))
+    (search needs, summed-first _ _ _ _ (s .pre .0 .2) (λ i j hi hj. s .pre .1 i j hi hj .1))
 
 mul-add-square : tie.Need-mul-add-square Inv-loop μ-loop
 mul-add-square c = omega (arith, corner c .few)
@@ -93,7 +93,7 @@ loop-again c =
     let l = b .before .loop in
     let a = b .before .before .before .before .before .before .args in (
       search needs,
-      summed-step _ _ _ _ (b .before .before .before .before .before .before .pre .0 .2) _ _ _ _ (l .inv .1) (c .before .before .add-square .ensures)
+      summed-more _ _ _ _ (b .before .before .before .before .before .before .pre .0 .2) _ _ _ _ (l .inv .1) (c .before .before .add-square .ensures)
           (λ i j.
           ap (λ (h : ℕ). absDiff (getD (now (a .block)) (l .s) 0) (squareSumAt (now (a .sums)) (a .rowoffset) (a .m) h)) (sym (moved b i j))),
     )

@@ -6,7 +6,7 @@ use native.Mathlib.Omega.{arith}
 use borrow.Author.Needs.{needs}
 use lib.ListN.{length}
 use Rattle.base.specs.Index.{row-next, row-fits}
-use Rattle.base.specs.Rows.{Rowed, rowed-none, rowed-step}
+use Rattle.base.specs.Rows.{Rowed, rowed-first, rowed-more}
 use Rattle.pruned_subblocks.specs.Squares.{blockSquareSum, squareStep}
 use Rattle.pruned_subblocks.proofs.cut.Statement.{statement}
 use Rattle.pruned_subblocks.proofs.cut.Tie as tie
@@ -35,7 +35,7 @@ room b =
     omega (arith, l .inv .2 .0 .long, l .inv .2 .1 .long, row-fits (l .p) k k (b .loop-test .taken))
 
 loop-holds : tie.Need-loop-holds Inv-loop μ-loop
-loop-holds c = (search needs, sym (zero-mul _), (rowed-none _ _ _, rowed-none _ _ _))
+loop-holds c = (search needs, sym (zero-mul _), (rowed-first _ _ _, rowed-first _ _ _))
 
 cut-row-requires : tie.Need-cut-row-requires Inv-loop μ-loop
 cut-row-requires c κs =
@@ -60,8 +60,8 @@ loop-again c =
       search needs,
       omega (arith, l .inv .1, row-next (l .p) (start (b .before) .args .s .k)),
       (
-        rowed-step _ _ _ _ _ _ _ (l .inv .2 .0) (l .inv .1) (room b .0) (made .0),
-        rowed-step _ _ _ _ _ _ _ (l .inv .2 .1) (l .inv .1) (room b .1) (made .1),
+        rowed-more _ _ _ _ _ _ _ (l .inv .2 .0) (l .inv .1) (room b .0) (made .0),
+        rowed-more _ _ _ _ _ _ _ (l .inv .2 .1) (l .inv .1) (room b .1) (made .1),
       ),
     )
 

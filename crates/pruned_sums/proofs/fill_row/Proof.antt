@@ -3,7 +3,7 @@ use borrow.Author.Needs.{needs}
 use native.Mathlib.Omega.{arith}
 use Prim.Native.Nat.{_+_, _-_}
 use mathlib.Core.Path.{_≡_}
-use Rattle.pruned_sums.proofs.Row.{RowGoing, row-none, row-read, row-step, row-filled}
+use Rattle.pruned_sums.proofs.Row.{RowGoing, row-first, row-read, row-more, row-filled}
 use Rattle.pruned_sums.proofs.fill_row.Statement.{statement}
 use Rattle.pruned_sums.proofs.fill_row.Tie as tie
 
@@ -15,7 +15,7 @@ abbrev μ-loop : tie.MeasureT-loop
 μ-loop frame from columns table₀ above here run₀ c₀ table run c = columns - c
 
 loop-holds : tie.Need-loop-holds Inv-loop μ-loop
-loop-holds c = row-none _ _ _ _ _ _
+loop-holds c = row-first _ _ _ _ _ _
 
 add-table : tie.Need-add-table Inv-loop μ-loop
 add-table c = search needs
@@ -65,7 +65,7 @@ loop-again : tie.Need-loop-again Inv-loop μ-loop
 loop-again c =
     let b = c .before .before .before .before in
     let a = b .before .before .before .args in
-    row-step _ _ _ _ _ _ (omega arith) (omega arith) _ _ _ (b .loop .inv) (c .wide-u8 .result) (c .wide-u8 .ensures .0) (omega (arith, c .before .shared-slice-known2 .given (a .from + b .loop .c))) (omega arith)
+    row-more _ _ _ _ _ _ (omega arith) (omega arith) _ _ _ (b .loop .inv) (c .wide-u8 .result) (c .wide-u8 .ensures .0) (omega (arith, c .before .shared-slice-known2 .given (a .from + b .loop .c))) (omega arith)
 
 add-table-4 : tie.Need-add-table-4 Inv-loop μ-loop
 add-table-4 c = search needs

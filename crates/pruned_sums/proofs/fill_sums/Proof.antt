@@ -8,7 +8,7 @@ use denote.Ref.{now}
 use lib.ListN.{length, getD}
 use Rattle.base.specs.Index.{row-next}
 use Rattle.pruned_sums.specs.Filling.{Fillable}
-use Rattle.pruned_sums.proofs.Rows.{SumsGoing, sums-none, sums-room, sums-pels, sums-small, sums-step, sums-done}
+use Rattle.pruned_sums.proofs.Rows.{SumsGoing, sums-first, sums-room, sums-pels, sums-small, sums-more, sums-last}
 use Rattle.pruned_sums.proofs.fill_sums.Statement.{statement}
 use Rattle.pruned_sums.proofs.fill_sums.Tie as tie
 
@@ -56,7 +56,7 @@ add-from c =
 loop-holds : tie.Need-loop-holds Inv-loop μ-loop
 loop-holds c =
     let a = start (c .before) .args in
-    rw (c .before .before .clear .ensures) (sums-none (now (a .frame)) (a .width) (a .a) (now (a .table)))
+    rw (c .before .before .clear .ensures) (sums-first (now (a .frame)) (a .width) (a .a) (now (a .table)))
 
 add-next : tie.Need-add-next Inv-loop μ-loop
 add-next c =
@@ -89,7 +89,7 @@ loop-less c = search needs
 loop-again : tie.Need-loop-again Inv-loop μ-loop
 loop-again c =
     let b = c .before .before .before .before .before in
-    rw (c .before .before .fill-row .ensures) (sums-step _ _ _ _ _ _ _ _ (b .loop .inv) (ready b) (c .before .before .before .before .loop-test .taken))
+    rw (c .before .before .fill-row .ensures) (sums-more _ _ _ _ _ _ _ _ (b .loop .inv) (ready b) (c .before .before .before .before .loop-test .taken))
 
 same-length : tie.Need-same-length Inv-loop μ-loop
 same-length c = c .before .loop .inv .long ∙ c .before .before .before .before .clear .kept .0
@@ -98,7 +98,7 @@ returns : tie.Need-returns Inv-loop μ-loop
 returns c =
     let b = c .before in
     let e = b .before .before .before .clear .ensures in
-    sums-done _ _ _ _ _ _ _ _ (c .loop-test .left) (rw e at (b .loop .inv))
+    sums-last _ _ _ _ _ _ _ _ (c .loop-test .left) (rw e at (b .loop .inv))
 
 pub fill-sums-spec : {M : Type 1} → statement M
 fill-sums-spec =

@@ -5,6 +5,7 @@ use native.Mathlib.Omega.{arith}
 use mir.Facts.{toZ-ofZ}
 use borrow.Author.Needs.{needs, sfits-of}
 use Rattle.signed.specs.Values.{bias}
+use Rattle.order.specs.Vectors.{vectorCount}
 use Rattle.reading.specs.Tally.{code}
 use Rattle.reading.proofs.Tally.{bias-small, code-below}
 use Rattle.reading.proofs.code_of.Statement.{statement}
@@ -20,7 +21,7 @@ across c = c .biased2 .ensures ∙ ap (bias 16) (toZ-ofZ (sfits-of (c .before .s
 abbrev sum : (c : tie.After-biased2) → ℕ
 sum c = c .before .before .biased .result * 33 + c .biased2 .result
 
-sum-is : (c : tie.After-biased2) → (sum c ≡ code (c .before .before .before .before .args .v)) × (sum c < 1089)
+sum-is : (c : tie.After-biased2) → (sum c ≡ code (c .before .before .before .before .args .v)) × (sum c < vectorCount)
 sum-is c =
     let e : sum c ≡ code (c .before .before .before .before .args .v) = ap₂ (λ (y x : ℕ). y * 33 + x) (down (c .before .before)) (across c) in
     (e, omega (arith, code-below (c .before .before .before .before .args .v) (c .before .before .before .before .pre)))

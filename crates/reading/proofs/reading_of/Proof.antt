@@ -6,6 +6,7 @@ use native.Mathlib.Omega.{arith}
 use borrow.Author.Needs.{needs, sfits-of}
 use mir.Facts.{toZ-ofZ}
 use Rattle.order.proofs.Order.{inside}
+use Rattle.order.specs.Vectors.{vectorCount}
 use Rattle.reading.proofs.Tally.{Walked, walked-first, walked-yes, walked-no, walked-last}
 use Rattle.reading.proofs.reading_of.Statement.{statement}
 use Rattle.reading.proofs.reading_of.Tie as tie
@@ -14,7 +15,7 @@ abbrev Inv-loop : tie.InvT-loop
 Inv-loop order votes best₀ c most₀ k₀ best most k = Walked votes k best most
 
 abbrev μ-loop : tie.MeasureT-loop
-μ-loop order votes best₀ c most₀ k₀ best most k = 1089 - k
+μ-loop order votes best₀ c most₀ k₀ best most k = vectorCount - k
 
 vector-at-requires : tie.Need-vector-at-requires Inv-loop μ-loop
 vector-at-requires c κs = search needs
@@ -62,7 +63,7 @@ loop-again c =
 returns : tie.Need-returns Inv-loop μ-loop
 returns c =
     let l = c .before .before .loop in
-    let e : l .k ≡ 1089 = omega arith in
+    let e : l .k ≡ vectorCount = omega arith in
     rw (toZ-ofZ {z = l .best .dy} (sfits-of (c .struct-told .given .0 .1)), toZ-ofZ {z = l .best .dx} (sfits-of (c .struct-told .given .1 .0 .1)))
     (walked-last (rw e at (l .inv)))
 

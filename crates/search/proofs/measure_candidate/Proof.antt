@@ -6,7 +6,7 @@ use mir.Facts.{toZ-ofZ}
 use Rattle.order.specs.declared.Vector.{Vector}
 use Rattle.order.specs.Vectors.{vec}
 use Rattle.base.specs.Tests.{T-true}
-use Rattle.frame.specs.Candidates.{candidate, olderAt, olderRow, olderColumn, candidate-older, older-is, older-not}
+use Rattle.frame.specs.Candidates.{candidate, olderAt, olderRow, olderColumn, candidate-older, older-is, older-no}
 use Rattle.distortion.specs.Blocks.{distortion}
 use Rattle.search.specs.Target.{measureCandidate}
 use Rattle.search.proofs.measure_candidate.Statement.{statement}
@@ -46,7 +46,7 @@ returns : tie.Need-returns
 unfolding measureCandidate
 returns c =
     let o = c .before .before in
-    rw (older-not _ _ _ _ _ (sym (found o) ∙ c .enum-told .given .1))
+    rw (older-no _ _ _ _ _ (sym (found o) ∙ c .enum-told .given .1))
 
 block-distortion-requires : tie.Need-block-distortion-requires
 block-distortion-requires c κs =
