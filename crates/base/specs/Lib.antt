@@ -9,3 +9,4 @@ pub mod Picks
 pub mod Calls
 pub mod FirstWrong
 pub mod Greatest
+pub mod AtMost

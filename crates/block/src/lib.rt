@@ -33,7 +33,7 @@ fn refused_search(refusal: u32) -> SearchResult
         dy: 0,
         dx: 0,
         distortion: 0,
-        counts: [0, 0, 0, 0, 0],
+        counts: search::only_at_one(0),
         dropped: 0,
     }
 }

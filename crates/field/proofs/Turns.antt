@@ -1,8 +1,8 @@
 -- The grid loop: before the first block, one block more, and what the first n blocks leave. A block puts three numbers behind those before it, votes
 -- once, and adds its counts; no sum exceeds 1,089 a block.
-use Prim.Native.Nat.{ℕ, zero, suc, _+_, _*_, _≤_, _<_}
+use Prim.Native.Nat.{ℕ, _+_, _*_, _≤_, _<_}
 use mathlib.Core.Path.{_≡_, refl, sym, ap, ap₂, _∙_}
-use mathlib.Core.List.{List, [], _∷_, _++_}
+use mathlib.Core.List.{List, _++_}
 use mathlib.Core.Logic.{⊎-elim}
 use native.Mathlib.Nat.{le-trans, mul-le-mul-right, eq-or-lt-of-le}
 use native.Mathlib.Numerals.{add-one}
@@ -11,10 +11,11 @@ use lib.IntN.{ℤ}
 use lib.Seq.{sets, sets-eq, take-at, length-sets}
 use lib.ListN.{length, getD, set, take, drop, replicate}
 use Rattle.base.specs.Sum.{sumTo, sumTo-bound}
-use Rattle.base.specs.Lists.{concatTo, concatTo-more, drop-over}
+use Rattle.base.specs.Lists.{concatTo, concatTo-more, drop-over, listTo, length-listTo}
 use Rattle.order.specs.Vectors.{vectorCount}
+use Rattle.base.specs.AtMost.{listTo-most}
 use Rattle.refusals.specs.declared.Request.{Request}
-use Rattle.frame.specs.Pictures.{Pair}
+use Rattle.frame.specs.Pictures.{Pair, countNumber}
 use Rattle.frame.specs.Grid.{blocks}
 use Rattle.search.specs.declared.SearchResult.{SearchResult}
 use Rattle.search.specs.SearchResult.{vectorIn}
@@ -29,8 +30,8 @@ use Rattle.field.proofs.Places.{length-entries}
 use Rattle.field.specs.Filling.{totalOver, BlocksFilled}
 
 pub filled-first : (found : ℕ → SearchResult) (list : List ℤ) (votes : List ℕ) → votes ≡ replicate vectorCount 0
-    → BlocksFilled found 0 list list votes (asTotal (0 ∷ 0 ∷ 0 ∷ 0 ∷ 0 ∷ []) 0)
-unfolding entriesOf concatTo totalOver sumTo
+    → BlocksFilled found 0 list list votes (asTotal (replicate countNumber 0) 0)
+unfolding entriesOf concatTo totalOver sumTo listTo
 filled-first found list votes e = record {
   sound = λ k h. absurd (omega arith);
   long = refl;
@@ -38,15 +39,6 @@ filled-first found list votes e = record {
   tally = rw e (tally-first _);
   sums = refl;
 }
-
--- five counts, each of which is small; a place past them counts 0
-counts-few : (c : ℕ → ℕ) → ((i : ℕ) → c i ≤ 1141899264) → (i : ℕ) → getD (c 0 ∷ c 1 ∷ c 2 ∷ c 3 ∷ c 4 ∷ []) i 0 ≤ 1141899264
-counts-few c h zero = h 0
-counts-few c h (suc zero) = h 1
-counts-few c h (suc (suc zero)) = h 2
-counts-few c h (suc (suc (suc zero))) = h 3
-counts-few c h (suc (suc (suc (suc zero)))) = h 4
-counts-few c h (suc (suc (suc (suc (suc i))))) = omega arith
 
 module _ (found : ℕ → SearchResult) (n : ℕ) (before after : List ℤ) (votes : List ℕ) (total : Total) (f : BlocksFilled found n before after votes total) where
   -- a sum over the blocks
@@ -58,13 +50,13 @@ module _ (found : ℕ → SearchResult) (n : ℕ) (before after : List ℤ) (vot
   filled-few few =
       rw (f .sums)
       (record {
-        long = refl;
-        count = counts-few (countOver found n) (λ i. most few _ (λ k h. f .sound k h .count i));
+        long = length-listTo (countOver found n) countNumber;
+        count = listTo-most 1141899264 (countOver found n) countNumber (λ i. most few _ (λ k h. f .sound k h .count i));
         dropped = most few _ (λ k h. f .sound k h .dropped);
       })
 
   total-more : join total (found n) ≡ totalOver found (n + 1)
-  unfolding totalOver sumTo
+  unfolding totalOver sumTo listTo
   total-more = rw (f .sums, add-one n)
 
   list-more : 3 * n + 3 ≤ length before → sets after (3 * n) (entryOf (found n)) ≡ entriesOf found (n + 1) ++ drop (3 * (n + 1)) before

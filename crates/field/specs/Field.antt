@@ -17,10 +17,10 @@ use lib.Dec.{eqb}
 use lib.IntN.{ℤ, pos}
 use lib.ListN.{length, getD, drop}
 use Rattle.base.specs.Sum.{sumTo}
-use Rattle.base.specs.Lists.{concatTo}
+use Rattle.base.specs.Lists.{concatTo, listTo}
 use Rattle.frame.specs.declared.Sizes.{Sizes}
 use Rattle.refusals.specs.declared.Request.{Request}
-use Rattle.frame.specs.Pictures.{Pair, pairOf}
+use Rattle.frame.specs.Pictures.{Pair, pairOf, countNumber}
 use Rattle.frame.specs.Grid.{blocks}
 use Rattle.refusals.specs.Refusals.{sizesOf}
 use Rattle.distortion.specs.Blocks.{blockAt}
@@ -50,7 +50,7 @@ abbrev pub countOver : (ℕ → SearchResult) → ℕ → ℕ → ℕ
 countOver found n i = sumTo (λ k. getD (found k .counts) i 0) n
 
 abbrev pub countsOver : (ℕ → SearchResult) → ℕ → List ℕ
-countsOver found n = let c = countOver found n in c 0 ∷ c 1 ∷ c 2 ∷ c 3 ∷ c 4 ∷ []
+countsOver found n = listTo (countOver found n) countNumber
 
 abbrev pub droppedOver : (ℕ → SearchResult) → ℕ → ℕ
 droppedOver found n = sumTo (λ k. found k .dropped) n

@@ -24,7 +24,7 @@ pub struct FieldAnswer {
     pub dy: i32,
     pub dx: i32,
     pub votes: u32,
-    pub counts: [u32; 5],
+    pub counts: [u32; frame::COUNTS],
     pub dropped: u32,
 }
 
@@ -36,7 +36,7 @@ pub fn refused_field(refusal: u32) -> FieldAnswer
         dy: 0,
         dx: 0,
         votes: 0,
-        counts: [0, 0, 0, 0, 0],
+        counts: search::only_at_one(0),
         dropped: 0,
     }
 }
@@ -67,7 +67,7 @@ fn fill_list(
 {
     let n = frame::block_count(refusals::sizes_of(q));
     let mut total = Total {
-        counts: [0; 5],
+        counts: [0; frame::COUNTS],
         dropped: 0,
     };
     let mut k: usize = 0;

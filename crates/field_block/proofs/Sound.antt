@@ -2,17 +2,18 @@
 -- than the 1,089 vectors of window 16.
 use Prim.Native.Nat.{ℕ, zero, suc, _+_, _*_, _≤_, _<_}
 use mathlib.Core.Path.{_≡_, refl}
-use mathlib.Core.List.{List}
+use mathlib.Core.List.{List, [], _∷_}
 use native.Mathlib.Nat.{le-trans}
 use native.Mathlib.Omega.{arith}
 use lib.Dec.{T, eqb→eq}
-use lib.ListN.{getD, length}
+use lib.ListN.{getD, length, replicate}
 use Rattle.base.specs.Tests.{T-true}
 use Rattle.base.specs.Picks.{pick-few}
 use Rattle.order.specs.declared.Vector.{Vector}
 use Rattle.order.specs.Vectors.{Within, vectorCount}
+use Rattle.base.specs.AtMost.{one-most, zeros-most, append-most}
 use Rattle.refusals.specs.declared.Request.{Request}
-use Rattle.frame.specs.Pictures.{Pair, pairOf, largestDistortion}
+use Rattle.frame.specs.Pictures.{Pair, pairOf, largestDistortion, lastCount}
 use Rattle.frame.specs.Candidates.{Candidate, candidate, candidate-yes}
 use Rattle.refusals.specs.Cross.{crossWindow, cross as cross-is}
 use Rattle.refusals.specs.Refusals.{sizesOf, blockSizeOk, block-size-elim, Requested, window-small, windowOk}
@@ -39,18 +40,9 @@ use Rattle.field_block.specs.Blocks.{searchAt, Sound}
 abbrev pub Bytes : List ℕ → Type 0
 Bytes l = (i : ℕ) → getD l i 0 ≤ 255
 
--- one count alone
-at-one : (n i : ℕ) → n ≤ vectorCount → getD (onlyAtOne n) i 0 ≤ vectorCount
-at-one n zero h = omega arith
-at-one n (suc zero) h = omega arith
-at-one n (suc (suc zero)) h = omega arith
-at-one n (suc (suc (suc zero))) h = omega arith
-at-one n (suc (suc (suc (suc zero)))) h = h
-at-one n (suc (suc (suc (suc (suc i))))) h = omega arith
-
 -- an answer that counts at m = 1 alone
 sound-at-one : (v : Vector) (d n : ℕ) → Within 16 v → d ≤ largestDistortion → n ≤ vectorCount → Sound (searchResult v d (onlyAtOne n) 0)
-sound-at-one v d n near few h = record { within = near; distortion = few; count = λ i. at-one n i h; dropped = omega arith }
+sound-at-one v d n near few h = record { within = near; distortion = few; count = append-most vectorCount (replicate lastCount 0) (n ∷ []) (zeros-most _ lastCount) (one-most _ n h); dropped = omega arith }
 
 places-few : (p : Pair) (w y x : ℕ) → length (places (p .sizes) w y x) ≤ vectorCount
 places-few p w y x = pick-few _ vectorCount

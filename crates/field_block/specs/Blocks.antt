@@ -5,11 +5,12 @@
 --   join        the sums with one block more; Bounded: small enough for that
 use Prim.Native.Nat.{ℕ, _+_, _≤_}
 use mathlib.Core.Path.{_≡_}
-use mathlib.Core.List.{List, [], _∷_}
+use mathlib.Core.List.{List}
 use lib.ListN.{length, getD}
 use Rattle.order.specs.declared.Vector.{Vector}
 use Rattle.order.specs.Vectors.{Within, vectorCount}
-use Rattle.frame.specs.Pictures.{Pair, largestDistortion}
+use Rattle.base.specs.Lists.{listTo}
+use Rattle.frame.specs.Pictures.{Pair, largestDistortion, countNumber}
 use Rattle.frame.specs.Grid.{blockRow, blockColumn}
 use Rattle.refusals.specs.declared.Request.{Request}
 use Rattle.refusals.specs.Refusals.{requestRefusal}
@@ -43,10 +44,10 @@ asTotal counts dropped = record { counts = counts; dropped = dropped }
 abbrev pub join : Total → SearchResult → Total
 join s f =
     let sum : ℕ → ℕ = λ i. getD (s .counts) i 0 + getD (f .counts) i 0 in
-    asTotal (sum 0 ∷ sum 1 ∷ sum 2 ∷ sum 3 ∷ sum 4 ∷ []) (s .dropped + f .dropped)
+    asTotal (listTo sum countNumber) (s .dropped + f .dropped)
 
 -- at most 1,048,576 blocks of at most 1,089 each
 pub record Bounded (s : Total) : Type 0 where
-  pub long : length (s .counts) ≡ 5
+  pub long : length (s .counts) ≡ countNumber
   pub count : (i : ℕ) → getD (s .counts) i 0 ≤ 1141899264
   pub dropped : s .dropped ≤ 1141899264

@@ -15,7 +15,7 @@ use search::SearchResult;
 
 // Counts and dropped, summed over the blocks so far.
 pub struct Total {
-    pub counts: [u32; 5],
+    pub counts: [u32; frame::COUNTS],
     pub dropped: u32,
 }
 
@@ -66,7 +66,7 @@ pub fn join(s: Total, f: SearchResult) -> Total
     let more = f.counts;
     let mut counts = s.counts;
     let mut i: usize = 0;
-    while i < 5 {
+    while i < frame::COUNTS {
         counts[i] = counts[i] + more[i];
         i += 1;
     }

@@ -3,7 +3,7 @@
 --   Pair         an older and a newer frame, with their sizes
 --   pel          the pel at a row and a column of a frame: rows of pels, top row first
 --   Fitting      sizes at which a block of N pels, whatever N is, fits a frame of 01's largest size
-use Prim.Native.Nat.{ℕ, _+_, _*_, _≤_, _<_}
+use Prim.Native.Nat.{ℕ, _+_, _-_, _*_, _≤_, _<_}
 use mathlib.Core.List.{List}
 use native.Mathlib.Omega.{arith}
 use lib.ListN.{getD}
@@ -30,6 +30,13 @@ largestN = 16
 
 abbrev pub largestDistortion : ℕ
 largestDistortion = largestN * (largestN * 255)
+
+-- how many counts a search has, one for each m = 16, 8, 4, 2, 1, and the place of the last, for m = 1
+abbrev pub countNumber : ℕ
+countNumber = 5
+
+abbrev pub lastCount : ℕ
+lastCount = countNumber - 1
 
 pub record Fitting (s : Sizes) : Type 0 where
   pub some : 0 < s .n

@@ -13,6 +13,11 @@ pub const LARGEST_N: usize = 16;
 
 pub const LARGEST_DISTORTION: u32 = (LARGEST_N * LARGEST_N * 255) as u32;
 
+// How many counts a search has, one for each m = 16, 8, 4, 2, 1, and the place of the last, for m = 1.
+pub const COUNTS: usize = 5;
+
+pub const LAST_COUNT: usize = COUNTS - 1;
+
 // Width and height of a frame, and the block size N.
 pub struct Sizes {
     pub width: usize,

@@ -100,7 +100,7 @@ pub fn search(
         dy: v.dy,
         dx: v.dx,
         distortion: best.distortion,
-        counts: [0, 0, 0, 0, count as u32],
+        counts: search::only_at_one(count as u32),
         dropped: 0,
     }
 }

@@ -202,7 +202,7 @@ pub fn result_of(s: BestSoFar) -> SearchResult
         dy: signed::unbiased(s.y),
         dx: signed::unbiased(s.x),
         distortion: s.least,
-        counts: [0, 0, 0, 0, s.count],
+        counts: search::only_at_one(s.count),
         dropped: 0,
     }
 }

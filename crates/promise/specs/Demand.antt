@@ -25,7 +25,7 @@ use Rattle.base.specs.Calls.{reckonCall, acceptedFrom, runFrom, lastHanded, Eac
 use Rattle.order.specs.declared.Vector.{Vector}
 use Rattle.order.specs.Vectors.{turned}
 use Rattle.order.specs.Preference.{preferred}
-use Rattle.frame.specs.Pictures.{Pair, largestDistortion}
+use Rattle.frame.specs.Pictures.{Pair, largestDistortion, lastCount}
 use Rattle.frame.specs.Grid.{blocks, blockRow, blockColumn}
 use Rattle.frame.specs.Candidates.{candidate}
 use Rattle.refusals.specs.Cross.{crossWindow, log2}
@@ -216,7 +216,7 @@ NotLower p w y x f most = (distortion p y x (best p w y x) ≤ f .distortion) ×
 -- no block of a field is lower than an accepted step's list has it, after at most so many probes a block
 abbrev pub FieldNotLower : Pair → List ℤ → FieldResult → ℕ → Type 0
 FieldNotLower p list f most =
-    EachBlock p (λ k. reported list k ≤ℤ reported (f .list) k) × (getD (f .answer .counts) 4 0 ≤ blocks (p .sizes) * most)
+    EachBlock p (λ k. reported list k ≤ℤ reported (f .list) k) × (getD (f .answer .counts) lastCount 0 ≤ blocks (p .sizes) * most)
 
 -- every place a block may stand at, and every field whose list has room, is searchBy unrefused
 abbrev pub Runs : Pair → (search w t : ℕ) → Type 0
@@ -255,8 +255,8 @@ pub record Promise (calls : List Call) : Type 0 where
   -- "an accepted step answers with the sums over blocks": dropped, finally measured, and both together all candidates
   pub sums : EachStep calls (λ p w list s. let a = s .stepped .answer in
       (a .dropped ≡ overGrid p (λ y x. howMany (isDropped p w y x)))
-      × (getD (a .counts) 4 0 ≡ overGrid p (λ y x. howMany (isMeasured p w y x)))
-      × (a .dropped + getD (a .counts) 4 0 ≡ overGrid p (λ y x. howMany (candidate (p .sizes) w y x))))
+      × (getD (a .counts) lastCount 0 ≡ overGrid p (λ y x. howMany (isMeasured p w y x)))
+      × (a .dropped + getD (a .counts) lastCount 0 ≡ overGrid p (λ y x. howMany (candidate (p .sizes) w y x))))
   -- "Four-step and cross .. run, unrefused, by field or single block, on an accepted step's frames and N, cross with any T it takes."
   pub four-step-runs : EachStep calls (λ p w list s. Runs p 3 7 0)
   pub cross-runs : EachStep calls (λ p w list s. (u t : ℕ) → T (crossWindow u) → t ≤ largestDistortion → Runs p 4 u t)

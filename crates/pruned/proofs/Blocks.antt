@@ -1,5 +1,5 @@
 -- A block that is ready to be searched: it has a table of its own, N is a power of two, and at a resolution that divides N no test drops the winner.
-use Prim.Native.Nat.{ℕ, _+_, _≤_, _∣_}
+use Prim.Native.Nat.{ℕ, _+_, _≤_, _∣_, _<_}
 use mathlib.Core.Path.{refl}
 use mathlib.Core.List.{List}
 use native.Mathlib.Nat.{le-trans, mul-le-mul, mul-le-mul-right}
@@ -7,7 +7,7 @@ use native.Mathlib.Omega.{arith}
 use lib.Dec.{T}
 use lib.ListN.{length}
 use Rattle.order.specs.Preference.{preferred}
-use Rattle.frame.specs.Pictures.{Pair, largestN}
+use Rattle.frame.specs.Pictures.{Pair, largestN, lastCount}
 use Rattle.refusals.specs.Refusals.{blockSizeOk, block-size-elim}
 use Rattle.distortion.specs.Blocks.{absolute, distortion, newerBlock, olderBlock}
 use Rattle.frame.specs.declared.SearchBlock.{SearchBlock}
@@ -38,8 +38,8 @@ pub block-size-power : (n : ℕ) → T (blockSizeOk n) → PowerOfTwo n
 block-size-power = block-size-elim PowerOfTwo (1, refl) (2, refl) (3, refl)
 
 -- with at most three resolutions after N
-pub few-rounds : (n : ℕ) → T (blockSizeOk n) → length (resolutions n) ≤ 3
-few-rounds = block-size-elim (λ n. length (resolutions n) ≤ 3) (rw (resolutions-many 1) (omega arith)) (rw (resolutions-many 2) (omega arith)) (rw (resolutions-many 3) (omega arith))
+pub few-rounds : (n : ℕ) → T (blockSizeOk n) → length (resolutions n) < lastCount
+few-rounds = block-size-elim (λ n. length (resolutions n) < lastCount) (rw (resolutions-many 1) (omega arith)) (rw (resolutions-many 2) (omega arith)) (rw (resolutions-many 3) (omega arith))
 
 pub two-least : (n : ℕ) → T (blockSizeOk n) → 2 ≤ n
 two-least = block-size-elim (λ n. 2 ≤ n) (omega arith) (omega arith) (omega arith)

@@ -7,7 +7,7 @@ use lib.ListN.{length, getD}
 use Rattle.base.specs.Least.{_∈_}
 use Rattle.order.specs.Preference.{preferred}
 use Rattle.order.proofs.Order.{first-still}
-use Rattle.frame.specs.Pictures.{Pair}
+use Rattle.frame.specs.Pictures.{Pair, lastCount}
 use Rattle.refusals.specs.Refusals.{blockSizeOk}
 use Rattle.distortion.specs.Blocks.{absolute, distortion, newerBlock, olderBlock}
 use Rattle.search.specs.SearchResult.{vectorIn, probes}
@@ -47,7 +47,7 @@ module _ (p : Pair) (w y x : ℕ) where
   all-counted = search-counts _ _ _ _ _ _ _
 
   -- where N leaves at most three resolutions, five counts are enough: the last, at m = 1, is how many are finally measured
-  pub measured : length (resolutions (p .sizes .n)) ≤ 3 → probes (prunedSearch p w y x) ≡ length (pruning p w y x .left)
+  pub measured : length (resolutions (p .sizes .n)) < lastCount → probes (prunedSearch p w y x) ≡ length (pruning p w y x .left)
   unfolding prunedSearch pruning
   measured few = last-count _ _ _ _ _ _ _ few
 

@@ -11,6 +11,7 @@ use Rattle.base.specs.Least.{_∈_, leastOf}
 use Rattle.base.specs.Picks.{pick, pick-few}
 use Rattle.order.specs.Preference.{preferred}
 use Rattle.order.specs.Vectors.{vectorCount}
+use Rattle.frame.specs.Pictures.{countNumber, lastCount}
 use Rattle.distortion.specs.Blocks.{absolute}
 use Rattle.frame.specs.declared.SearchBlock.{SearchBlock}
 use Rattle.search.specs.declared.SearchResult.{SearchResult}
@@ -26,10 +27,10 @@ use Rattle.pruned_steps.specs.Memory.{Begun, measureRemaining}
 use Rattle.pruned.proofs.State.{InMemory}
 
 -- the last of the five counts
-filled-up : (z : ℕ) (cs t : List ℕ) (slot x : ℕ) → slot ≡ 4 → length cs ≡ 5 → slot ≡ z + length t → take slot cs ≡ replicate z 0 ++ t
-    → set cs slot x ≡ replicate (5 - length (t ++ (x ∷ []))) 0 ++ (t ++ (x ∷ []))
+filled-up : (z : ℕ) (cs t : List ℕ) (slot x : ℕ) → slot ≡ lastCount → length cs ≡ countNumber → slot ≡ z + length t → take slot cs ≡ replicate z 0 ++ t
+    → set cs slot x ≡ replicate (countNumber - length (t ++ (x ∷ []))) 0 ++ (t ++ (x ∷ []))
 filled-up z cs t slot x e f g h =
-    let n : z ≡ 5 - length (t ++ (x ∷ [])) = omega (arith, length-append t (x ∷ [])) in
+    let n : z ≡ countNumber - length (t ++ (x ∷ [])) = omega (arith, length-append t (x ∷ [])) in
     sym (take-all (suc slot) (set cs slot x) (omega (arith, length-set cs slot x)))
     ∙ take-suc-set cs slot x (omega arith)
     ∙ ap (λ (l : List ℕ). l ++ (x ∷ [])) h
@@ -100,7 +101,7 @@ module _ {e : ℕ} {D : ℕ → ℕ} {d : ℕ → ℕ → ℕ} {N : ℕ} {p : �
   unfolding prunedBest counts
   going-last all h same =
       let at-end : ended e D d N p ≡ g .state = g .ahead ∙ rounds-none D d (absolute .limit) m (g .state) h in
-      let last : r .slot ≡ 4 = omega (arith, g .slots, ap length (halvings-none m h)) in
+      let last : r .slot ≡ lastCount = omega (arith, g .slots, ap length (halvings-none m h)) in
       let five = filled-up (g .unused) (r .counts) (g .state .tested) (r .slot) (r .count) last (g .held .five) (g .held .slot) (g .held .tested) in
       let gone : all - r .count ≡ length (g .state .dropped) = omega (arith, g .held .many, counted-length (g .testsCounted)) in
       rw (at-end, g .held .left, gone, g .held .many)
@@ -140,7 +141,7 @@ module _ (e : ℕ) (D : ℕ → ℕ) (N : ℕ) (b : SearchBlock) {before remaini
         → (InMemory (r .slot) (allRemaining e (pick (candidateAt b) vectorCount)) remaining r → r .bound ≡ allRemaining e (pick (candidateAt b) vectorCount) .bound
         → InMemory (r .slot) (sift d (absolute .limit) N (allRemaining e (pick (candidateAt b) vectorCount))) after q)
         → length dist ≡ vectorCount → Attained D (pick (candidateAt b) vectorCount) e → Safe D d (absolute .limit) N → ((i : ℕ) → i ∈ resolutions N → i ∣ N)
-        → length (resolutions N) ≤ 3
+        → length (resolutions N) < lastCount
         → Going e D d N (candidateAt b) (N / 2) after dist q
     unfolding prune sift allRemaining
     going-first d steps wide given safe divides few =

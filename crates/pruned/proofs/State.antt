@@ -12,6 +12,7 @@ use lib.ListN.{length, take, length-set, length-append, replicate}
 use lib.Seq.{take-suc-set}
 use Rattle.base.specs.Least.{leastOf}
 use Rattle.order.specs.Vectors.{vectorCount}
+use Rattle.frame.specs.Pictures.{countNumber}
 use Rattle.distortion.specs.Blocks.{absolute}
 use Rattle.pruned_rule.specs.Sift.{kept}
 use Rattle.pruned_rule.specs.Prune.{Pruning, lower, sift}
@@ -29,7 +30,7 @@ pub record InMemory (z : ℕ) (s : Pruning) (remaining : List ℕ) (r : PruneSta
   pub many : length (s .left) ≡ r .count
   pub left : take (r .count) remaining ≡ s .left
   pub slot : r .slot ≡ z + length (s .tested)
-  pub five : length (r .counts) ≡ 5
+  pub five : length (r .counts) ≡ countNumber
   pub tested : take (r .slot) (r .counts) ≡ replicate z 0 ++ s .tested
 
 -- E lowered to the distortion of the nearest
@@ -50,7 +51,7 @@ lower-done D d m {z} {s} {remaining} {dist} {r} h more few g =
     }
 
 -- one count more stands there
-count-done : {z : ℕ} {s : Pruning} {remaining : List ℕ} {r : PruneState} → InMemory z s remaining r → r .slot < 5 →
+count-done : {z : ℕ} {s : Pruning} {remaining : List ℕ} {r : PruneState} → InMemory z s remaining r → r .slot < countNumber →
     let tested = s .tested ++ (length (s .left) ∷ []) in
     (testsCounted r .slot ≡ z + length tested) × (length (testsCounted r .counts) ≡ 5) × (take (testsCounted r .slot) (testsCounted r .counts) ≡ replicate z 0 ++ tested)
 count-done {z} {s} {remaining} {r} h l =
@@ -63,7 +64,7 @@ count-done {z} {s} {remaining} {r} h l =
 -- those over E are gone
 pub sift-done : (d : ℕ → ℕ → ℕ) (m : ℕ) {z : ℕ} {s : Pruning} {remaining dist after : List ℕ} {r : PruneState} {k : ℕ} → InMemory z s remaining r
     → r .bound ≡ s .bound
-    → r .count ≤ length remaining → r .slot < 5 → Stored (d m) remaining (r .count) dist
+    → r .count ≤ length remaining → r .slot < countNumber → Stored (d m) remaining (r .count) dist
     → Front (keptWithin (r .bound) remaining dist (r .count)) (swept (r .bound) remaining dist (r .count)) after k
     → InMemory z (sift d (absolute .limit) m s) after (recounted k r)
 unfolding sift
@@ -95,7 +96,7 @@ one-stays v l (k ∷ []) e h = stays (leb (v k) l) h
 one-stays v l (k ∷ j ∷ ks) e h = absurd (omega arith)
 
 sift-alone : (D : ℕ → ℕ) (d : ℕ → ℕ → ℕ) (m : ℕ) {z : ℕ} {s : Pruning} {remaining : List ℕ} {r : PruneState} → InMemory z s remaining r → r .count ≡ 1
-    → r .slot < 5
+    → r .slot < countNumber
     → 0 < length (sift d (absolute .limit) m (lower D d m s) .left) → InMemory z (sift d (absolute .limit) m (lower D d m s)) remaining (testsCounted r)
 unfolding sift lower
 sift-alone D d m {z} {s} {remaining} {r} h one l some =
@@ -116,7 +117,7 @@ sift-alone D d m {z} {s} {remaining} {r} h one l some =
 -- wherever the search stood, if a candidate remains
 pub level-done : (D : ℕ → ℕ) (d : ℕ → ℕ → ℕ) (m : ℕ) {remaining dist after measured : List ℕ} {r q : PruneState}
     → Leveled D (d m) remaining dist r after measured q
-    → length dist ≡ vectorCount → 0 < r .count → r .count ≤ vectorCount → r .slot < 5 → (z : ℕ) (s : Pruning) → InMemory z s remaining r
+    → length dist ≡ vectorCount → 0 < r .count → r .count ≤ vectorCount → r .slot < countNumber → (z : ℕ) (s : Pruning) → InMemory z s remaining r
     → 0 < length (sift d (absolute .limit) m (lower D d m s) .left) → InMemory z (sift d (absolute .limit) m (lower D d m s)) after q
 level-done D d m {remaining} {dist} {after} {measured} {r} {q} v wide one few room z s h some = ⊎-elim lone many (eq-or-lt-of-le one)
   where

@@ -16,6 +16,7 @@ use mathlib.Core.List.{List, [], _∷_, _++_}
 use lib.Dec.{ltb}
 use lib.ListN.{length, replicate}
 use Rattle.base.specs.Least.{leastOf}
+use Rattle.frame.specs.Pictures.{countNumber}
 use Rattle.pruned_rule.specs.Sift.{kept, exceeding}
 
 pub record Pruning : Type 0 where
@@ -56,7 +57,7 @@ prunedBest e D dist limit N ms ks = leastOf D (prune e D dist limit N ms ks .lef
 
 -- "five counts, for m = 16, 8, 4, 2, 1. Unused ones are 0": the last is how many were finally measured
 unfoldable pub counts : Pruning → List ℕ
-counts s = let c = s .tested ++ (length (s .left) ∷ []) in replicate (5 - length c) 0 ++ c
+counts s = let c = s .tested ++ (length (s .left) ∷ []) in replicate (countNumber - length c) 0 ++ c
 
 -- m, m / 2, .. down to 2; the first number bounds how many there are
 unfoldable pub halves : ℕ → ℕ → List ℕ

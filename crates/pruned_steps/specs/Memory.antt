@@ -10,14 +10,14 @@
 --   measureRemaining   the answer made of what is in memory at the end
 use Prim.Native.Nat.{ℕ, _+_, _-_, _<_, min}
 use mathlib.Core.Path.{_≡_}
-use mathlib.Core.List.{List, [], _∷_, _++_}
-use lib.ListN.{length, getD, take, drop, set}
+use mathlib.Core.List.{List, _++_}
+use lib.ListN.{length, getD, take, drop, set, replicate}
 use Rattle.base.specs.Lists.{fillTo}
 use Rattle.base.specs.Least.{leastOf}
 use lib.IntN.{pos}
 use Rattle.order.specs.Vectors.{vec}
 use Rattle.order.specs.Preference.{preferred}
-use Rattle.frame.specs.Pictures.{Pair}
+use Rattle.frame.specs.Pictures.{Pair, countNumber}
 use Rattle.distortion.specs.Blocks.{distortion}
 use Rattle.search.specs.declared.SearchResult.{SearchResult}
 use Rattle.search.specs.SearchResult.{searchResult}
@@ -29,13 +29,13 @@ abbrev pub stillDistortion : Pair → ℕ → ℕ → ℕ
 stillDistortion p y x = distortion p y x (vec (pos 0) (pos 0))
 
 abbrev pub firstSlot : ℕ → ℕ
-firstSlot n = 5 - (length (resolutions n) + 2)
+firstSlot n = countNumber - (length (resolutions n) + 2)
 
 pub record Begun (e n total : ℕ) (r : PruneState) : Type 0 where
   pub bound : r .bound ≡ e
   pub count : r .count ≡ total
   pub slot : r .slot ≡ firstSlot n
-  pub counts : r .counts ≡ 0 ∷ 0 ∷ 0 ∷ 0 ∷ 0 ∷ []
+  pub counts : r .counts ≡ replicate countNumber 0
 
 abbrev pub recounted : ℕ → PruneState → PruneState
 recounted k r = record { count = k; bound = r .bound; slot = r .slot + 1; counts = set (r .counts) (r .slot) (r .count) }

@@ -7,7 +7,7 @@ ghost use lib.Dec.{T};
 ghost use lib.ListN.{length};
 ghost use Rattle.order.specs.Preference.{preference, flat};
 ghost use Rattle.order.specs.Vectors.{vectorCount};
-ghost use Rattle.frame.specs.Pictures.{pairOf};
+ghost use Rattle.frame.specs.Pictures.{pairOf, countNumber};
 ghost use Rattle.refusals.specs.Refusals.{blockSizeOk};
 ghost use Rattle.search.specs.Target.{Ready};
 ghost use Rattle.candidates.specs.Gathered.{Front, ListedCandidates};
@@ -26,7 +26,7 @@ pub struct PruneState {
     pub count: usize,
     pub bound: u32,
     pub slot: usize,
-    pub counts: [u32; 5],
+    pub counts: [u32; frame::COUNTS],
 }
 
 // Where the count of the tests at N stands among the five: log2 N places before the last, which is for m = 1.
@@ -34,7 +34,7 @@ fn first_slot(n: usize) -> usize
     requires { ⌜ T (blockSizeOk n) ⌝ }
     ensures { λ r. ⌜ r ≡ firstSlot n ⌝ }
 {
-    4 - refusals::log2_window(n) as usize
+    frame::LAST_COUNT - refusals::log2_window(n) as usize
 }
 
 // All candidates, and E the distortion of (0,0).
@@ -55,7 +55,7 @@ pub fn begin(
         count: total,
         bound,
         slot,
-        counts: [0; 5],
+        counts: [0; frame::COUNTS],
     }
 }
 
@@ -92,7 +92,7 @@ fn lowered(
 
 // Counts the tests at a resolution: one for each remaining candidate.
 fn count_tests(r: PruneState) -> PruneState
-    requires { ⌜ (r .count ≤ vectorCount) × (r .slot < 5) ⌝ }
+    requires { ⌜ (r .count ≤ vectorCount) × (r .slot < countNumber) ⌝ }
     ensures { λ q. ⌜ q ≡ testsCounted r ⌝ }
 {
     let count = r.count;
@@ -114,7 +114,7 @@ pub fn sifted(
     dist: &[u32; order::VECTORS],
     r: PruneState,
 ) -> PruneState
-    requires { ⌜ (length (now remaining) ≡ vectorCount) × (r .count ≤ vectorCount) × (r .slot < 5) ⌝ }
+    requires { ⌜ (length (now remaining) ≡ vectorCount) × (r .count ≤ vectorCount) × (r .slot < countNumber) ⌝ }
     ensures { λ q. ⌜ Front (keptWithin (r .bound) (now (remaining .entry)) (now (dist .entry)) (r .count)) (swept (r .bound) (now (remaining .entry)) (now (dist .entry)) (r .count)) (now (remaining .exit)) (q .count) × (q ≡ recounted (q .count) r) ⌝ }
 {
     let kept = pruned_remaining::keep_within(remaining, r.count, dist, r.bound);
@@ -143,7 +143,7 @@ pub fn level(
     r: PruneState,
 ) -> PruneState
     requires { ⌜ (now order ≡ flat preference) × (length (now dist) ≡ vectorCount) × Tested (now older) (now newer) b (now sums) a m (now remaining) (r .count)
-        × BlockSums (now newer) b (now blocksums) × (0 < r .count) × (r .slot < 5) ⌝ }
+        × BlockSums (now newer) b (now blocksums) × (0 < r .count) × (r .slot < countNumber) ⌝ }
     ensures { λ q. ⌜ Leveled (distortionOf (now (older .entry)) (now (newer .entry)) b) (distanceOf (now (older .entry)) (now (newer .entry)) b m) (now (remaining .entry)) (now (dist .entry)) r (now (remaining .exit)) (now (dist .exit)) q ⌝ }
 {
     let count = r.count;
@@ -178,7 +178,7 @@ pub fn measure_remaining(
     r: PruneState,
 ) -> SearchResult
     requires { ⌜ Ready (now older) (now newer) b × (now order ≡ flat preference) ⌝ }
-    requires { ⌜ ListedCandidates b (now remaining) (r .count) × (0 < r .count) × (r .slot < 5) × (r .count ≤ total) × (total ≤ vectorCount) ⌝ }
+    requires { ⌜ ListedCandidates b (now remaining) (r .count) × (0 < r .count) × (r .slot < countNumber) × (r .count ≤ total) × (total ≤ vectorCount) ⌝ }
     ensures { λ q. ⌜ q ≡ measureRemaining (distortionOf (now (older .entry)) (now (newer .entry)) b) (now (remaining .entry)) total r ⌝ }
 {
     let count = r.count;

@@ -6,18 +6,19 @@
 --   vectorIn       the vector of an answer
 --   probes         its count at m = 1
 use Prim.Native.Nat.{ℕ}
-use mathlib.Core.List.{List, [], _∷_}
+use mathlib.Core.List.{List, [], _∷_, _++_}
 use lib.IntN.{pos}
-use lib.ListN.{getD}
+use lib.ListN.{getD, replicate}
 use Rattle.order.specs.declared.Vector.{Vector}
 use Rattle.order.specs.Vectors.{vec}
+use Rattle.frame.specs.Pictures.{lastCount}
 use Rattle.search.specs.declared.SearchResult.{SearchResult}
 
 abbrev pub searchResult : Vector → ℕ → List ℕ → ℕ → SearchResult
 searchResult v d counts dropped = record { refusal = 0; dy = v .dy; dx = v .dx; distortion = d; counts = counts; dropped = dropped }
 
 abbrev pub onlyAtOne : ℕ → List ℕ
-onlyAtOne n = 0 ∷ 0 ∷ 0 ∷ 0 ∷ n ∷ []
+onlyAtOne n = replicate lastCount 0 ++ (n ∷ [])
 
 abbrev pub refusedSearch : ℕ → SearchResult
 refusedSearch refusal = record { refusal = refusal; dy = pos 0; dx = pos 0; distortion = 0; counts = onlyAtOne 0; dropped = 0 }
@@ -26,4 +27,4 @@ abbrev pub vectorIn : SearchResult → Vector
 vectorIn f = vec (f .dy) (f .dx)
 
 abbrev pub probes : SearchResult → ℕ
-probes f = getD (f .counts) 4 0
+probes f = getD (f .counts) lastCount 0

@@ -5,6 +5,7 @@ ghost use Prim.Native.Nat.{_-_, _≤_};
 ghost use lib.IntN.{pos, _+ℤ_};
 ghost use Rattle.signed.specs.Int.{up};
 ghost use Rattle.order.specs.Vectors.{vec};
+ghost use Rattle.search.specs.SearchResult.{onlyAtOne};
 ghost use Rattle.search.specs.Target.{Ready, Past, targetOf, measureCandidate};
 use frame::Older;
 use frame::SearchBlock;
@@ -16,8 +17,17 @@ pub struct SearchResult {
     pub dy: i32,
     pub dx: i32,
     pub distortion: u32,
-    pub counts: [u32; 5],
+    pub counts: [u32; frame::COUNTS],
     pub dropped: u32,
+}
+
+// The counts of a search that counts at m = 1 alone.
+pub fn only_at_one(count: u32) -> [u32; frame::COUNTS]
+    ensures { λ r. ⌜ r ≡ onlyAtOne count ⌝ }
+{
+    let mut counts = [0u32; frame::COUNTS];
+    counts[frame::LAST_COUNT] = count;
+    counts
 }
 
 // at + d, counted from `from`: the row or the column of a candidate's older block.

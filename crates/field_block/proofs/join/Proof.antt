@@ -7,6 +7,7 @@ use native.Mathlib.Omega.{arith}
 use borrow.Author.Needs.{needs}
 use lib.ListN.{getD, drop-of-length-le}
 use Rattle.base.specs.Lists.{listTo, length-listTo, fillTo, fill-none, fill-zero, fill-front, front-behind}
+use Rattle.frame.specs.Pictures.{countNumber}
 use Rattle.search.specs.declared.SearchResult.{SearchResult}
 use Rattle.field_block.specs.declared.Total.{Total}
 use Rattle.field_block.specs.Blocks.{Sound, Bounded}
@@ -21,10 +22,10 @@ kept : (d : List ℕ) (g : ℕ → ℕ) (i : ℕ) → getD (fillTo d 0 g i) i 0 
 kept d g i = rw (fill-zero d g i) (front-behind (listTo g i) d i i 0 (length-listTo g i) (le-refl i))
 
 abbrev Inv-loop : tie.InvT-loop
-Inv-loop s f more counts₀ i₀ counts i = (i ≤ 5) × (counts ≡ fillTo (s .counts) 0 (sum s f) i)
+Inv-loop s f more counts₀ i₀ counts i = (i ≤ countNumber) × (counts ≡ fillTo (s .counts) 0 (sum s f) i)
 
 abbrev μ-loop : tie.MeasureT-loop
-μ-loop s f more counts₀ i₀ counts i = 5 - i
+μ-loop s f more counts₀ i₀ counts i = countNumber - i
 
 next-is : (c : tie.In-loop Inv-loop μ-loop) →
     let l = c .before .loop in
@@ -79,8 +80,8 @@ returns c =
     let a = c .before .before .before in
     let l = a .loop in
     let s = a .before .before .before in
-    let e : l .i ≡ 5 = omega arith in
-    rw (l .inv .1, e, fill-zero, drop-of-length-le (s .args .s .counts) {i = 5} (omega (arith, s .pre .0 .long)))
+    let e : l .i ≡ countNumber = omega arith in
+    rw (l .inv .1, e, fill-zero, drop-of-length-le (s .args .s .counts) {i = countNumber} (omega (arith, s .pre .0 .long)))
 
 pub join-spec : {M : Type 1} → statement M
 join-spec =

@@ -2,7 +2,7 @@
 use Prim.Native.Nat.{_<_}
 use mathlib.Core.Path.{refl}
 use native.Mathlib.Omega.{arith}
-use borrow.Author.Needs.{sfits-of, fits-under}
+use borrow.Author.Needs.{needs, sfits-of, fits-under}
 use denote.Ref.{now}
 use mir.Syntax.{w32}
 use mir.Facts.{toZ-ofZ}
@@ -40,16 +40,30 @@ choose-of-many-requires c κs =
 vector-at-requires : tie.Need-vector-at-requires
 vector-at-requires c κs = (start (c .before) .pre .1, omega (arith, c .choose-of-many .ensures .small))
 
-cast-t11 : tie.Need-cast-t11
-cast-t11 c = fits-under w32 _ 1090 (omega (arith, gathered-few _ (c .before .before .before .gather .ensures))) tt
+cast-only-at-one : tie.Need-cast-only-at-one
+cast-only-at-one c = fits-under w32 _ 1090 (omega (arith, gathered-few _ (c .before .before .before .gather .ensures))) tt
+
+only-at-one-requires : tie.Need-only-at-one-requires
+only-at-one-requires c κs = search needs
 
 returns : tie.Need-returns
 unfolding fullSearch best
 returns c =
-    let h = c .before .before .before .before .gather .ensures in
-    let k = c .before .before .choose-of-many .ensures in
-    rw (toZ-ofZ (sfits-of (c .struct-told .given .0 .1)), toZ-ofZ (sfits-of (c .struct-told .given .1 .0 .1)), c .before .vector-at .ensures, k .cost, k .first, front-take h, h .many)
+    let o = c .before in
+    let k = o .before .before in
+    let h = k .before .before .gather .ensures in
+    let j = k .choose-of-many .ensures in
+    rw (
+      toZ-ofZ (sfits-of (c .struct-told .given .0 .1)),
+      toZ-ofZ (sfits-of (c .struct-told .given .1 .0 .1)),
+      o .only-at-one .ensures,
+      o .before .vector-at .ensures,
+      j .cost,
+      j .first,
+      front-take h,
+      h .many,
+    )
 
 pub search-spec : {M : Type 1} → statement M
 search-spec =
-    tie.close (tie.spec gather-requires choose-of-many-requires vector-at-requires cast-t11 returns)
+    tie.close (tie.spec gather-requires choose-of-many-requires vector-at-requires cast-only-at-one only-at-one-requires returns)

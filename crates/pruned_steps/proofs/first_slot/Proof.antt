@@ -5,6 +5,7 @@ use native.Mathlib.Omega.{arith}
 use borrow.Author.Needs.{needs}
 use lib.Count.{trailingZeros}
 use lib.Dec.{T}
+use Rattle.frame.specs.Pictures.{lastCount}
 use Rattle.refusals.specs.Cross.{log2}
 use Rattle.refusals.specs.Refusals.{blockSizeOk, block-size-elim}
 use Rattle.pruned_rule.specs.Prune.{halves}
@@ -16,9 +17,9 @@ few : (n : ℕ) → T (blockSizeOk n) → log2 n ≤ 4
 unfolding trailingZeros
 few = block-size-elim (λ n. log2 n ≤ 4) (omega arith) (omega arith) (omega arith)
 
-slot : (n : ℕ) → T (blockSizeOk n) → 4 - log2 n ≡ firstSlot n
+slot : (n : ℕ) → T (blockSizeOk n) → lastCount - log2 n ≡ firstSlot n
 unfolding halves trailingZeros
-slot = block-size-elim (λ n. 4 - log2 n ≡ firstSlot n) refl refl refl
+slot = block-size-elim (λ n. lastCount - log2 n ≡ firstSlot n) refl refl refl
 
 log2-window-requires : tie.Need-log2-window-requires
 log2-window-requires c κs = search needs
