@@ -35,11 +35,7 @@ pub fn no_head() -> Head
 pub fn sizes_in(h: Head) -> Sizes
     ensures { λ r. ⌜ r ≡ sizesIn h ⌝ }
 {
-    Sizes {
-        width: h.width,
-        height: h.height,
-        n: h.n,
-    }
+    frame::sizes_by(h.width, h.height, h.n)
 }
 
 // The first of 1 3 4 5 that applies to a head's numbers, or 0.

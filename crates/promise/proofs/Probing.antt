@@ -8,6 +8,7 @@ use lib.IntN.{ℤ}
 use lib.ListN.{length, drop}
 use Rattle.base.specs.Tests.{T-true}
 use Rattle.base.specs.Sum.{sumTo-bound}
+use Rattle.base.specs.Lists.{listTo}
 use Rattle.frame.specs.Pictures.{Pair, largestDistortion}
 use Rattle.frame.specs.Grid.{blocks, blockRow, blockColumn, block-down, block-across}
 use Rattle.refusals.specs.declared.Request.{Request}
@@ -79,7 +80,7 @@ module _ (p : Pair) (w : ℕ) (f : Fine p w) where
 
       -- mine is the list of an accepted step by search 2
       field-held : (mine : List ℤ) → Lists p w mine → FieldNotLower p mine (fieldOn p s u t list table) most
-      unfolding fieldAnswer
+      unfolding fieldAnswer listTo
       field-held mine r =
           rw (field-accepted (p .older) (p .newer) request list table unrefused) (
             λ k h. rw (r k h, entries-third (searchAt p request) (blocks (p .sizes)) k (drop (listSize (p .sizes)) list) h) (pos-le (owed k h .0)),

@@ -11,6 +11,7 @@ use lib.ListN.{getD, drop}
 use Rattle.base.specs.Calls.{EachCall, last-is, each-call}
 use Rattle.order.specs.declared.Vector.{Vector}
 use Rattle.order.specs.Vectors.{turned}
+use Rattle.base.specs.Lists.{listTo}
 use Rattle.frame.specs.Pictures.{Pair, lastCount}
 use Rattle.frame.specs.Grid.{blocks-some, blocks}
 use Rattle.frame.specs.Candidates.{candidate}
@@ -81,7 +82,7 @@ module _ (t : Track) (p : Pair) (w threshold : ℕ) (list : List ℤ) (table : L
   sums : (answer .dropped ≡ overGrid p (λ y x. howMany (isDropped p w y x)))
       × (getD (answer .counts) lastCount 0 ≡ overGrid p (λ y x. howMany (isMeasured p w y x)))
       × (answer .dropped + getD (answer .counts) lastCount 0 ≡ overGrid p (λ y x. howMany (candidate (p .sizes) w y x)))
-  unfolding fieldAnswer
+  unfolding fieldAnswer listTo
   sums = rw answered (sum-dropped p w fine threshold, sum-measured p w fine threshold, sum-both p w fine threshold)
 
 -- ---- the whole list
