@@ -52,7 +52,8 @@ module _ (list : List ℤ) where
 
 -- a log put from the start of a buffer that it fits
 pub log-put : {log before after : List ℕ} {next size : ℕ} → Put before 0 log after next → size ≡ length log → size ≤ length before
-    → writeResult (record { refusal = 0; place = 0; length = next }) after ≡ writeResult (record { refusal = 0; place = 0; length = size }) (log ++ drop size before)
+    → writeResult (record { refusal = 0; place = 0; length = next }) after
+    ≡ writeResult (record { refusal = 0; place = 0; length = size }) (log ++ drop size before)
 log-put {log} {before} p e fits =
     let o = put-over p in
     rw (o .0, o .1, e, over-fits log before (omega arith))

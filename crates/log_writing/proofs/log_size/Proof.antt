@@ -24,7 +24,9 @@ loop-holds : tie.Need-loop-holds Inv-loop μ-loop
 loop-holds c = (omega arith, omega arith, sized-first _)
 
 block-size-requires : tie.Need-block-size-requires Inv-loop μ-loop
-block-size-requires c κs = let s = c .before .before .before in (omega (arith, s .pre .room, c .before .before .head-blocks .ensures), omega (arith, c .before .before .head-blocks .ensures))
+block-size-requires c κs =
+    let b = c .before .before in
+    (omega (arith, b .before .pre .room, b .head-blocks .ensures), omega (arith, b .head-blocks .ensures))
 
 add-size : tie.Need-add-size Inv-loop μ-loop
 add-size c = search needs

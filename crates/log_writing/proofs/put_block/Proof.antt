@@ -36,10 +36,20 @@ value-requires-2 c κs = search needs
 value-requires-3 : tie.Need-value-requires-3
 value-requires-3 c κs = search needs
 
+-- the points of the function's code, where the block is not still
+abbrev start : tie.Else1 → tie.Start
+start c = c .before .before .before
+
+abbrev moved : tie.After-value3 → tie.Else1
+moved c = c .before .before .before .before
+
 -- the three numbers, as they are passed on
-values : (c : tie.After-value3) → let a = c .before .before .before .before .before .before .before .args in
+values : (c : tie.After-value3) →
+    let a = start (moved c) .args in
     let v = valueOf (now (a .list)) (a .k) in
-    (toZ w32 (ofZ w32 (c .before .before .value .result)) ≡ v 0) × (toZ w32 (ofZ w32 (c .before .value2 .result)) ≡ v 1) × (toZ w32 (ofZ w32 (c .value3 .result)) ≡ v 2)
+    (toZ w32 (ofZ w32 (c .before .before .value .result)) ≡ v 0)
+    × (toZ w32 (ofZ w32 (c .before .value2 .result)) ≡ v 1)
+    × (toZ w32 (ofZ w32 (c .value3 .result)) ≡ v 2)
 values c =
     let v = c .before .before .value in
     let v2 = c .before .value2 in
@@ -48,7 +58,7 @@ values c =
 put-numbers-requires : tie.Need-put-numbers-requires
 put-numbers-requires c κs =
     let v = values c in
-    let s = c .before .before .before .before .before .before .before in
+    let s = start (moved c) in
     (s .pre .0 .0, rw (v .0, v .1, v .2) (s .pre .1))
 
 same-length-2 : tie.Need-same-length-2
@@ -59,8 +69,10 @@ unfolding numbersBytes
 returns-2 c =
     let p = c .before .before in
     let v = values (p .before) in
-    let t = p .before .before .before .before .before in
-    (rw (block-moved _ _ (sym (t .before .still-at .ensures) ∙ t .if1 .left)) (rw (v .0, v .1, v .2) at (p .put-numbers .ensures)), omega (arith, p .put-numbers .ensures .place))
+    let t = moved (p .before) in (
+      rw (block-moved _ _ (sym (t .before .still-at .ensures) ∙ t .if1 .left)) (rw (v .0, v .1, v .2) at (p .put-numbers .ensures)),
+      omega (arith, p .put-numbers .ensures .place),
+    )
 
 pub put-block-spec : {M : Type 1} → statement M
 put-block-spec =

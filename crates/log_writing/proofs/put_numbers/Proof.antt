@@ -14,13 +14,20 @@ put-byte-requires : tie.Need-put-byte-requires
 put-byte-requires c κs = search needs
 
 to-byte-requires : tie.Need-to-byte-requires
-to-byte-requires c κs = let s = c .before .before .before .before .before .before in rw (toZ-ofZ (s .fits .dy)) (omega (arith, s .pre .1 .down))
+to-byte-requires c κs =
+    let a = c .before .before .before in
+    let s = a .before .before .before in
+    rw (toZ-ofZ (s .fits .dy)) (omega (arith, s .pre .1 .down))
 
 put-byte-requires-2 : tie.Need-put-byte-requires-2
 put-byte-requires-2 c κs = search needs
 
 to-byte-requires-2 : tie.Need-to-byte-requires-2
-to-byte-requires-2 c κs = let s = c .before .before .before .before .before .before .before .before .before .before .before in rw (toZ-ofZ (s .fits .dx)) (omega (arith, s .pre .1 .across))
+to-byte-requires-2 c κs =
+    let b = c .before .before .before in
+    let a = b .before .before .before .before .before in
+    let s = a .before .before .before in
+    rw (toZ-ofZ (s .fits .dx)) (omega (arith, s .pre .1 .across))
 
 put-byte-requires-3 : tie.Need-put-byte-requires-3
 put-byte-requires-3 c κs = search needs
@@ -33,7 +40,10 @@ cast-put-two c = search needs
 
 put-two-requires : tie.Need-put-two-requires
 put-two-requires c κs =
-    let s = c .before .before .before .before .before .before .before .before .before .before .before .before .before .before .before .before .before in
+    let e = c .before .before .before .before in
+    let b = e .before .before .before .before .before in
+    let a = b .before .before .before .before .before in
+    let s = a .before .before .before in
     let m : c .magnitude .result ≡ natAbs (s .args .distortion) = simp (toZ-ofZ (s .fits .distortion)) at (c .magnitude .ensures) in
     (omega arith, omega (arith, s .pre .1, parts (s .args .distortion)))
 

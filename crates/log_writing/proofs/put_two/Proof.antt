@@ -20,7 +20,7 @@ same-length : tie.Need-same-length
 same-length c = search needs
 
 returns : tie.Need-returns
-returns c = put-then (c .before .before .before .before .before .before .put-byte .ensures) (c .before .before .put-byte2 .ensures)
+returns c = let b = c .before .before in put-then (b .before .before .before .before .put-byte .ensures) (b .put-byte2 .ensures)
 
 pub put-two-spec : {M : Type 1} → statement M
 put-two-spec =

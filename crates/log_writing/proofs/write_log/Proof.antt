@@ -36,7 +36,13 @@ unfolding writeLog
 returns-2 c =
     let t = c .before in
     let e = t .before .before in
-    rw (← e .before .before .list-verdict .ensures, eq-eqb _ 0 (e .if1 .left), ← t .before .log-size .ensures, lt-ltb _ _ (t .if2 .taken), c .refused-write2 .ensures) refl
+    rw (
+      ← e .before .before .list-verdict .ensures,
+      eq-eqb _ 0 (e .if1 .left),
+      ← t .before .log-size .ensures,
+      lt-ltb _ _ (t .if2 .taken),
+      c .refused-write2 .ensures,
+    ) refl
 
 put-log-requires : tie.Need-put-log-requires
 put-log-requires c κs = past (c .before .before .before)
