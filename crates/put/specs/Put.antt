@@ -52,7 +52,8 @@ module _ {A : Type 0} where
   pub rest-last : {out before whole : List A} {at from : ℕ} → StillToPut out at [] before from whole → Put before from whole out at
   rest-last r = record { holds = r .holds; place = omega (arith, r .place) }
 
-  pub rest-more : {out m text tail before whole : List A} {at k from : ℕ} → StillToPut out at (text ++ tail) before from whole → Put out at text m k → StillToPut m k tail before from whole
+  pub rest-more : {out m text tail before whole : List A} {at k from : ℕ} → StillToPut out at (text ++ tail) before from whole
+      → Put out at text m k → StillToPut m k tail before from whole
   rest-more {out} {m} {text} {tail} {before} {whole} {at} {k} {from} r w = record {
     holds = rw (w .holds, w .place) (sets-append out at text tail ∙ r .holds);
     place = omega (arith, w .place, r .place, length-append text tail);

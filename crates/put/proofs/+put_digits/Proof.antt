@@ -45,9 +45,10 @@ put-digits-same-length t c = c .before .before .put-byte .kept .0
 
 put-digits-returns-2 : (t : ℕ) → put-digits-lts.Need-returns-2 (claims t) (put-digits-at t) put-digits.Post
 put-digits-returns-2 t c =
-    let s = c .before .before .before .before .before .before .before .before in
-    let d = c .before .before .before in
-    rw (digits-one (s .args .most) (s .args .n) (omega arith) (omega arith), sym (d .digit .ensures)) (c .before .before .put-byte .ensures)
+    let p = c .before .before in
+    let d = p .before in
+    let s = d .before .before .before .before .before in
+    rw (digits-one (s .args .most) (s .args .n) (omega arith) (omega arith), sym (d .digit .ensures)) (p .put-byte .ensures)
 
 put-digits-sub-put-digits : (t : ℕ) → put-digits-lts.Need-sub-put-digits (claims t) (put-digits-at t) put-digits.Post
 put-digits-sub-put-digits t c = omega arith
@@ -60,17 +61,23 @@ put-digits-digit-requires-2 t c κs = omega arith
 
 put-digits-put-byte-requires-2 : (t : ℕ) → put-digits-lts.Need-put-byte-requires-2 (claims t) (put-digits-at t) put-digits.Post
 put-digits-put-byte-requires-2 t c κs =
-    let s = c .before .before .before .before .before .before .before .before .before in
-    omega (arith, c .before .before .before .before .put-digits .ensures .place, digits-length (s .args .most - 1) (s .args .n / 10), s .pre)
+    let k = c .before .before .before .before in
+    let s = k .before .before .before .before .before in
+    omega (arith, k .put-digits .ensures .place, digits-length (s .args .most - 1) (s .args .n / 10), s .pre)
 
 put-digits-same-length-2 : (t : ℕ) → put-digits-lts.Need-same-length-2 (claims t) (put-digits-at t) put-digits.Post
-put-digits-same-length-2 t c = c .before .before .put-byte2 .kept .0 ∙ c .before .before .before .before .before .before .before .put-digits .kept .0
+put-digits-same-length-2 t c =
+    let p = c .before .before in
+    p .put-byte2 .kept .0 ∙ p .before .before .before .before .before .put-digits .kept .0
 
 put-digits-returns-3 : (t : ℕ) → put-digits-lts.Need-returns-3 (claims t) (put-digits-at t) put-digits.Post
 put-digits-returns-3 t c =
-    let s = c .before .before .before .before .before .before .before .before .before .before .before .before in
-    let d = c .before .before .before in
-    rw (digits-more (s .args .most) (s .args .n) (omega arith) (omega arith), sym (d .digit2 .ensures)) (put-then (c .before .before .before .before .before .before .before .put-digits .ensures) (c .before .before .put-byte2 .ensures))
+    let p = c .before .before in
+    let d = p .before in
+    let k = p .before .before .before .before .before in
+    let s = k .before .before .before .before .before in
+    rw (digits-more (s .args .most) (s .args .n) (omega arith) (omega arith), sym (d .digit2 .ensures))
+    (put-then (k .put-digits .ensures) (p .put-byte2 .ensures))
 
 pub +put-digits-spec : {M : Type 1} → statement M
 +put-digits-spec = close μ-put-digits λ t. put-digits-lts.spec (claims t) (put-digits-at t) put-digits.Post

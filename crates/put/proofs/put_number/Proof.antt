@@ -16,7 +16,11 @@ same-length : tie.Need-same-length
 same-length c = search needs
 
 returns : tie.Need-returns
-returns c = rw (digits-one 20 (c .before .before .before .before .before .before .before .args .n) (omega arith) (omega arith), sym (c .before .before .before .digit .ensures)) (c .before .before .put-byte .ensures)
+returns c =
+    let p = c .before .before in
+    let d = p .before in
+    let s = d .before .before .before .before in
+    rw (digits-one 20 (s .args .n) (omega arith) (omega arith), sym (d .digit .ensures)) (p .put-byte .ensures)
 
 put-digits-requires : tie.Need-put-digits-requires
 put-digits-requires c κs = search needs
