@@ -9,7 +9,9 @@ use Rattle.log_head.proofs.entry_ok.Statement.{statement}
 use Rattle.log_head.proofs.entry_ok.Tie as tie
 
 -- what `candidate_ok` answers
-answered : (c : tie.After-candidate-ok) → let a = c .before .before .args in c .candidate-ok .result ≡ candidateOk (sizesIn (a .h)) (a .h .w) (a .k) (a .dy) (a .dx)
+answered : (c : tie.After-candidate-ok) →
+    let a = c .before .before .args in
+    c .candidate-ok .result ≡ candidateOk (sizesIn (a .h)) (a .h .w) (a .k) (a .dy) (a .dx)
 answered c =
     let z = c .before in
     let s = z .before in

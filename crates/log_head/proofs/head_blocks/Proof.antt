@@ -13,7 +13,10 @@ block-count-requires : tie.Need-block-count-requires
 block-count-requires c κs = rw (c .sizes-in .ensures) (headed _ (c .before .pre) .fitting)
 
 returns : tie.Need-returns
-returns c = let h = c .before .before .args .h in let e = c .before .before .pre in rw (c .block-count .ensures, c .before .sizes-in .ensures) (refl, blocks-few (sizesIn h) (headed h e .fitting))
+returns c =
+    let s = c .before .before in
+    let h = s .args .h in
+    rw (c .block-count .ensures, c .before .sizes-in .ensures) (refl, blocks-few (sizesIn h) (headed h (s .pre) .fitting))
 
 pub head-blocks-spec : {M : Type 1} → statement M
 head-blocks-spec = tie.close (tie.spec sizes-in-requires block-count-requires returns)

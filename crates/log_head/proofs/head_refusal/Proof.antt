@@ -8,14 +8,27 @@ use Rattle.refusals.specs.Refusals.{sideOk, blockOk, searchOk}
 use Rattle.log_head.proofs.head_refusal.Statement.{statement}
 use Rattle.log_head.proofs.head_refusal.Tie as tie
 
+-- where a test was passed, from where the next one was
+abbrev start : tie.Else1 → tie.Start
+start c = c .before .before
+
+abbrev at-width : tie.Else2 → tie.Else1
+at-width c = c .before .before
+
+abbrev at-height : tie.Else3 → tie.Else2
+at-height c = c .before .before .before
+
+abbrev at-block : tie.Else4 → tie.Else3
+at-block c = c .before .before .before
+
 -- what was passed on the way, in the chain's words
-wide : (d : tie.Else1) → sideOk (d .before .before .args .h .width) ≡ true
+wide : (d : tie.Else1) → sideOk (start d .args .h .width) ≡ true
 wide d = passed (d .before .side-ok .ensures) (d .if1 .left)
 
-high : (d : tie.Else2) → sideOk (d .before .before .before .before .args .h .height) ≡ true
+high : (d : tie.Else2) → sideOk (start (at-width d) .args .h .height) ≡ true
 high d = passed (d .before .side-ok2 .ensures) (d .if2 .left)
 
-fits : (d : tie.Else3) → blockOk (sizesIn (d .before .before .before .before .before .before .before .args .h)) ≡ true
+fits : (d : tie.Else3) → blockOk (sizesIn (start (at-width (at-height d)) .args .h)) ≡ true
 fits d = passed (d .before .block-ok .ensures ∙ ap blockOk (d .before .before .sizes-in .ensures)) (d .if3 .left)
 
 side-ok-requires : tie.Need-side-ok-requires
@@ -40,7 +53,10 @@ block-ok-requires c κs = search needs
 
 returns-3 : tie.Need-returns-3
 unfolding headRefusal
-returns-3 c = let d = c .before .before .before in rw (wide (d .before .before), high d, failed (c .before .block-ok .ensures ∙ ap blockOk (c .before .before .sizes-in .ensures)) (c .if3 .taken))
+returns-3 c =
+    let b = c .before in
+    let d = b .before .before in
+    rw (wide (at-width d), high d, failed (b .block-ok .ensures ∙ ap blockOk (b .before .sizes-in .ensures)) (c .if3 .taken))
 
 search-ok-requires : tie.Need-search-ok-requires
 search-ok-requires c κs = search needs
@@ -50,18 +66,30 @@ window-ok-requires c κs = search needs
 
 returns-4 : tie.Need-returns-4
 unfolding headRefusal
-returns-4 c = let s = c .before .before in let f = s .before in let d = f .before .before .before in rw (wide (d .before .before), high d, fits f, failed (s .search-ok .ensures) (c .if4 .taken))
+returns-4 c =
+    let s = c .before .before in
+    let f = s .before in
+    let d = at-height f in
+    rw (wide (at-width d), high d, fits f, failed (s .search-ok .ensures) (c .if4 .taken))
 
-known : (d : tie.Else4) → searchOk (d .before .before .before .before .before .before .before .before .before .before .args .h .search) ≡ true
+known : (d : tie.Else4) → searchOk (start (at-width (at-height (at-block d))) .args .h .search) ≡ true
 known d = passed (d .before .before .search-ok .ensures) (d .if4 .left)
 
 returns-5 : tie.Need-returns-5
 unfolding headRefusal
-returns-5 c = let g = c .before in let w = g .before in let f = w .before .before in let d = f .before .before .before in rw (wide (d .before .before), high d, fits f, known g, failed (w .window-ok .ensures) (c .if5 .taken))
+returns-5 c =
+    let g = c .before in
+    let f = at-block g in
+    let d = at-height f in
+    rw (wide (at-width d), high d, fits f, known g, failed (g .before .window-ok .ensures) (c .if5 .taken))
 
 returns-6 : tie.Need-returns-6
 unfolding headRefusal
-returns-6 c = let g = c .before in let w = g .before in let f = w .before .before in let d = f .before .before .before in rw (wide (d .before .before), high d, fits f, known g, passed (w .window-ok .ensures) (c .if5 .left))
+returns-6 c =
+    let g = c .before in
+    let f = at-block g in
+    let d = at-height f in
+    rw (wide (at-width d), high d, fits f, known g, passed (g .before .window-ok .ensures) (c .if5 .left))
 
 pub head-refusal-spec : {M : Type 1} → statement M
 head-refusal-spec =

@@ -29,16 +29,32 @@ magnitude-requires-2 c κs = search needs
 
 returns-2 : tie.Need-returns-2
 unfolding isStill
-returns-2 c = let d = c .before .before in let a = d .before .before in
-    rw (nought (a .fits .dy) (d .before .magnitude .ensures), eq-eqb _ 0 (d .if1 .left), nought (a .fits .dx) (c .before .magnitude2 .ensures), ne-eqb _ 0 (c .if2 .taken))
+returns-2 c =
+    let d = c .before .before in
+    let a = d .before .before in
+    rw (
+      nought (a .fits .dy) (d .before .magnitude .ensures),
+      eq-eqb _ 0 (d .if1 .left),
+      nought (a .fits .dx) (c .before .magnitude2 .ensures),
+      ne-eqb _ 0 (c .if2 .taken),
+    )
 
 magnitude-requires-3 : tie.Need-magnitude-requires-3
 magnitude-requires-3 c κs = search needs
 
 returns-3 : tie.Need-returns-3
 unfolding isStill
-returns-3 c = let e = c .before in let d = e .before .before in let a = d .before .before in
-    rw (nought (a .fits .dy) (d .before .magnitude .ensures), eq-eqb _ 0 (d .if1 .left), nought (a .fits .dx) (e .before .magnitude2 .ensures), eq-eqb _ 0 (e .if2 .left), nought (a .fits .distortion) (c .magnitude3 .ensures))
+returns-3 c =
+    let e = c .before in
+    let d = e .before .before in
+    let a = d .before .before in
+    rw (
+      nought (a .fits .dy) (d .before .magnitude .ensures),
+      eq-eqb _ 0 (d .if1 .left),
+      nought (a .fits .dx) (e .before .magnitude2 .ensures),
+      eq-eqb _ 0 (e .if2 .left),
+      nought (a .fits .distortion) (c .magnitude3 .ensures),
+    )
 
 pub is-still-spec : {M : Type 1} → statement M
 is-still-spec =
