@@ -50,7 +50,8 @@ module _ (h : Head) (list : List ℤ) where
   pub verdict-is : AllPass h list → listVerdict h list ≡ verdict 0 0
   unfolding listVerdict listRefusal
   verdict-is p =
-      let r : listRefusal h (length list) ≡ 0 = first-refusal-none (headRefusal h) _ (p .listed .fine) ∙ rw (le-leb (3 * headBlocks h) (length list) (p .listed .room)) in
+      let fine = first-refusal-none (headRefusal h) _ (p .listed .fine) in
+      let r : listRefusal h (length list) ≡ 0 = fine ∙ rw (le-leb (3 * headBlocks h) (length list) (p .listed .room)) in
       let w : wrong ≡ headBlocks h = all-right (listedOk h list) 0 (headBlocks h) (λ i a b. p .each i (omega arith)) ∙ omega arith in
       rw (eq-eqb (listRefusal h (length list)) 0 r, le-ltb wrong (headBlocks h) (omega arith))
 

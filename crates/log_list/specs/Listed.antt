@@ -1,4 +1,5 @@
--- 01: head numbers and a list of three numbers a block, tested as writing a log tests them: "1, 3, 4, 5, 10, then 16 with the block's number, from 0, as place".
+-- 01: head numbers and a list of three numbers a block, tested as writing a log tests them:
+-- "1, 3, 4, 5, 10, then 16 with the block's number, from 0, as place".
 --   valueOf       the number at place i of block k's three
 --   listRefusal   1 3 4 5 10
 --   listedOk      16 lets block k pass: its three numbers are a candidate and its distortion

@@ -19,9 +19,12 @@ value-requires-3 : tie.Need-value-requires-3
 value-requires-3 c κs = search needs
 
 -- the three numbers, as they are passed on
-values : (c : tie.After-value3) → let a = c .before .before .before .args in
+values : (c : tie.After-value3) →
+    let a = c .before .before .before .args in
     let v = valueOf (now (a .list)) (a .k) in
-    (toZ w32 (ofZ w32 (c .before .before .value .result)) ≡ v 0) × (toZ w32 (ofZ w32 (c .before .value2 .result)) ≡ v 1) × (toZ w32 (ofZ w32 (c .value3 .result)) ≡ v 2)
+    (toZ w32 (ofZ w32 (c .before .before .value .result)) ≡ v 0)
+    × (toZ w32 (ofZ w32 (c .before .value2 .result)) ≡ v 1)
+    × (toZ w32 (ofZ w32 (c .value3 .result)) ≡ v 2)
 values c =
     let v = c .before .before .value in
     let v2 = c .before .value2 in
