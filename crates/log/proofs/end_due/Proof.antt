@@ -41,7 +41,9 @@ returns-3 c =
     let d = f .before .before in
     let s = d .before .before in
     c .refused3 .ensures
-    ∙ sym (judged-whole _ _ _ _ _ (le-leb _ _ (rw (s .pre .1) at (d .if1 .left))) (omega arith) ∙ end-no _ _ _ (λ e. c .before .if3 .taken (f .four .ensures ∙ e ∙ sym (s .pre .1))))
+    ∙ sym
+    (judged-whole _ _ _ _ _ (le-leb _ _ (rw (s .pre .1) at (d .if1 .left))) (omega arith)
+    ∙ end-no _ _ _ (λ e. c .before .if3 .taken (f .four .ensures ∙ e ∙ sym (s .pre .1))))
 
 returns-4 : tie.Need-returns-4
 returns-4 c =
