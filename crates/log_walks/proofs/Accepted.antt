@@ -110,11 +110,9 @@ module _ (log : List ℕ) (h : Head) (ok : headRefusal h ≡ 0) where
         → (k < headBlocks h) × AcceptedFrom log h to (k + 1) (commandsFrom calls log (record { at = to; phase = Body h′ (k′ + 1) }))
     unfolding Walked
     after-block x to h′ k′ eh ek g on inside walked e =
-        let few : k < headBlocks h = rw (← eh, ← ek) g in (
-          few,
-          rw (eh, ek)
-              (walked to (k + 1) (omega arith) inside (omega arith) (sym (ap commandNumber (last-after x calls log (body to (k + 1)) (omega arith))) ∙ (rw (eh, ek) at e))),
-        )
+        let few : k < headBlocks h = rw (← eh, ← ek) g in
+        let later = sym (ap commandNumber (last-after x calls log (body to (k + 1)) (omega arith))) in
+        (few, rw (eh, ek) (walked to (k + 1) (omega arith) inside (omega arith) (later ∙ (rw (eh, ek) at e))))
 
     one-more : Walked calls → (s : WalkStep) → Kind log (body at k) s → commandNumber (lastOf (called s)) ≡ 34 → AcceptedFrom log h at k (called s)
     unfolding lastOf
@@ -133,7 +131,8 @@ module _ (log : List ℕ) (h : Head) (ok : headRefusal h ≡ 0) where
     one-more walked s (Cases.end h′ k′ q r g t n) e =
         let eh : h′ ≡ h = cc in
         let ek : k′ ≡ k = cc in
-        let x = after-end log (at + commandSize (Cmd.End (headBlocks h′))) (t .room) calls (omega arith) (sym (ap commandNumber (last-after _ calls log _ (omega arith))) ∙ e) in
+        let later = sym (ap commandNumber (last-after _ calls log _ (omega arith))) ∙ e in
+        let x = after-end log (at + commandSize (Cmd.End (headBlocks h′))) (t .room) calls (omega arith) later in
         rw (eh, x .0) (last (rw (eh, ek) at g) (rw eh at t) (omega (arith, x .1, t .room)) (rw eh at n))
 
   walked-all : (calls : ℕ) → Walked calls
@@ -145,7 +144,8 @@ module _ (log : List ℕ) (h : Head) (ok : headRefusal h ≡ 0) where
 
 -- the first call, and the rest
 pub walk-begins : (log : List ℕ)
-    → walk log ≡ stepAt log startCursor .command ∷ cond (isRefused (stepAt log startCursor .command)) [] (commandsFrom (length log) log (stepAt log startCursor .next))
+    → let s = stepAt log startCursor in
+    walk log ≡ s .command ∷ cond (isRefused (s .command)) [] (commandsFrom (length log) log (s .next))
 unfolding walk commandsFrom
 walk-begins log = rw add-one
 
@@ -166,7 +166,9 @@ begun log = go (stepAt log startCursor) (kinds log startCursor)
 
 pub acceptedLog : (log : List ℕ) → commandNumber (lastOf (walk log)) ≡ 34 → Accepted log
 unfolding Walked lastOf
-acceptedLog log e = go (stepAt log startCursor) (kinds log startCursor) refl (walk-begins log) (ap (λ (cs : List Command). commandNumber (lastOf cs)) (sym (walk-begins log)) ∙ e)
+acceptedLog log e =
+    go (stepAt log startCursor) (kinds log startCursor) refl (walk-begins log)
+    (ap (λ (cs : List Command). commandNumber (lastOf cs)) (sym (walk-begins log)) ∙ e)
   where
     not-over-yet : NoMore log startCursor → ⊥
     not-over-yet (past q) = omega arith

@@ -23,8 +23,8 @@ use Rattle.log_walks.proofs.Made.{Made, as-still, as-block, made}
 use Rattle.log_walks.proofs.Steps.{room, behind, block-step, still-step, end-step, ended-step, head-step}
 
 -- a call that hands out a command, and one that is refused
-call-on : (calls : ℕ) (log : List ℕ) (c : Cursor) (x : Command) (to : Cursor) → 0 < calls → stepAt log c ≡ record { command = x; next = to } → isRefused x ≡ false
-    → commandsFrom calls log c ≡ x ∷ commandsFrom (calls - 1) log to
+call-on : (calls : ℕ) (log : List ℕ) (c : Cursor) (x : Command) (to : Cursor) → 0 < calls → stepAt log c ≡ record { command = x; next = to }
+    → isRefused x ≡ false → commandsFrom calls log c ≡ x ∷ commandsFrom (calls - 1) log to
 unfolding commandsFrom
 call-on zero log c x to p e f = absurd (omega arith)
 call-on (suc calls) log c x to p e f =

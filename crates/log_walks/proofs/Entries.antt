@@ -48,7 +48,8 @@ rest-entries {h} {k} ok (block {cs = cs} g t o u rest) (suc i) l = passes-next h
 rest-entries {h} {k} ok (still g t rest) zero l = rw add-zero (still-ok h ok k g)
 rest-entries {h} {k} ok (still {cs = cs} g t rest) (suc i) l = passes-next h k i _ _ _ (flatMap blockValues cs) (rest-entries ok rest i (omega arith))
 
-pub entries : (log : List ℕ) → commandNumber (lastOf (walk log)) ≡ 34 → (k : ℕ) → k < headBlocks (logHead log) → Passes (logHead log) k (flatMap blockValues (walk log)) k
+pub entries : (log : List ℕ) → commandNumber (lastOf (walk log)) ≡ 34 → (k : ℕ) → k < headBlocks (logHead log)
+    → Passes (logHead log) k (flatMap blockValues (walk log)) k
 unfolding flatMap
 entries log e k l =
     let a = acceptedLog log e in

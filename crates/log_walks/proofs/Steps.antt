@@ -18,7 +18,8 @@ use Rattle.log_command.specs.declared.Command.the-variants as Cmd
 use Rattle.log_command.specs.Numbers.{be2, be4}
 use Rattle.log_command.specs.Commands.{commandBytes}
 use Rattle.log_head.specs.Heads.{headRefusal, headBlocks, entryOk, isStill, entry}
-use Rattle.log.specs.Step.{refusedStep, commandStep, judged, headTaken, blockTaken, endTaken, startCommand, bodyCommand, bodyStep, standingOk, stepAt, startCursor}
+use Rattle.log.specs.Step.{refusedStep, commandStep, judged, headTaken, blockTaken, endTaken}
+use Rattle.log.specs.Step.{startCommand, bodyCommand, bodyStep, standingOk, stepAt, startCursor}
 use Rattle.log_command.specs.Operands.{headIn}
 
 -- ---- a log that goes on with some bytes at an offset
@@ -84,14 +85,16 @@ module _ (log : List ℕ) (at : ℕ) (h : Head) (k : ℕ) (ok : headRefusal h �
         s,
       )
 
-  pub still-step : k < headBlocks h → (rest : List ℕ) → drop at log ≡ commandBytes Cmd.Still ++ rest → stepAt log here ≡ commandStep Cmd.Still at (Body h (k + 1))
+  pub still-step : k < headBlocks h → (rest : List ℕ) → drop at log ≡ commandBytes Cmd.Still ++ rest
+      → stepAt log here ≡ commandStep Cmd.Still at (Body h (k + 1))
   unfolding bodyCommand judged
   still-step l rest goes =
       let m : at + 1 ≤ length log = room log at (commandBytes Cmd.Still) rest goes (omega arith) in
       let command : getD log at 0 ≡ 3 = first-there log at (commandBytes Cmd.Still) rest goes in
       body-is (omega arith) (omega arith) ∙ rw (lt-leb (length log) at (omega arith), command, lt-ltb k (headBlocks h) l, le-leb (at + 1) (length log) m)
 
-  pub end-step : k ≡ headBlocks h → (rest : List ℕ) → drop at log ≡ commandBytes (Cmd.End (headBlocks h)) ++ rest → stepAt log here ≡ commandStep (Cmd.End (headBlocks h)) at Ended
+  pub end-step : k ≡ headBlocks h → (rest : List ℕ) → drop at log ≡ commandBytes (Cmd.End (headBlocks h)) ++ rest
+      → stepAt log here ≡ commandStep (Cmd.End (headBlocks h)) at Ended
   unfolding bodyCommand judged endTaken
   end-step l rest goes =
       let there = byte-there log at (commandBytes (Cmd.End (headBlocks h))) rest goes in
@@ -104,7 +107,13 @@ module _ (log : List ℕ) (at : ℕ) (h : Head) (k : ℕ) (ok : headRefusal h �
       let low : be2 log (at + 3) ≡ headBlocks h % 65536 = be2-there log (at + 3) (headBlocks h % 65536) (there 3) (rw c (there 4)) in
       let n : be4 log (at + 1) ≡ headBlocks h = be4-there log (at + 1) (headBlocks h) high (rw b low) in
       body-is (omega arith) (omega arith)
-      ∙ rw (lt-leb (length log) at (omega arith), command, le-leb (headBlocks h) k (omega arith), le-leb (at + 5) (length log) m, eq-eqb (be4 log (at + 1)) (headBlocks h) n)
+      ∙ rw (
+        lt-leb (length log) at (omega arith),
+        command,
+        le-leb (headBlocks h) k (omega arith),
+        le-leb (at + 5) (length log) m,
+        eq-eqb (be4 log (at + 1)) (headBlocks h) n,
+      )
 
 -- after the end, with no byte left
 pub ended-step : (log : List ℕ) (at : ℕ) → at ≡ length log → stepAt log (record { at = at; phase = Ended }) ≡ refusedStep at 34 0

@@ -58,7 +58,8 @@ pub whole : (log : List ℕ) → commandNumber (lastOf (walk log)) ≡ 34
 unfolding logCommands flatMap
 whole log e =
     let a = acceptedLog log e in
+    let n = headBlocks (logHead log) in
+    let blocks = listTo (blockCommand (flatMap blockValues (a .commands))) n in
     rw (a .whole)
     (ap (_∷_ (Cmd.Head (logHead log)))
-    (rest-commands (a .rest) (headBlocks (logHead log)) (omega arith)
-    ∙ sym (append-assoc (listTo (blockCommand (flatMap blockValues (a .commands))) (headBlocks (logHead log))) (Cmd.End (headBlocks (logHead log)) ∷ []) (Cmd.Refused 34 0 ∷ []))))
+    (rest-commands (a .rest) n (omega arith) ∙ sym (append-assoc blocks (Cmd.End n ∷ []) (Cmd.Refused 34 0 ∷ []))))

@@ -23,7 +23,8 @@ use Rattle.log.specs.declared.Phase.{Phase}
 use Rattle.log.specs.declared.Phase.the-variants.{Start, Body, Ended, Over}
 use Rattle.log.specs.declared.Cursor.{Cursor}
 use Rattle.log.specs.declared.WalkStep.{WalkStep}
-use Rattle.log.specs.Step.{judged, headTaken, headDue, blockTaken, blockDue, stillDue, endTaken, endDue, startCommand, bodyCommand, refusedStep, commandStep, stepOf, standingOk, bodyStep, byPhase, stepAt, standing-head, standing-blocks}
+use Rattle.log.specs.Step.{judged, headTaken, headDue, blockTaken, blockDue, stillDue, endTaken, endDue, startCommand, bodyCommand}
+use Rattle.log.specs.Step.{refusedStep, commandStep, stepOf, standingOk, bodyStep, byPhase, stepAt, standing-head, standing-blocks}
 
 -- "34 walker called after a refusal, or after its end with no byte left, or one built by hand"
 pub data NoMore (log : List ℕ) (c : Cursor) : Type 0 where
