@@ -21,10 +21,13 @@ answer-of-requires c κs = search needs
 
 returns : tie.Need-returns
 unfolding walkFrom
-returns c = let n = c .before .before in
+returns c =
+    let n = c .before .before in
     let t = n .before in
     let e : t .step-at .result ≡ stepAt _ _ = t .step-at .ensures ∙ ap (stepAt _) (t .before .cursor-of .ensures) in
-    c .answer-of .ensures ∙ ap (answerOf (t .step-at .result .command)) (c .before .plain-of .ensures) ∙ ap (λ (s : WalkStep). answerOf (s .command) (plainOf (s .next))) e
+    c .answer-of .ensures
+    ∙ ap (answerOf (t .step-at .result .command)) (c .before .plain-of .ensures)
+    ∙ ap (λ (s : WalkStep). answerOf (s .command) (plainOf (s .next))) e
 
 pub walk-from-spec : {M : Type 1} → statement M
 walk-from-spec =
