@@ -29,12 +29,14 @@ use Rattle.log_reading.specs.Storing.{storedDistortion}
 
 module _ (left : ℕ) (log : List ℕ) (c : Cursor) (s : WalkStep) (t : Bool) (some : 0 < left) (e : s ≡ stepAt log c) (f : t ≡ isRefused (s .command)) where
   -- how it ends
-  pub end-turn : (x whole : Command) → lastOf (x ∷ commandsFrom left log c) ≡ whole → lastOf (s .command ∷ cond t [] (commandsFrom (left - 1) log (s .next))) ≡ whole
+  pub end-turn : (x whole : Command) → lastOf (x ∷ commandsFrom left log c) ≡ whole
+      → lastOf (s .command ∷ cond t [] (commandsFrom (left - 1) log (s .next))) ≡ whole
   unfolding lastOf
   end-turn x whole h = rw (commands-next left log c s t some e f) at h
 
 -- all is stored
-pub stored : {list before whole : List ℤ} {at : ℕ} → StillToPut list at [] before 0 whole → length whole ≤ length before → list ≡ whole ++ drop (length whole) before
+pub stored : {list before whole : List ℤ} {at : ℕ} → StillToPut list at [] before 0 whole → length whole ≤ length before
+    → list ≡ whole ++ drop (length whole) before
 stored {before} {whole} r fits = put-over (rest-last r) .0 ∙ over-fits whole before fits
 
 -- the numbers of a call's command are among those of the rest
@@ -80,7 +82,8 @@ roomy log list e = go (isRefused begun) refl (ltb list (3 * headBlocks h)) refl 
     h = logHead log
 
     go : (a : Bool) → isRefused begun ≡ a → (b : Bool) → ltb list (3 * headBlocks h) ≡ b → (t : Bool) → eqb (commandNumber ended) 34 ≡ t
-        → cond a (refusedBy begun) (cond b (refusedRead 10 (stepAt log startCursor .next .at)) (cond t (acceptedRead h) (refusedBy ended))) .refusal ≡ 0 → length (flatMap blockValues (walk log)) ≤ list
+        → cond a (refusedBy begun) (cond b (refusedRead 10 (stepAt log startCursor .next .at)) (cond t (acceptedRead h) (refusedBy ended))) .refusal ≡ 0
+        → length (flatMap blockValues (walk log)) ≤ list
     go true ea b eb t et e = absurd (omega (arith, refused-number log startCursor ea))
     go false ea true eb t et e = absurd (omega arith)
     go false ea false eb true et e = omega (arith, field-length log (eqb-true (commandNumber ended) 34 et), ltb-false list (3 * headBlocks h) eb)

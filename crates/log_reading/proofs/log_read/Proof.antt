@@ -83,7 +83,15 @@ returns-3 c =
     let d = c .before in
     let g = d .before .before .before in
     let h = g .before .before in
-    rw (goes-on h, ← head-is (g .before), ← g .head-blocks .ensures .0, le-ltb _ _ (d .before .before .if2 .left), ← d .before .walk-end .ensures, ← d .command-number .ensures, eq-eqb _ 34 (c .if3 .taken)) refl
+    rw (
+      goes-on h,
+      ← head-is (g .before),
+      ← g .head-blocks .ensures .0,
+      le-ltb _ _ (d .before .before .if2 .left),
+      ← d .before .walk-end .ensures,
+      ← d .command-number .ensures,
+      eq-eqb _ 34 (c .if3 .taken),
+    ) refl
 
 refused-by-requires-2 : tie.Need-refused-by-requires-2
 refused-by-requires-2 c κs = search needs
@@ -95,7 +103,14 @@ returns-4 c =
     let g = d .before .before .before in
     let h = g .before .before in
     let other = ne-eqb (commandNumber (d .before .walk-end .result)) 34 (λ e. c .before .if3 .left (d .command-number .ensures ∙ e)) in
-    rw (goes-on h, ← head-is (g .before), ← g .head-blocks .ensures .0, le-ltb _ _ (d .before .before .if2 .left), ← d .before .walk-end .ensures, other) (c .refused-by2 .ensures)
+    rw (
+      goes-on h,
+      ← head-is (g .before),
+      ← g .head-blocks .ensures .0,
+      le-ltb _ _ (d .before .before .if2 .left),
+      ← d .before .walk-end .ensures,
+      other,
+    ) (c .refused-by2 .ensures)
 
 pub log-read-spec : {M : Type 1} → statement M
 log-read-spec =
