@@ -58,8 +58,9 @@ module _ (h : Head) (list : List ℤ) (ok : headRefusal h ≡ 0) (entries : (k :
   unfolding listTo flatMap
   blocks-values zero l m = refl
   blocks-values (suc n) l m =
-      flatMap-append blockValues (listTo (blockCommand list) n) (blockCommand list n ∷ [])
-      ∙ ap₂ _++_ (blocks-values n (omega arith) (omega arith)) (append-nil (blockValues (blockCommand list n)) ∙ block-values n (omega arith) (blockCommand list n) (made list n))
+      let b = blockCommand list n in
+      flatMap-append blockValues (listTo (blockCommand list) n) (b ∷ [])
+      ∙ ap₂ _++_ (blocks-values n (omega arith) (omega arith)) (append-nil (blockValues b) ∙ block-values n (omega arith) b (made list n))
       ∙ sym (take-three n m)
 
   pub field-is : 3 * headBlocks h ≤ length list → fieldOf (logCommands h list ++ (Cmd.Refused 34 0 ∷ [])) ≡ take (3 * headBlocks h) list

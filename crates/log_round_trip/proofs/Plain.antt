@@ -23,7 +23,9 @@ unfolding answersFrom commandsFrom walkFrom
 commands-from zero log p = none
 commands-from (suc calls) log p =
     more (stepAt log (cursorOf p) .command) (plainOf (stepAt log (cursorOf p) .next))
-    (go (λ c. subst (λ (d : Cursor). CommandsOf (answersFrom calls log (plainOf c)) (commandsFrom calls log d)) (cursor-plain c) (commands-from calls log (plainOf c)))
+    (go
+    (λ c. subst (λ (d : Cursor). CommandsOf (answersFrom calls log (plainOf c)) (commandsFrom calls log d)) (cursor-plain c)
+    (commands-from calls log (plainOf c)))
     (stepAt log (cursorOf p))
     (kinds log (cursorOf p)))
   where

@@ -27,7 +27,10 @@ module _ (log : List ℕ) (list : List ℤ) where
   pub accepted : readLog log list .answer .refusal ≡ 0 → Accepted log list
   unfolding readLog logRead
   accepted =
-      go (isRefused (stepAt log startCursor .command)) refl (ltb (length list) (3 * headBlocks (logHead log))) refl (eqb (commandNumber (lastOf (walk log))) 34) refl
+      go
+      (isRefused (stepAt log startCursor .command)) refl
+      (ltb (length list) (3 * headBlocks (logHead log))) refl
+      (eqb (commandNumber (lastOf (walk log))) 34) refl
     where
       go : (a : Bool) → isRefused (stepAt log startCursor .command) ≡ a → (b : Bool) → ltb (length list) (3 * headBlocks (logHead log)) ≡ b
           → (c : Bool) → eqb (commandNumber (lastOf (walk log))) 34 ≡ c

@@ -26,13 +26,15 @@ module _ (h : Head) (list : List ℤ) (buffer : List ℕ) where
       go : (a : Bool) → eqb (listVerdict h list .refusal) 0 ≡ a → (b : Bool) → ltb (length buffer) (length (logOf h list)) ≡ b
           → cond {A = WriteResult} (not a) (writeResult (refusedWrite (listVerdict h list .refusal) (listVerdict h list .place)) buffer)
           (cond b (writeResult (refusedWrite 19 0) buffer)
-          (writeResult (record { refusal = 0; place = 0; length = length (logOf h list) }) (logOf h list ++ drop (length (logOf h list)) buffer))) .answer .refusal ≡ 0
+          (writeResult (record { refusal = 0; place = 0; length = length (logOf h list) })
+          (logOf h list ++ drop (length (logOf h list)) buffer))) .answer .refusal ≡ 0
           → Accepted h list buffer
       go true e true f z = absurd (omega arith)
       go true e false f z = record { pass = verdict-yes h list (eqb-true _ _ e); fits = ltb-false _ _ f }
       go false e b f z = absurd (eqb-false _ _ e z)
 
   pub writes : Accepted h list buffer
-      → writeLog h list buffer ≡ writeResult (record { refusal = 0; place = 0; length = length (logOf h list) }) (logOf h list ++ drop (length (logOf h list)) buffer)
+      → writeLog h list buffer
+      ≡ writeResult (record { refusal = 0; place = 0; length = length (logOf h list) }) (logOf h list ++ drop (length (logOf h list)) buffer)
   unfolding writeLog
   writes p = rw (verdict-is h list (p .pass), le-ltb (length buffer) (length (logOf h list)) (p .fits))

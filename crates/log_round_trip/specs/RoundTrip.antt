@@ -1,9 +1,12 @@
 -- 01, "Log": writing, reading and walking a log agree with each other. proofs/RoundTrip.antt has the theorem, round-trip : RoundTrip.
 -- From below come, as the contracts of the code cite them:
---   writeLog      what writing answers, with the buffer afterwards (crates/log_writing); logOf, logCommands: the log of a head and a list, as bytes and as commands
---   readLog   what reading answers, with the list afterwards (crates/log_reading); fieldOf: the list that a walk's blocks make
---   stepAt     one call of the walker, from any cursor (crates/log); commandsFrom: the commands of so many calls; walk: of all, from the log's start; logHead: the head that the first hands out
---   answersFrom   the answers of the plain call, each from the place that the one before handed back, until a refusal (crates/log_plain); CommandsOf: they tell these commands
+--   writeLog      what writing answers, with the buffer afterwards (crates/log_writing)
+--                 logOf, logCommands: the log of a head and a list, as bytes and as commands
+--   readLog       what reading answers, with the list afterwards (crates/log_reading); fieldOf: the list that a walk's blocks make
+--   stepAt        one call of the walker, from any cursor (crates/log)
+--                 commandsFrom: the commands of so many calls; walk: of all, from the log's start; logHead: the head that the first hands out
+--   answersFrom   the answers of the plain call, each from the place that the one before handed back, until a refusal (crates/log_plain)
+--                 CommandsOf: they tell these commands
 use Prim.Native.Nat.{ℕ, _+_, _*_, _≤_, _<_}
 use mathlib.Core.Path.{_≡_}
 use mathlib.Core.Logic.{_↔_}
