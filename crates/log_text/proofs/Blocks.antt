@@ -97,8 +97,9 @@ module _ {log : List ℕ} {h : Head} {before : List ℕ} {from first : ℕ} {out
     pub printing-last : isRefused command ≡ true → Put before from (flatMap lineOf (commandsFrom (length log) log (bodyCursor h first 0))) m to
     unfolding flatMap
     printing-last e =
-        rest-last
-        (turn lineOf (length log - k) log here (bodyStep log next h k) true (omega (arith, p .on, p .inside)) (sym called) (sym (ap isRefused handed ∙ e)) (p .rest) (rw handed w))
+        let refused = sym (ap isRefused handed ∙ e) in
+        let some : 0 < length log - k = omega (arith, p .on, p .inside) in
+        rest-last (turn lineOf (length log - k) log here (bodyStep log next h k) true some (sym called) refused (p .rest) (rw handed w))
 
 -- ---- the first line, from what the first call answered
 
@@ -111,7 +112,8 @@ module _ (log : List ℕ) (s : WalkStep) (e : s ≡ stepAt log startCursor) wher
       ap (flatMap lineOf) (rw n at (commands-next (length log + 1) log startCursor s t (omega arith) e f))
 
   -- a refusal's line is all
-  pub walk-refused : {out m : List ℕ} {to : ℕ} → isRefused (s .command) ≡ true → Put out 0 (lineOf (s .command)) m to → Put out 0 (flatMap lineOf (walk log)) m to
+  pub walk-refused : {out m : List ℕ} {to : ℕ} → isRefused (s .command) ≡ true → Put out 0 (lineOf (s .command)) m to
+      → Put out 0 (flatMap lineOf (walk log)) m to
   unfolding flatMap
   walk-refused r p = rw (first-line true (sym r), append-nil _) p
 

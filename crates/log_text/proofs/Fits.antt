@@ -34,7 +34,8 @@ textFrom calls log c = flatMap lineOf (commandsFrom calls log c)
 abbrev Fitted : ℕ → List ℕ → Cursor → Type 0
 Fitted calls log c = length (textFrom calls log c) + 6 * c .at ≤ 6 * length log + 20
 
-one-more : (calls : ℕ) (log : List ℕ) (c : Cursor) → length log ≤ longestLog → ((next : Cursor) → next .at ≤ length log → Fitted calls log next) → c .at ≤ length log → Fitted (suc calls) log c
+one-more : (calls : ℕ) (log : List ℕ) (c : Cursor) → length log ≤ longestLog
+    → ((next : Cursor) → next .at ≤ length log → Fitted calls log next) → c .at ≤ length log → Fitted (suc calls) log c
 unfolding commandsFrom flatMap
 one-more calls log c small after h = go (stepAt log c) (kinds log c)
   where
@@ -73,7 +74,8 @@ fits log = go (decLt longestLog (length log))
     go (no h) = rw (printed-walk log (omega arith)) (omega (arith, from-here (length log + 1) log startCursor (omega arith) (omega arith)))
 
 -- the whole text put from the start on
-pub all-put : {before after text : List ℕ} {next : ℕ} (log : List ℕ) → printLog log ≡ text → Put before 0 text after next → (after ≡ overFront (printLog log) before) × (next ≡ length (printLog log)) × (next ≤ longestText)
+pub all-put : {before after text : List ℕ} {next : ℕ} (log : List ℕ) → printLog log ≡ text → Put before 0 text after next
+    → (after ≡ overFront (printLog log) before) × (next ≡ length (printLog log)) × (next ≤ longestText)
 all-put {next} log e p =
     let o = put-over p in
     let n : next ≡ length (printLog log) = rw e (o .1) in

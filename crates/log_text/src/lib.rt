@@ -44,7 +44,8 @@ fn put_from(log: &[u8], out: &mut [u8], from: usize, start: Cursor, most: usize)
 // The lines after the head's, from the command at `first` on: head and grid are judged once. What follows the last block comes by `put_from`.
 fn put_body(log: &[u8], out: &mut [u8], from: usize, first: usize, head: Head) -> usize
     requires { ⌜ (0 < first) × (first ≤ length (now log)) × (length (now log) ≤ longestLog) × (from ≤ 128) × (headRefusal head ≡ 0) ⌝ }
-    ensures { λ r. ⌜ Put (now (out .entry)) from (flatMap lineOf (commandsFrom (length (now (log .entry))) (now (log .entry)) (bodyCursor head first 0))) (now (out .exit)) r ⌝ }
+    ensures { λ r. ⌜ Put (now (out .entry)) from (flatMap lineOf (commandsFrom (length (now (log .entry))) (now (log .entry)) (bodyCursor head first 0)))
+        (now (out .exit)) r ⌝ }
 {
     let all = log_head::head_blocks(head);
     let mut next = first;
@@ -83,7 +84,8 @@ fn put_walk(log: &[u8], out: &mut [u8]) -> usize
 
 // All that the program prints for the bytes of a log, over the front of the buffer as far as it fits. Answers with the text's length.
 pub fn print_log(log: &[u8], out: &mut [u8]) -> usize
-    ensures { λ r. ⌜ (now (out .exit) ≡ overFront (printLog (now (log .entry))) (now (out .entry))) × (r ≡ length (printLog (now (log .entry)))) × (r ≤ longestText) ⌝ }
+    ensures { λ r. ⌜ (now (out .exit) ≡ overFront (printLog (now (log .entry))) (now (out .entry)))
+        × (r ≡ length (printLog (now (log .entry)))) × (r ≤ longestText) ⌝ }
 {
     if log.len() > LONGEST_LOG {
         return log_line::put_refused(out, 0, 20, LONGEST_LOG);
