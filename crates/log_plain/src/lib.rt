@@ -1,6 +1,8 @@
 // One call of the walker for callers that have no enums: cursor and command as plain numbers, by value.
 
 ghost use mathlib.Core.Path.{_≡_};
+ghost use lib.IntN.{pos};
+ghost use Rattle.log_head.specs.Heads.{noHead};
 ghost use Rattle.log_plain.specs.Plain.{cursorOf, plainOf, answer, answerOf, walkFrom};
 use log::Cursor;
 use log::Phase;
@@ -96,9 +98,8 @@ fn plain_of(c: Cursor) -> Place
     }
 }
 
+// A command with its values.
 fn answer(
-    refusal: u32,
-    place: usize,
     command: u32,
     head: Head,
     dy: i32,
@@ -107,11 +108,11 @@ fn answer(
     blocks: usize,
     next: Place,
 ) -> Walked
-    ensures { λ r. ⌜ r ≡ answer refusal place command head dy dx distortion blocks next ⌝ }
+    ensures { λ r. ⌜ r ≡ answer 0 0 command head dy dx distortion blocks next ⌝ }
 {
     Walked {
-        refusal,
-        place,
+        refusal: 0,
+        place: 0,
         command,
         head,
         dy,
@@ -122,16 +123,31 @@ fn answer(
     }
 }
 
+// A refusal with its place.
+fn refused_answer(refusal: u32, place: usize, next: Place) -> Walked
+    ensures { λ r. ⌜ r ≡ answer refusal place 0 noHead (pos 0) (pos 0) 0 0 next ⌝ }
+{
+    Walked {
+        refusal,
+        place,
+        command: 0,
+        head: log_head::no_head(),
+        dy: 0,
+        dx: 0,
+        distortion: 0,
+        blocks: 0,
+        next,
+    }
+}
+
 // A command's number and values.
 fn answer_of(command: Command, next: Place) -> Walked
     ensures { λ r. ⌜ r ≡ answerOf command next ⌝ }
 {
     let said = log_command::command_number(command);
     match command {
-        Command::Head(head) => answer(0, 0, said, head, 0, 0, 0, 0, next),
+        Command::Head(head) => answer(said, head, 0, 0, 0, 0, next),
         Command::Block { dy, dx, distortion } => answer(
-            0,
-            0,
             said,
             log_head::no_head(),
             dy,
@@ -140,19 +156,9 @@ fn answer_of(command: Command, next: Place) -> Walked
             0,
             next,
         ),
-        Command::Still => answer(0, 0, said, log_head::no_head(), 0, 0, 0, 0, next),
-        Command::End(blocks) => answer(0, 0, said, log_head::no_head(), 0, 0, 0, blocks, next),
-        Command::Refused { number, place } => answer(
-            number,
-            place,
-            0,
-            log_head::no_head(),
-            0,
-            0,
-            0,
-            0,
-            next,
-        ),
+        Command::Still => answer(said, log_head::no_head(), 0, 0, 0, 0, next),
+        Command::End(blocks) => answer(said, log_head::no_head(), 0, 0, 0, blocks, next),
+        Command::Refused { number, place } => refused_answer(number, place, next),
     }
 }
 

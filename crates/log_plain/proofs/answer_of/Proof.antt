@@ -45,36 +45,37 @@ answer-requires-4 c κs = search needs
 enum-known-command-4 : tie.Need-enum-known-command-4
 enum-known-command-4 c = search needs
 
-no-head-requires-4 : tie.Need-no-head-requires-4
-no-head-requires-4 c κs = search needs
-
-answer-requires-5 : tie.Need-answer-requires-5
-answer-requires-5 c κs = search needs
+refused-answer-requires : tie.Need-refused-answer-requires
+refused-answer-requires c κs = search needs
 
 returns : tie.Need-returns
-returns c = let k = c .before .before in
+returns c =
+    let k = c .before .before in
     let g = k .command .given in
     rw (g .1) (rw (k .before .before .command-number .ensures, g .1) at (c .answer .ensures))
 
 returns-2 : tie.Need-returns-2
-returns-2 c = let k = c .before .before .before in
+returns-2 c =
+    let k = c .before .before .before in
     let g = k .command2 .given in
     let ey : toZ w32 (ofZ w32 (g .0 .0)) ≡ g .0 .0 = search needs in
     let ex : toZ w32 (ofZ w32 (g .0 .1 .0)) ≡ g .0 .1 .0 = search needs in
     rw (g .1) (rw (k .before .before .command-number .ensures, g .1, c .before .no-head .ensures, ey, ex) at (c .answer2 .ensures))
 
 returns-3 : tie.Need-returns-3
-returns-3 c = let k = c .before .before in
+returns-3 c =
+    let k = c .before .before in
     let g = k .enum-told .given in
     rw (g .1) (rw (k .before .before .command-number .ensures, g .1, c .before .no-head2 .ensures) at (c .answer3 .ensures))
 
 returns-4 : tie.Need-returns-4
-returns-4 c = let k = c .before .before .before in
+returns-4 c =
+    let k = c .before .before .before in
     let g = k .command3 .given in
     rw (g .1) (rw (k .before .before .command-number .ensures, g .1, c .before .no-head3 .ensures) at (c .answer4 .ensures))
 
 returns-5 : tie.Need-returns-5
-returns-5 c = rw (c .before .before .before .command4 .given .1) (rw (c .before .no-head4 .ensures) at (c .answer5 .ensures))
+returns-5 c = rw (c .before .before .command4 .given .1) (c .refused-answer .ensures)
 
 pub answer-of-spec : {M : Type 1} → statement M
 answer-of-spec =
@@ -93,8 +94,7 @@ answer-of-spec =
     no-head-requires-3
     answer-requires-4
     enum-known-command-4
-    no-head-requires-4
-    answer-requires-5
+    refused-answer-requires
     returns
     returns-2
     returns-3
