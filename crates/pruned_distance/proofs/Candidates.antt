@@ -38,7 +38,8 @@ pub record Reach (b : SearchBlock) (a w : Region) : Type 0 where
   pub down : (i : ℕ) → i < w .rows → w .top - a .top + i + b .sizes .n ≤ a .rows
   pub across : (j : ℕ) → j < w .columns → w .left - a .left + j + b .sizes .n ≤ a .columns
 
-module _ (older newer : List ℕ) (b : SearchBlock) (sums : List ℕ) (a : Region) (m : ℕ) (remaining : List ℕ) (count : ℕ) (t : Tested older newer b sums a m remaining count) where
+module _ (older newer : List ℕ) (b : SearchBlock) (sums : List ℕ) (a : Region) (m : ℕ) (remaining : List ℕ) (count : ℕ)
+    (t : Tested older newer b sums a m remaining count) where
   abbrev n : ℕ
   n = b .sizes .n
 
@@ -100,7 +101,8 @@ module _ (older newer : List ℕ) (b : SearchBlock) (sums : List ℕ) (a : Regio
   abbrev origin : Origin
   origin = record { y = b .y; x = b .x; top = a .top; left = a .left; stride = a .columns + 1 }
 
-  module _ (block steps : List ℕ) (k : ℕ) (whole : k * m ≡ n) (cut : Cut blocksums m k (a .columns + 1) block steps) (ob : (k : ℕ) → getD older k 0 ≤ 255) (nb : (k : ℕ) → getD newer k 0 ≤ 255) where
+  module _ (block steps : List ℕ) (k : ℕ) (whole : k * m ≡ n) (cut : Cut blocksums m k (a .columns + 1) block steps)
+      (ob : (k : ℕ) → getD older k 0 ≤ 255) (nb : (k : ℕ) → getD newer k 0 ≤ 255) where
     -- a step of a square's height in the table
     pub rowoffset-small : m * (a .columns + 1) ≤ largestN * 1025
     rowoffset-small = mul-le-mul {n₂ = largestN} {m₂ = 1025} (size-of k whole) narrow
@@ -118,12 +120,13 @@ module _ (older newer : List ℕ) (b : SearchBlock) (sums : List ℕ) (a : Regio
     module _ (r c : ℕ) (hr : r + n ≤ a .rows) (hc : c + n ≤ a .columns) where
       pub compared-at : Compared block steps sums (m * (a .columns + 1)) m (k * k) (r * (a .columns + 1) + c)
       compared-at =
-          compared blocksums (blockAt older width (a .top) (a .left)) (a .rows) (a .columns) m k block steps sums (t .lent .table) cut r c (rw (whole) hr) (rw (whole) hc)
-          (λ i j. nb _) (λ i j. ob _) (t .two) (rw (whole) size)
+          compared blocksums (blockAt older width (a .top) (a .left)) (a .rows) (a .columns) m k block steps sums (t .lent .table) cut r c
+          (rw (whole) hr) (rw (whole) hc) (λ i j. nb _) (λ i j. ob _) (t .two) (rw (whole) size)
 
       distance-at : number (r * (a .columns + 1) + c) ≡ distanceBy absolute n m blocksums (λ i j. blockAt older width (a .top) (a .left) (r + i) (c + j))
       distance-at =
-          distance-is blocksums (blockAt older width (a .top) (a .left)) (a .rows) (a .columns) m k block steps sums (t .lent .table) cut r c (rw (whole) hr) (rw (whole) hc) (omega (arith, t .two))
+          distance-is blocksums (blockAt older width (a .top) (a .left)) (a .rows) (a .columns) m k block steps sums (t .lent .table) cut r c
+          (rw (whole) hr) (rw (whole) hc) (omega (arith, t .two))
           ∙ ap (λ (s : ℕ). distanceBy absolute s m blocksums (λ i j. blockAt older width (a .top) (a .left) (r + i) (c + j))) (whole)
 
     module _ (i : ℕ) (h : i < count) where
@@ -198,7 +201,9 @@ module _ (older newer : List ℕ) (b : SearchBlock) (sums : List ℕ) (a : Regio
 
       pub compared-corner-region : (i j : ℕ) → i < w .rows → j < w .columns
           → Compared block steps sums (m * (a .columns + 1)) m (k * k) (corner + i * (a .columns + 1) + j)
-      compared-corner-region i j hi hj = rw (place-is i j) at (compared-at (w .top - a .top + i) (w .left - a .left + j) (corner-region-is .down i hi) (corner-region-is .across j hj))
+      compared-corner-region i j hi hj =
+          rw (place-is i j) at
+          (compared-at (w .top - a .top + i) (w .left - a .left + j) (corner-region-is .down i hi) (corner-region-is .across j hj))
 
       module _ (i : ℕ) (h : i < count) where
         within : (w .top ≤ R i h) × (w .left ≤ C i h) × (R i h - w .top < w .rows) × (C i h - w .left < w .columns)
@@ -208,7 +213,9 @@ module _ (older newer : List ℕ) (b : SearchBlock) (sums : List ℕ) (a : Regio
             rw e (omega (arith, p .above), omega (arith, p .before), omega (arith, p .above, p .below, p .down), omega (arith, p .before, p .behind, p .across))
 
         pub reached-corner-region : Reached cornerOrigin (vector i)
-        reached-corner-region = let p = within in reached i (w .top) (w .left) (w .columns) (at-candidate i h) (p .0) (p .1) (omega (arith, corner-region-is .few-columns))
+        reached-corner-region =
+            let p = within in
+            reached i (w .top) (w .left) (w .columns) (at-candidate i h) (p .0) (p .1) (omega (arith, corner-region-is .few-columns))
 
         pub place-corner-region : placeOf cornerOrigin (vector i) < vectorCount
         place-corner-region = let p = within in omega (arith, few, p .3, row-fits (R i h - w .top) (w .rows) (w .columns) (p .2))
@@ -225,4 +232,6 @@ module _ (older newer : List ℕ) (b : SearchBlock) (sums : List ℕ) (a : Regio
             → getD part (placeOf cornerOrigin (vector i)) 0 ≡ distanceOf older newer b m (getD remaining i 0)
         number-corner-region part d s =
             let p = within in
-            rw s (in-rows-at (λ r c. number (corner + r * (a .columns + 1) + c)) (w .columns) (w .rows) (R i h - w .top) (C i h - w .left) d (p .2) (p .3)) ∙ ap number same-place ∙ number-table i h
+            rw s (in-rows-at (λ r c. number (corner + r * (a .columns + 1) + c)) (w .columns) (w .rows) (R i h - w .top) (C i h - w .left) d (p .2) (p .3))
+            ∙ ap number same-place
+            ∙ number-table i h

@@ -12,6 +12,7 @@ ghost use Rattle.pruned_subblocks.specs.Squares.{BlockSums, Cut, differenceAt, 
 ghost use Rattle.pruned_distance.specs.Remaining.{Reached, placeOf, distanceOf, Tested};
 use frame::Region;
 use frame::SearchBlock;
+use pruned_spread::Corners;
 use pruned_subblocks::Subblocks;
 
 // Where the older blocks of a block's candidates stand: the block is at row y, column x, and places count from row `top` and column `left`
@@ -50,7 +51,9 @@ fn fill_few(
     requires { ⌜ (now order ≡ flat preference) × (length (now dist) ≡ vectorCount) × (length (now remaining) ≡ vectorCount) × (count ≤ vectorCount) ⌝ }
     requires { ⌜ ((i : ℕ) → i < count → (getD (now remaining) i 0 < vectorCount) × Reached o (preferred (getD (now remaining) i 0))
         × Compared (now block) (now steps) (now sums) rowoffset m squares (placeOf o (preferred (getD (now remaining) i 0)))) ⌝ }
-    ensures { λ _. ⌜ now (dist .exit) ≡ fillTo (now (dist .entry)) 0 (λ i. sumTo (differenceAt (now (block .entry)) (now (steps .entry)) (now (sums .entry)) rowoffset m (placeOf o (preferred (getD (now (remaining .entry)) i 0)))) squares) count ⌝ }
+    ensures { λ _. ⌜ now (dist .exit) ≡ fillTo (now (dist .entry)) 0
+        (λ i. sumTo (differenceAt (now (block .entry)) (now (steps .entry)) (now (sums .entry)) rowoffset m
+        (placeOf o (preferred (getD (now (remaining .entry)) i 0)))) squares) count ⌝ }
 {
     let mut i: usize = 0;
     while i < count {
@@ -69,10 +72,12 @@ fn pick(
     count: usize,
     dist: &mut [u32; order::VECTORS],
 )
-    requires { ⌜ (now order ≡ flat preference) × (length (now dist) ≡ vectorCount) × (length (now remaining) ≡ vectorCount) × (length (now part) ≡ vectorCount) × (count ≤ vectorCount) ⌝ }
+    requires { ⌜ (now order ≡ flat preference) × (length (now dist) ≡ vectorCount) × (length (now remaining) ≡ vectorCount)
+        × (length (now part) ≡ vectorCount) × (count ≤ vectorCount) ⌝ }
     requires { ⌜ ((i : ℕ) → i < count → (getD (now remaining) i 0 < vectorCount) × Reached o (preferred (getD (now remaining) i 0))
         × (placeOf o (preferred (getD (now remaining) i 0)) < vectorCount)) ⌝ }
-    ensures { λ _. ⌜ now (dist .exit) ≡ fillTo (now (dist .entry)) 0 (λ i. getD (now (part .entry)) (placeOf o (preferred (getD (now (remaining .entry)) i 0))) 0) count ⌝ }
+    ensures { λ _. ⌜ now (dist .exit) ≡ fillTo (now (dist .entry)) 0
+        (λ i. getD (now (part .entry)) (placeOf o (preferred (getD (now (remaining .entry)) i 0))) 0) count ⌝ }
 {
     let mut i: usize = 0;
     while i < count {
@@ -99,7 +104,8 @@ fn fill_many(
 )
     requires { ⌜ (now order ≡ flat preference) × (length (now dist) ≡ vectorCount) × Tested (now older) (now newer) b (now sums) a m (now remaining) count ⌝ }
     requires { ⌜ (k * m ≡ b .sizes .n) × Cut (blockAt (now newer) (b .sizes .width) (b .y) (b .x)) m k (a .columns + 1) (now block) (now steps) ⌝ }
-    ensures { λ _. ⌜ now (dist .exit) ≡ fillTo (now (dist .entry)) 0 (λ i. distanceOf (now (older .entry)) (now (newer .entry)) b m (getD (now (remaining .entry)) i 0)) count ⌝ }
+    ensures { λ _. ⌜ now (dist .exit) ≡ fillTo (now (dist .entry)) 0
+        (λ i. distanceOf (now (older .entry)) (now (newer .entry)) b m (getD (now (remaining .entry)) i 0)) count ⌝ }
 {
     let y = b.y;
     let x = b.x;
@@ -111,19 +117,13 @@ fn fill_many(
     let columns = r.columns;
     let at = (top - a.top) * stride + (left - a.left);
     let mut part = [0u32; order::VECTORS];
-    pruned_spread::spread(
-        block,
-        steps,
-        sums,
-        m * stride,
-        m,
-        k * k,
+    let corners = Corners {
         at,
         stride,
         rows,
         columns,
-        &mut part,
-    );
+    };
+    pruned_spread::spread(block, steps, sums, m * stride, m, k * k, corners, &mut part);
     let o = Origin {
         y,
         x,
@@ -150,7 +150,8 @@ pub fn fill_distances(
 )
     requires { ⌜ (now order ≡ flat preference) × (length (now dist) ≡ vectorCount) × Tested (now older) (now newer) b (now sums) a m (now remaining) count
         × BlockSums (now newer) b (now blocksums) ⌝ }
-    ensures { λ _. ⌜ now (dist .exit) ≡ fillTo (now (dist .entry)) 0 (λ i. distanceOf (now (older .entry)) (now (newer .entry)) b m (getD (now (remaining .entry)) i 0)) count ⌝ }
+    ensures { λ _. ⌜ now (dist .exit) ≡ fillTo (now (dist .entry)) 0
+        (λ i. distanceOf (now (older .entry)) (now (newer .entry)) b m (getD (now (remaining .entry)) i 0)) count ⌝ }
 {
     let s = b.sizes;
     let y = b.y;

@@ -77,7 +77,9 @@ module _ (f : ℕ → ℕ → ℕ → ℕ) (rows columns : ℕ) (before : List �
   pub summed-first : ((i j : ℕ) → i < rows → j < columns → getD before (i * columns + j) 0 ≡ 0) → Rowed (λ i j. sumTo (f i j) 0) columns before before rows
   summed-first z = record {
     long = refl;
-    filled = in-rows-self before rows columns room ∙ ap (λ (l : List ℕ). l ++ drop (rows * columns) before) (in-rows-ext _ _ rows columns (λ i j hi hj. z i j hi hj ∙ sym (sumTo-none _)));
+    filled =
+        in-rows-self before rows columns room
+        ∙ ap (λ (l : List ℕ). l ++ drop (rows * columns) before) (in-rows-ext _ _ rows columns (λ i j hi hj. z i j hi hj ∙ sym (sumTo-none _)));
   }
 
   abbrev sums : ℕ → ℕ → ℕ → ℕ
@@ -87,13 +89,18 @@ module _ (f : ℕ → ℕ → ℕ → ℕ) (rows columns : ℕ) (before : List �
       → after ≡ inRows (raised e columns mid) rows columns ++ drop (rows * columns) mid → ((i j : ℕ) → e i j ≡ f i j s)
       → Rowed (λ i j. sumTo (f i j) (s + 1)) columns before after rows
   summed-more mid after s e g a same =
-      record { long = rw now (length-over (inRows (sums (s + 1)) rows columns) before (rows * columns) (length-in-rows (sums (s + 1)) rows columns) room); filled = now }
+      record {
+        long = rw now (length-over (inRows (sums (s + 1)) rows columns) before (rows * columns) (length-in-rows (sums (s + 1)) rows columns) room);
+        filled = now;
+      }
     where
       held : (i j : ℕ) → i < rows → j < columns → getD mid (i * columns + j) 0 ≡ sumTo (f i j) s
       held i j hi hj = rw (g .filled) (in-rows-at (sums s) columns rows i j _ hi hj)
 
       behind : drop (rows * columns) mid ≡ drop (rows * columns) before
-      behind = rw (g .filled) (drop-over (inRows (sums s) rows columns) before (rows * columns) (rows * columns) (length-in-rows (sums s) rows columns) (le-refl _))
+      behind =
+          rw (g .filled)
+          (drop-over (inRows (sums s) rows columns) before (rows * columns) (rows * columns) (length-in-rows (sums s) rows columns) (le-refl _))
 
       now : after ≡ inRows (sums (s + 1)) rows columns ++ drop (rows * columns) before
       now = a ∙ ap₂ _++_ (in-rows-ext _ (sums (s + 1)) rows columns (λ i j hi hj. ap₂ _+_ (held i j hi hj) (same i j) ∙ sym (sumTo-more _ s))) behind

@@ -12,6 +12,14 @@ ghost use Rattle.pruned_sums.specs.Square.{largestSquareSum, squareSumAt, HasSq
 ghost use Rattle.pruned_subblocks.specs.Squares.{mostSquares, differenceAt, Compared, IsDistance};
 ghost use Rattle.pruned_spread.specs.Spread.{raised};
 
+// Corners of older blocks in the summed-area table: the first stands at place `at`, and a row of them `stride` places behind the row before.
+pub struct Corners {
+    pub at: usize,
+    pub stride: usize,
+    pub rows: usize,
+    pub columns: usize,
+}
+
 // Adds the differences at one square to `columns` places from `from` on.
 fn add_run(
     sums: &[u32],
@@ -24,8 +32,10 @@ fn add_run(
     from: usize,
 )
     requires { ⌜ (value ≤ largestSquareSum) × (from + columns ≤ length (now part)) ⌝ }
-    requires { ⌜ ((c : ℕ) → c < columns → HasSquare (now sums) rowoffset m (at + c) × (getD (now part) (from + c) 0 ≤ mostSquares * largestSquareSum)) ⌝ }
-    ensures { λ _. ⌜ now (part .exit) ≡ fillTo (now (part .entry)) from (λ c. getD (now (part .entry)) (from + c) 0 + absDiff value (squareSumAt (now (sums .entry)) rowoffset m (at + c))) columns ⌝ }
+    requires { ⌜ ((c : ℕ) → c < columns → HasSquare (now sums) rowoffset m (at + c)
+        × (getD (now part) (from + c) 0 ≤ mostSquares * largestSquareSum)) ⌝ }
+    ensures { λ _. ⌜ now (part .exit) ≡ fillTo (now (part .entry)) from
+        (λ c. getD (now (part .entry)) (from + c) 0 + absDiff value (squareSumAt (now (sums .entry)) rowoffset m (at + c))) columns ⌝ }
 {
     let mut c: usize = 0;
     while c < columns {
@@ -38,23 +48,19 @@ fn add_run(
     }
 }
 
-// Adds the differences at one square to all places.
-fn add_square(
-    sums: &[u32],
-    rowoffset: usize,
-    m: usize,
-    at: usize,
-    stride: usize,
-    value: u32,
-    rows: usize,
-    columns: usize,
-    part: &mut [u32],
-)
-    requires { ⌜ (value ≤ largestSquareSum) × (0 < columns) × (rows * columns ≤ length (now part)) × (stride ≤ 1025) ⌝ }
-    requires { ⌜ ((i j : ℕ) → i < rows → j < columns → HasSquare (now sums) rowoffset m (at + i * stride + j)
-        × (getD (now part) (i * columns + j) 0 ≤ mostSquares * largestSquareSum)) ⌝ }
-    ensures { λ _. ⌜ now (part .exit) ≡ inRows (raised (λ i j. absDiff value (squareSumAt (now (sums .entry)) rowoffset m (at + i * stride + j))) columns (now (part .entry))) rows columns ++ drop (rows * columns) (now (part .entry)) ⌝ }
+// Adds the differences at one square to all places; the square of the first older block stands at `c.at`.
+fn add_square(sums: &[u32], rowoffset: usize, m: usize, c: Corners, value: u32, part: &mut [u32])
+    requires { ⌜ (value ≤ largestSquareSum) × (0 < c .columns) × (c .rows * c .columns ≤ length (now part)) × (c .stride ≤ 1025) ⌝ }
+    requires { ⌜ ((i j : ℕ) → i < c .rows → j < c .columns → HasSquare (now sums) rowoffset m (c .at + i * c .stride + j)
+        × (getD (now part) (i * c .columns + j) 0 ≤ mostSquares * largestSquareSum)) ⌝ }
+    ensures { λ _. ⌜ now (part .exit) ≡
+        inRows (raised (λ i j. absDiff value (squareSumAt (now (sums .entry)) rowoffset m (c .at + i * c .stride + j))) (c .columns) (now (part .entry)))
+        (c .rows) (c .columns) ++ drop (c .rows * c .columns) (now (part .entry)) ⌝ }
 {
+    let at = c.at;
+    let stride = c.stride;
+    let rows = c.rows;
+    let columns = c.columns;
     let mut i: usize = 0;
     let mut here = at;
     let mut from: usize = 0;
@@ -66,7 +72,7 @@ fn add_square(
     }
 }
 
-// The distances of all older blocks whose corners stand in so many rows and columns from place `at` on.
+// The distances of all older blocks at the corners.
 pub fn spread(
     block: &[u32],
     steps: &[usize],
@@ -74,31 +80,33 @@ pub fn spread(
     rowoffset: usize,
     m: usize,
     count: usize,
-    at: usize,
-    stride: usize,
-    rows: usize,
-    columns: usize,
+    c: Corners,
     part: &mut [u32],
 )
-    requires { ⌜ (0 < rows) × (0 < columns) × (rows * columns ≤ length (now part)) × (stride ≤ 1025) ⌝ }
-    requires { ⌜ ((i j : ℕ) → i < rows → j < columns → Compared (now block) (now steps) (now sums) rowoffset m count (at + i * stride + j)
-        × (getD (now part) (i * columns + j) 0 ≡ 0)) ⌝ }
-    ensures { λ _. ⌜ (now (part .exit) ≡ inRows (λ i j. sumTo (differenceAt (now (block .entry)) (now (steps .entry)) (now (sums .entry)) rowoffset m (at + i * stride + j)) count) rows columns ++ drop (rows * columns) (now (part .entry)))
-        × ((i j : ℕ) → i < rows → j < columns → IsDistance (now (block .entry)) (now (steps .entry)) (now (sums .entry)) rowoffset m count (at + i * stride + j) (getD (now (part .exit)) (i * columns + j) 0)) ⌝ }
+    requires { ⌜ (0 < c .rows) × (0 < c .columns) × (c .rows * c .columns ≤ length (now part)) × (c .stride ≤ 1025) ⌝ }
+    requires { ⌜ ((i j : ℕ) → i < c .rows → j < c .columns
+        → Compared (now block) (now steps) (now sums) rowoffset m count (c .at + i * c .stride + j) × (getD (now part) (i * c .columns + j) 0 ≡ 0)) ⌝ }
+    ensures { λ _. ⌜ (now (part .exit) ≡
+        inRows (λ i j. sumTo (differenceAt (now (block .entry)) (now (steps .entry)) (now (sums .entry)) rowoffset m (c .at + i * c .stride + j)) count)
+        (c .rows) (c .columns) ++ drop (c .rows * c .columns) (now (part .entry)))
+        × ((i j : ℕ) → i < c .rows → j < c .columns
+        → IsDistance (now (block .entry)) (now (steps .entry)) (now (sums .entry)) rowoffset m count (c .at + i * c .stride + j)
+        (getD (now (part .exit)) (i * c .columns + j) 0)) ⌝ }
 {
+    let at = c.at;
+    let stride = c.stride;
+    let rows = c.rows;
+    let columns = c.columns;
     let mut s: usize = 0;
     while s < count {
-        add_square(
-            sums,
-            rowoffset,
-            m,
-            at + steps[s],
+        let here = at + steps[s];
+        let square = Corners {
+            at: here,
             stride,
-            block[s],
             rows,
             columns,
-            part,
-        );
+        };
+        add_square(sums, rowoffset, m, square, block[s], part);
         s += 1;
     }
 }

@@ -31,7 +31,9 @@ entry c = c .before .before .before .before
 abbrev start : tie.After-cut → tie.Start
 start c = entry (given (c .before))
 
-tested : (c : tie.After-cut) → let a = start c .args in Tested (now (a .older)) (now (a .newer)) (a .b) (now (a .sums)) (a .a) (a .m) (now (a .remaining)) (a .count)
+tested : (c : tie.After-cut) →
+    let a = start c .args in
+    Tested (now (a .older)) (now (a .newer)) (a .b) (now (a .sums)) (a .a) (a .m) (now (a .remaining)) (a .count)
 tested c = start c .pre .2
 
 -- a pel is a byte
@@ -47,7 +49,8 @@ news c k = newer-bytes (given (c .before)) k
 -- the newer block's squares
 squares : (c : tie.After-cut) →
     let a = start c .args in
-    Cut (blockAt (now (a .newer)) (a .b .sizes .width) (a .b .y) (a .b .x)) (a .m) (a .b .sizes .n / a .m) (a .a .columns + 1) (c .cut .last .1 .1 .0) (c .cut .last .1 .1 .1 .0)
+    Cut (blockAt (now (a .newer)) (a .b .sizes .width) (a .b .y) (a .b .x)) (a .m) (a .b .sizes .n / a .m) (a .a .columns + 1)
+    (c .cut .last .1 .1 .0) (c .cut .last .1 .1 .1 .0)
 squares c = cut-is _ _ _ _ (start c .pre .3) refl (tested c .whole) _ _ _ _ (c .cut .ensures .0) (c .cut .ensures .1)
 
 div-k : tie.Need-div-k
@@ -81,10 +84,14 @@ slice-aggregate-fill-few-2 : tie.Need-slice-aggregate-fill-few-2
 slice-aggregate-fill-few-2 c = search needs
 
 mul-fill-few : tie.Need-mul-fill-few
-mul-fill-few c = let k = c .before .before .before .before .before in omega (arith, rowoffset-small _ _ _ _ _ _ _ _ (tested k) _ _ _ (tested k .whole) (squares k) (olds k) (news k))
+mul-fill-few c =
+    let k = c .before .before .before .before .before in
+    omega (arith, rowoffset-small _ _ _ _ _ _ _ _ (tested k) _ _ _ (tested k .whole) (squares k) (olds k) (news k))
 
 mul-fill-few-2 : tie.Need-mul-fill-few-2
-mul-fill-few-2 c = let k = c .before .before .before .before .before in omega (arith, few-squares _ _ _ _ _ _ _ _ (tested k) _ _ _ (tested k .whole) (squares k) (olds k) (news k))
+mul-fill-few-2 c =
+    let k = c .before .before .before .before .before in
+    omega (arith, few-squares _ _ _ _ _ _ _ _ (tested k) _ _ _ (tested k .whole) (squares k) (olds k) (news k))
 
 fill-few-requires : tie.Need-fill-few-requires
 fill-few-requires c κs =

@@ -25,7 +25,8 @@ abbrev μ-loop : tie.MeasureT-loop
 candidate : (b : tie.In-loop Inv-loop μ-loop) →
     let a = b .before .before .before .before .before .args in
     let k = getD (now (a .remaining)) (b .before .loop .i) 0 in
-    (k < vectorCount) × Reached (a .o) (preferred k) × Compared (now (a .block)) (now (a .steps)) (now (a .sums)) (a .rowoffset) (a .m) (a .squares) (placeOf (a .o) (preferred k))
+    (k < vectorCount) × Reached (a .o) (preferred k)
+    × Compared (now (a .block)) (now (a .steps)) (now (a .sums)) (a .rowoffset) (a .m) (a .squares) (placeOf (a .o) (preferred k))
 candidate b = b .before .before .before .before .before .pre .1 (b .before .loop .i) (b .loop-test .taken)
 
 loop-holds : tie.Need-loop-holds Inv-loop μ-loop

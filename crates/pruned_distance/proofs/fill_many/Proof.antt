@@ -13,7 +13,8 @@ use Rattle.distortion.specs.Blocks.{blockAt}
 use Rattle.pruned_subblocks.specs.Squares.{Cut}
 use Rattle.pruned_distance.specs.Remaining.{Tested}
 use Rattle.pruned_distance.proofs.Turns.{over-long}
-use Rattle.pruned_distance.proofs.Candidates.{Reach, standing, narrow, rowoffset-small, few-squares, corner-region-is, few, compared-corner-region, reached-corner-region, place-corner-region, number-corner-region}
+use Rattle.pruned_distance.proofs.Candidates.{Reach, standing, narrow, rowoffset-small, few-squares, corner-region-is, few}
+use Rattle.pruned_distance.proofs.Candidates.{compared-corner-region, reached-corner-region, place-corner-region, number-corner-region}
 use Rattle.pruned_distance.proofs.fill_many.Statement.{statement}
 use Rattle.pruned_distance.proofs.fill_many.Tie as tie
 
@@ -29,9 +30,11 @@ cornered c = c .before .before .before .before .before
 -- ---- the facts of the start, where the reach is known
 
 abbrev start : tie.After-corner-region → tie.Start
-start c = c .before .before .before .before .before .before .before
+start c = entry (c .before .before)
 
-tested : (c : tie.After-corner-region) → let a = start c .args in Tested (now (a .older)) (now (a .newer)) (a .b) (now (a .sums)) (a .a) (a .m) (now (a .remaining)) (a .count)
+tested : (c : tie.After-corner-region) →
+    let a = start c .args in
+    Tested (now (a .older)) (now (a .newer)) (a .b) (now (a .sums)) (a .a) (a .m) (now (a .remaining)) (a .count)
 tested c = start c .pre .0 .2
 
 whole : (c : tie.After-corner-region) → start c .args .k * start c .args .m ≡ start c .args .b .sizes .n
@@ -126,7 +129,9 @@ returns c =
     let r = cornered (c .before .before .before) in
     c .pick .ensures
     ∙ fill-ext _ 0 _ _ _
-    (λ i h. number-corner-region _ _ _ _ _ _ _ _ (tested r) _ _ _ (whole r) (squares r) (olds r) (news r) (r .corner-region .result) (r .corner-region .ensures) i h _ _ (c .before .before .before .before .spread .ensures .0))
+    (λ i h.
+    number-corner-region _ _ _ _ _ _ _ _ (tested r) _ _ _ (whole r) (squares r) (olds r) (news r) _ (r .corner-region .ensures) i h _ _
+    (c .before .before .before .before .spread .ensures .0))
 
 pub fill-many-spec : {M : Type 1} → statement M
 fill-many-spec =

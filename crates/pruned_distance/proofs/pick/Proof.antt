@@ -31,7 +31,8 @@ candidate b = b .before .before .pre .1 (b .before .loop .i) (b .loop-test .take
 -- the place of a turn's candidate
 at-place : (c : tie.After-place-of Inv-loop μ-loop) →
     let a = c .before .before .before .before .before .args in
-    (c .place-of .result ≡ placeOf (a .o) (preferred (getD (now (a .remaining)) (c .before .before .before .before .loop .i) 0))) × (c .place-of .result < vectorCount)
+    (c .place-of .result ≡ placeOf (a .o) (preferred (getD (now (a .remaining)) (c .before .before .before .before .loop .i) 0)))
+    × (c .place-of .result < vectorCount)
 at-place c =
     let a = c .before .before .before .before .before .args in
     let e : c .place-of .result ≡ placeOf (a .o) (preferred (getD (now (a .remaining)) (c .before .before .before .before .loop .i) 0)) =
@@ -77,7 +78,8 @@ loop-less c = search needs
 loop-again : tie.Need-loop-again Inv-loop μ-loop
 loop-again c =
     let l = c .before .before .before .before .before .loop in
-    filling-more _ (l .inv) (c .before .before .before .before .loop-test .taken) (omega arith) (ap (λ (k : ℕ). getD (now (start (c .before) .args .part)) k 0) (at-place (c .before) .0))
+    filling-more _ (l .inv) (c .before .before .before .before .loop-test .taken) (omega arith)
+    (ap (λ (k : ℕ). getD (now (start (c .before) .args .part)) k 0) (at-place (c .before) .0))
 
 returns : tie.Need-returns Inv-loop μ-loop
 returns c =

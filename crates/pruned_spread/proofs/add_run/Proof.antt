@@ -1,4 +1,4 @@
--- `add_run`: after c turns the first c places have their difference added (`Raising`).
+-- `add_run`: after c turns the first c places have their difference added; the next still holds what it held (`Raising`).
 use Prim.Native.Nat.{_+_, _-_, _*_, _≤_}
 use mathlib.Core.Path.{_≡_}
 use native.Mathlib.Omega.{arith}
@@ -11,8 +11,6 @@ use Rattle.pruned_subblocks.specs.Squares.{mostSquares}
 use Rattle.pruned_spread.proofs.Adding.{Raising, raising-first, raising-read, raising-more}
 use Rattle.pruned_spread.proofs.add_run.Statement.{statement}
 use Rattle.pruned_spread.proofs.add_run.Tie as tie
-
--- `add_run`: after c turns the first c places have their difference added; the next still holds what it held.
 
 abbrev Inv-loop : tie.InvT-loop
 Inv-loop sums rowoffset m at value columns part₀ from c₀ part c =
@@ -27,7 +25,8 @@ start c = c .before .before .before .before .before
 -- the square of a turn, and the place that its difference is added to
 here : (b : tie.In-loop Inv-loop μ-loop) →
     let a = b .before .before .before .before .args in
-    HasSquare (now (a .sums)) (a .rowoffset) (a .m) (a .at + b .before .loop .c) × (getD (b .before .loop .part) (a .from + b .before .loop .c) 0 ≤ mostSquares * largestSquareSum)
+    HasSquare (now (a .sums)) (a .rowoffset) (a .m) (a .at + b .before .loop .c)
+    × (getD (b .before .loop .part) (a .from + b .before .loop .c) 0 ≤ mostSquares * largestSquareSum)
 here b =
     let l = b .before .loop in
     let s = b .before .before .before .before in
@@ -44,8 +43,9 @@ turn : (c : tie.After-abs-diff-u32 Inv-loop μ-loop) →
 turn c =
     let b = c .before .before .before in
     let s = b .before .before .before .before in
+    let a = s .args in
     let k = c .before .square-sum-at .ensures in
-    let e : c .abs-diff-u32 .result ≡ absDiff (s .args .value) (squareSumAt (now (s .args .sums)) (s .args .rowoffset) (s .args .m) (s .args .at + b .before .loop .c)) =
+    let e : c .abs-diff-u32 .result ≡ absDiff (a .value) (squareSumAt (now (a .sums)) (a .rowoffset) (a .m) (a .at + b .before .loop .c)) =
     rw (k .0) at (c .abs-diff-u32 .ensures) in
     (e, omega (arith, e, here b .0 .small, s .pre .0 .0), here b .1)
 

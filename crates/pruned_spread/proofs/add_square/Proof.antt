@@ -13,22 +13,26 @@ use Rattle.pruned_spread.proofs.add_square.Statement.{statement}
 use Rattle.pruned_spread.proofs.add_square.Tie as tie
 
 abbrev Inv-loop : tie.InvT-loop
-Inv-loop sums rowoffset m at stride value rows columns part₀ i₀ here₀ from₀ part i here from =
+Inv-loop sums rowoffset m value part₀ at stride rows columns i₀ here₀ from₀ part i here from =
     Adding (λ r j. absDiff value (squareSumAt sums rowoffset m (at + r * stride + j))) rows columns at stride part₀ part i here from
 
 abbrev μ-loop : tie.MeasureT-loop
-μ-loop sums rowoffset m at stride value rows columns part₀ i₀ here₀ from₀ part i here from = rows - i
+μ-loop sums rowoffset m value part₀ at stride rows columns i₀ here₀ from₀ part i here from = rows - i
+
+abbrev start : tie.At-loop Inv-loop μ-loop → tie.Start Inv-loop μ-loop
+start l = l .before .before .before
 
 -- the row of a turn
 row : (b : tie.In-loop Inv-loop μ-loop) →
     let a = b .before .before .before .before .args in
     let l = b .before .loop in
-    (c : ℕ) → c < a .columns → HasSquare (now (a .sums)) (a .rowoffset) (a .m) (l .here + c) × (getD (l .part) (l .from + c) 0 ≤ mostSquares * largestSquareSum)
-row b c h =
+    (j : ℕ) → j < a .c .columns → HasSquare (now (a .sums)) (a .rowoffset) (a .m) (l .here + j)
+    × (getD (l .part) (l .from + j) 0 ≤ mostSquares * largestSquareSum)
+row b j h =
     let l = b .before .loop in
     let s = b .before .before .before .before in
-    let p = s .pre .1 (l .i) c (b .loop-test .taken) h in
-    (rw (l .inv .here-is) (p .0), rw (adding-read _ _ _ _ _ _ _ _ _ _ (l .inv) c) (p .1))
+    let p = s .pre .1 (l .i) j (b .loop-test .taken) h in
+    (rw (l .inv .here-is) (p .0), rw (adding-read _ _ _ _ _ _ _ _ _ _ (l .inv) j) (p .1))
 
 loop-holds : tie.Need-loop-holds Inv-loop μ-loop
 loop-holds c = adding-first _ _ _ _ _ _
@@ -36,19 +40,19 @@ loop-holds c = adding-first _ _ _ _ _ _
 add-run-requires : tie.Need-add-run-requires Inv-loop μ-loop
 add-run-requires c κs =
     let b = c .before in
-    let s = b .before .before .before .before in
+    let s = start (b .before) in
     ((s .pre .0 .0, adding-room _ _ _ _ _ _ _ _ _ _ (b .before .loop .inv) (b .loop-test .taken) (s .pre .0 .2)), row b)
 
 add-here : tie.Need-add-here Inv-loop μ-loop
 add-here c =
     let b = c .before .before .before .before in
-    let s = b .before .before .before .before in
+    let s = start (b .before) in
     omega (arith, row b 0 (s .pre .0 .1) .0 .inside, s .pre .0 .3)
 
 add-from : tie.Need-add-from Inv-loop μ-loop
 add-from c =
     let b = c .before .before .before .before in
-    let s = b .before .before .before .before in
+    let s = start (b .before) in
     omega (arith, adding-room _ _ _ _ _ _ _ _ _ _ (b .before .loop .inv) (b .loop-test .taken) (s .pre .0 .2))
 
 add-i : tie.Need-add-i Inv-loop μ-loop
@@ -61,7 +65,7 @@ loop-again : tie.Need-loop-again Inv-loop μ-loop
 loop-again c =
     let b = c .before .before .before .before in
     let l = b .before .loop in
-    let s = b .before .before .before .before in
+    let s = start (b .before) in
     rw (c .before .before .add-run .ensures)
     (adding-more _ _ _ _ _ _ _ _ _ _ (l .inv) (b .loop-test .taken) (s .pre .0 .2) _
     (λ j. ap (λ (h : ℕ). absDiff (s .args .value) (squareSumAt (now (s .args .sums)) (s .args .rowoffset) (s .args .m) (h + j))) (l .inv .here-is)))
@@ -72,7 +76,7 @@ same-length c = c .before .loop .inv .rowed .long
 returns : tie.Need-returns Inv-loop μ-loop
 returns c =
     let l = c .before .loop in
-    let e : l .i ≡ c .before .before .before .before .args .rows = omega (arith, l .inv .rowoffset) in
+    let e : l .i ≡ start (c .before) .args .c .rows = omega (arith, l .inv .rowoffset) in
     rw e at (l .inv .rowed .filled)
 
 pub add-square-spec : {M : Type 1} → statement M

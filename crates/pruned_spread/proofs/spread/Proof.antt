@@ -17,38 +17,48 @@ use Rattle.pruned_spread.proofs.spread.Statement.{statement}
 use Rattle.pruned_spread.proofs.spread.Tie as tie
 
 abbrev Inv-loop : tie.InvT-loop
-Inv-loop block steps sums rowoffset m count at stride rows columns part₀ s₀ part s =
+Inv-loop block steps sums rowoffset m count part₀ at stride rows columns s₀ part s =
     (s ≤ count) × Rowed (λ i j. sumTo (differenceAt block steps sums rowoffset m (at + i * stride + j)) s) columns part₀ part rows
 
 abbrev μ-loop : tie.MeasureT-loop
-μ-loop block steps sums rowoffset m count at stride rows columns part₀ s₀ part s = count - s
+μ-loop block steps sums rowoffset m count part₀ at stride rows columns s₀ part s = count - s
+
+abbrev start : tie.At-loop Inv-loop μ-loop → tie.Start Inv-loop μ-loop
+start l = l .before .before .before .before .before
 
 -- the corner of the first older block
 corner : (b : tie.In-loop Inv-loop μ-loop) →
-    let a = b .before .before .before .before .before .before .args in
-    Compared (now (a .block)) (now (a .steps)) (now (a .sums)) (a .rowoffset) (a .m) (a .count) (a .at + 0 * a .stride + 0)
-corner b = let s = b .before .before .before .before .before .before in s .pre .1 0 0 (s .pre .0 .0) (s .pre .0 .1) .0
+    let a = start (b .before) .args in
+    Compared (now (a .block)) (now (a .steps)) (now (a .sums)) (a .rowoffset) (a .m) (a .count) (a .c .at + 0 * a .c .stride + 0)
+corner b = let s = start (b .before) in s .pre .1 0 0 (s .pre .0 .0) (s .pre .0 .1) .0
 
 -- the square of a turn at a place, counted from the square's own place
 moved : (b : tie.In-loop Inv-loop μ-loop) →
-    let a = b .before .before .before .before .before .before .args in
+    let a = start (b .before) .args in
     let l = b .before .loop in
-    (i j : ℕ) → a .at + i * a .stride + j + getD (now (a .steps)) (l .s) 0 ≡ a .at + getD (now (a .steps)) (l .s) 0 + i * a .stride + j
+    (i j : ℕ) → a .c .at + i * a .c .stride + j + getD (now (a .steps)) (l .s) 0 ≡ a .c .at + getD (now (a .steps)) (l .s) 0 + i * a .c .stride + j
 moved b i j = omega arith
 
 -- what the square of a turn asks at a place, and what the place holds
 square : (b : tie.In-loop Inv-loop μ-loop) →
-    let a = b .before .before .before .before .before .before .args in
-    let l = b .before .loop in
-    (i j : ℕ) → i < a .rows → j < a .columns →
-    HasSquare (now (a .sums)) (a .rowoffset) (a .m) (a .at + getD (now (a .steps)) (l .s) 0 + i * a .stride + j) × (getD (l .part) (i * a .columns + j) 0 ≤ mostSquares * largestSquareSum)
+    let h = b .before in
+    let a = h .before .before .before .before .before .args in
+    let l = h .loop in
+    (i j : ℕ) → i < a .c .rows → j < a .c .columns →
+    HasSquare (now (a .sums)) (a .rowoffset) (a .m) (a .c .at + getD (now (a .steps)) (l .s) 0 + i * a .c .stride + j)
+    × (getD (l .part) (i * a .c .columns + j) 0 ≤ mostSquares * largestSquareSum)
 square b i j hi hj =
-    let l = b .before .loop in
-    let s = b .before .before .before .before .before .before in
+    let h = b .before in
+    let l = h .loop in
+    let s = h .before .before .before .before .before in
+    let a = s .args in
     let p = s .pre .1 i j hi hj .0 in
-    let few : l .s * largestSquareSum ≤ mostSquares * largestSquareSum = mul-le-mul {n₂ = mostSquares} {m₂ = largestSquareSum} (omega (arith, p .few)) (omega arith) in
-    let each = sumTo-bound largestSquareSum (differenceAt (now (s .args .block)) (now (s .args .steps)) (now (s .args .sums)) (s .args .rowoffset) (s .args .m) (s .args .at + i * s .args .stride + j)) (l .s)
-    (λ k h. let t : k < s .args .count = omega arith in omega (arith, p .small k t, p .each k t .small)) in
+    let few : l .s * largestSquareSum ≤ mostSquares * largestSquareSum =
+    mul-le-mul {n₂ = mostSquares} {m₂ = largestSquareSum} (omega (arith, p .few)) (omega arith) in
+    let each =
+    sumTo-bound largestSquareSum
+    (differenceAt (now (a .block)) (now (a .steps)) (now (a .sums)) (a .rowoffset) (a .m) (a .c .at + i * a .c .stride + j)) (l .s)
+    (λ k h. let t : k < a .count = omega arith in omega (arith, p .small k t, p .each k t .small)) in
     (rw (moved b i j) at (p .each (l .s) (b .loop-test .taken)), rw (l .inv .1 .filled, in-rows-at _ _ _ i j _ hi hj) (omega (arith, each, few)))
 
 loop-holds : tie.Need-loop-holds Inv-loop μ-loop
@@ -56,29 +66,29 @@ loop-holds c =
     let s = c .before .before .before .before in
     (search needs, summed-first _ _ _ _ (s .pre .0 .2) (λ i j hi hj. s .pre .1 i j hi hj .1))
 
-mul-add-square : tie.Need-mul-add-square Inv-loop μ-loop
-mul-add-square c = omega (arith, corner c .few)
+mul-here : tie.Need-mul-here Inv-loop μ-loop
+mul-here c = omega (arith, corner c .few)
 
-shared-slice-read-add-square : tie.Need-shared-slice-read-add-square Inv-loop μ-loop
-shared-slice-read-add-square c = let b = c .before in omega (arith, corner b .steps-long, b .loop-test .taken)
+shared-slice-read-here : tie.Need-shared-slice-read-here Inv-loop μ-loop
+shared-slice-read-here c = let b = c .before in omega (arith, corner b .steps-long, b .loop-test .taken)
 
-add-add-square : tie.Need-add-add-square Inv-loop μ-loop
-add-add-square c =
+add-here : tie.Need-add-here Inv-loop μ-loop
+add-here c =
     let b = c .before in
-    let none = zero-mul (b .before .before .before .before .before .before .args .stride) in
+    let none = zero-mul (start (b .before) .args .c .stride) in
     omega (arith, none, corner b .each (b .before .loop .s) (b .loop-test .taken) .inside)
 
-mul-add-square-2 : tie.Need-mul-add-square-2 Inv-loop μ-loop
-mul-add-square-2 c = omega (arith, corner (c .before) .few)
+mul-add-square : tie.Need-mul-add-square Inv-loop μ-loop
+mul-add-square c = omega (arith, corner (c .before) .few)
 
-shared-slice-read-add-square-2 : tie.Need-shared-slice-read-add-square-2 Inv-loop μ-loop
-shared-slice-read-add-square-2 c = let b = c .before .before in omega (arith, corner b .sums-long, b .loop-test .taken)
+shared-slice-read-add-square : tie.Need-shared-slice-read-add-square Inv-loop μ-loop
+shared-slice-read-add-square c = let b = c .before .before in omega (arith, corner b .sums-long, b .loop-test .taken)
 
 add-square-requires : tie.Need-add-square-requires Inv-loop μ-loop
 add-square-requires c κs =
     let b = c .before .before .before in
-    let s = b .before .before .before .before .before .before in
-    let long : s .args .rows * s .args .columns ≤ length (b .before .loop .part) = omega (arith, b .before .loop .inv .1 .long, s .pre .0 .2) in
+    let s = start (b .before) in
+    let long : s .args .c .rows * s .args .c .columns ≤ length (b .before .loop .part) = omega (arith, b .before .loop .inv .1 .long, s .pre .0 .2) in
     ((corner b .small (b .before .loop .s) (b .loop-test .taken), s .pre .0 .1, long, s .pre .0 .3), square b)
 
 add-s : tie.Need-add-s Inv-loop μ-loop
@@ -87,13 +97,17 @@ add-s c = search needs
 loop-less : tie.Need-loop-less Inv-loop μ-loop
 loop-less c = search needs
 
+-- the turn that ends
+abbrev turn : tie.After-slice-known2 Inv-loop μ-loop → tie.In-loop Inv-loop μ-loop
+turn c = let p = c .before .before in p .before .before .before .before
+
 loop-again : tie.Need-loop-again Inv-loop μ-loop
 loop-again c =
-    let b = c .before .before .before .before .before .before in
+    let b = turn c in
     let l = b .before .loop in
-    let a = b .before .before .before .before .before .before .args in (
+    let a = start (b .before) .args in (
       search needs,
-      summed-more _ _ _ _ (b .before .before .before .before .before .before .pre .0 .2) _ _ _ _ (l .inv .1) (c .before .before .add-square .ensures)
+      summed-more _ _ _ _ (start (b .before) .pre .0 .2) _ _ _ _ (l .inv .1) (c .before .before .add-square .ensures)
           (λ i j.
           ap (λ (h : ℕ). absDiff (getD (now (a .block)) (l .s) 0) (squareSumAt (now (a .sums)) (a .rowoffset) (a .m) h)) (sym (moved b i j))),
     )
@@ -104,13 +118,19 @@ same-length c = c .before .loop .inv .1 .long
 returns : tie.Need-returns Inv-loop μ-loop
 returns c =
     let l = c .before .loop in
-    let a = c .before .before .before .before .before .before .args in
+    let a = start (c .before) .args in
+    let k = a .c in
     let e : l .s ≡ a .count = omega arith in
     let sums = rw e at (l .inv .1 .filled) in (
       sums,
       λ i j hi hj.
-          rw (sums, in-rows-at (λ r q. sumTo (differenceAt (now (a .block)) (now (a .steps)) (now (a .sums)) (a .rowoffset) (a .m) (a .at + r * a .stride + q)) (a .count)) (a .columns) (a .rows) i j _ hi hj)
-          (is-distance (now (a .block)) (now (a .steps)) (now (a .sums)) (a .rowoffset) (a .m) (a .count) (a .at + i * a .stride + j)),
+          rw (
+            sums,
+            in-rows-at
+                (λ r q. sumTo (differenceAt (now (a .block)) (now (a .steps)) (now (a .sums)) (a .rowoffset) (a .m) (k .at + r * k .stride + q)) (a .count))
+                (k .columns) (k .rows) i j _ hi hj,
+          )
+          (is-distance (now (a .block)) (now (a .steps)) (now (a .sums)) (a .rowoffset) (a .m) (a .count) (k .at + i * k .stride + j)),
     )
 
 pub spread-spec : {M : Type 1} → statement M
@@ -120,11 +140,11 @@ spread-spec =
     Inv-loop
     μ-loop
     loop-holds
+    mul-here
+    shared-slice-read-here
+    add-here
     mul-add-square
     shared-slice-read-add-square
-    add-add-square
-    mul-add-square-2
-    shared-slice-read-add-square-2
     add-square-requires
     add-s
     loop-less
