@@ -88,7 +88,9 @@ row-more μ older newer a b j = sumTo-more _ j
 pub block-rows : (μ : Measure) (older newer : List ℕ) (width y x r c n : ℕ)
     → distortionBy μ n (blockAt newer width y x) (blockAt older width r c) ≡ rowsFrom μ older newer width (y * width + x) (r * width + c) n n
 unfolding distortionBy rowFrom
-block-rows μ older newer width y x r c n = sumOver-ext n n _ _ (λ i j hi hj. ap₂ (λ (k l : ℕ). μ .diff (getD newer k 0) (getD older l 0)) (place y x i j) (place r c i j))
+block-rows μ older newer width y x r c n =
+    sumOver-ext n n _ _
+    (λ i j hi hj. ap₂ (λ (k l : ℕ). μ .diff (getD newer k 0) (getD older l 0)) (place y x i j) (place r c i j))
   where
     place : (y x i j : ℕ) → (y + i) * width + (x + j) ≡ y * width + x + i * width + j
     place y x i j = omega (arith, add-mul y i width)
