@@ -22,6 +22,7 @@ module _ (older newer : List ℕ) (b : SearchBlock) (k : ℕ) where
       let o = candidate-older (b .sizes) (b .w) (b .y) (b .x) (preferred k) t in
       record { placed = r .placed; down = o .down; across = o .across }
 
-  pub by-rows : distortionOf older newer b k ≡ rowsFrom absolute older newer (b .sizes .width) (b .y * b .sizes .width + b .x) (beginsAt b k) (b .sizes .n) (b .sizes .n)
+  pub by-rows : distortionOf older newer b k ≡
+      rowsFrom absolute older newer (b .sizes .width) (b .y * b .sizes .width + b .x) (beginsAt b k) (b .sizes .n) (b .sizes .n)
   unfolding distortion
   by-rows = block-rows absolute older newer (b .sizes .width) (b .y) (b .x) (olderRow (b .y) (preferred k)) (olderColumn (b .x) (preferred k)) (b .sizes .n)

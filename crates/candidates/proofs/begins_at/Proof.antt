@@ -37,7 +37,8 @@ past-requires c κs = rw (toZ-ofZ (sfits-of (c .struct-told .given .0 .1)), c .b
 
 past-requires-2 : tie.Need-past-requires-2
 past-requires-2 c κs =
-    rw (toZ-ofZ (sfits-of (c .struct-told2 .given .1 .0 .1)), c .before .before .before .vector-at .ensures) (c .before .before .before .before .before .pre .0 .column)
+    rw (toZ-ofZ (sfits-of (c .struct-told2 .given .1 .0 .1)), c .before .before .before .vector-at .ensures)
+    (c .before .before .before .before .before .pre .0 .column)
 
 mul-result : tie.Need-mul-result
 mul-result c = omega (arith, small (c .before))

@@ -15,7 +15,10 @@ is-candidate-requires c κs = search needs
 returns : tie.Need-returns
 returns c =
     let v = c .before .before .before .vector-at in
-    (rw (toZ-ofZ {z = v .result .dy} (sfits-of (c .before .before .struct-told .given .0 .1)), toZ-ofZ {z = v .result .dx} (sfits-of (c .before .struct-told2 .given .1 .0 .1))) at (c .is-candidate .ensures))
+    (rw (
+      toZ-ofZ {z = v .result .dy} (sfits-of (c .before .before .struct-told .given .0 .1)),
+      toZ-ofZ {z = v .result .dx} (sfits-of (c .before .struct-told2 .given .1 .0 .1)),
+    ) at (c .is-candidate .ensures))
     ∙ ap (candidate _ _ _ _) (v .ensures)
 
 pub candidate-at-spec : {M : Type 1} → statement M

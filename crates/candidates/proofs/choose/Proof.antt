@@ -51,7 +51,9 @@ loop-again : tie.Need-loop-again Inv-loop μ-loop
 loop-again c =
     let l = c .before .before .before .before .before in
     let d = c .before .distortion-of .ensures in
-    let turn = choosing-more (start l .pre .1 .0) (l .loop .inv .0) (c .before .before .before .before .loop-test .taken) (l .loop .inv .2) (c .before .before .wide-u16 .ensures) (d .0) in
+    let turn =
+    choosing-more (start l .pre .1 .0) (l .loop .inv .0) (c .before .before .before .before .loop-test .taken) (l .loop .inv .2)
+    (c .before .before .wide-u16 .ensures) (d .0) in
     (omega arith, omega arith, rw (c .improved .ensures) turn)
 
 returns : tie.Need-returns Inv-loop μ-loop

@@ -14,7 +14,9 @@ gather-every-requires : tie.Need-gather-every-requires
 gather-every-requires c κs = search needs
 
 returns : tie.Need-returns
-returns c = gathered-every _ _ _ (search needs) (interior-passes _ (true-T _ (sym (c .before .before .before .is-interior .ensures) ∙ c .before .before .if1 .taken))) (c .gather-every .ensures)
+returns c =
+    gathered-every _ _ _ (search needs)
+    (interior-passes _ (true-T _ (sym (c .before .before .before .is-interior .ensures) ∙ c .before .before .if1 .taken))) (c .gather-every .ensures)
 
 gather-some-requires : tie.Need-gather-some-requires
 gather-some-requires c κs = search needs

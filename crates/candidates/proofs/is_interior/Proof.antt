@@ -16,13 +16,17 @@ has-margin-requires : tie.Need-has-margin-requires
 has-margin-requires c κs = search needs
 
 returns-2 : tie.Need-returns-2
-returns-2 c = rw (le-leb 16 (c .before .before .before .before .before .args .b .w) (omega (arith, c .before .before .if1 .left)), failed (c .before .has-margin .ensures) (c .if2 .taken))
+returns-2 c =
+    let wide = le-leb 16 (c .before .before .before .before .before .args .b .w) (omega (arith, c .before .before .if1 .left)) in
+    rw (wide, failed (c .before .has-margin .ensures) (c .if2 .taken))
 
 has-margin-requires-2 : tie.Need-has-margin-requires-2
 has-margin-requires-2 c κs = search needs
 
 returns-3 : tie.Need-returns-3
-returns-3 c = rw (le-leb 16 (start (c .before .before) .args .b .w) (omega (arith, c .before .before .before .if1 .left)), passed (c .before .before .has-margin .ensures) (c .before .if2 .left)) (c .has-margin2 .ensures)
+returns-3 c =
+    let wide = le-leb 16 (start (c .before .before) .args .b .w) (omega (arith, c .before .before .before .if1 .left)) in
+    rw (wide, passed (c .before .before .has-margin .ensures) (c .before .if2 .left)) (c .has-margin2 .ensures)
 
 pub is-interior-spec : {M : Type 1} → statement M
 is-interior-spec =
