@@ -20,7 +20,8 @@ module _ (frame : List ℕ) (from : ℕ) (before : List ℕ) (above here columns
   pub row-first : RowGoing frame from before above here columns before 0 0
   row-first = record { low = omega arith; long = refl; small = omega arith; sum = sym (sumTo-none _); filled = fill-none before here _ }
 
-  module _ (apart : above + columns < here) (room : here + columns < length before) (table : List ℕ) (run c : ℕ) (g : RowGoing frame from before above here columns table run c) where
+  module _ (apart : above + columns < here) (room : here + columns < length before) (table : List ℕ) (run c : ℕ)
+      (g : RowGoing frame from before above here columns table run c) where
     -- the row above is as it was
     pub row-read : getD table (above + c) 0 ≡ getD before (above + c) 0
     row-read = rw (g .filled) (fill-before before here _ c (above + c) 0 (omega arith) (omega arith))

@@ -54,7 +54,8 @@ module _ (frame : List ℕ) (width : ℕ) (a : Region) where
       -- the entries of row r fit
       pub sums-small : ((k : ℕ) → getD frame k 0 ≤ 255) → (c : ℕ) → c ≤ a .columns → getD table (here + c) 0 ≤ 267386880
       sums-small b c h =
-          let m : r * (c * 255) ≤ 1024 * (1024 * 255) = mul-le-mul {n₂ = 1024} {m₂ = 1024 * 255} (omega (arith, g .low, f .high)) (omega (arith, f .across, f .wide)) in
+          let m : r * (c * 255) ≤ 1024 * (1024 * 255) =
+          mul-le-mul {n₂ = 1024} {m₂ = 1024 * 255} (omega (arith, g .low, f .high)) (omega (arith, f .across, f .wide)) in
           rw (sums-read c h) (omega (arith, sumOver-bound 255 r c part (λ i j hi hj. b _)))
 
       module _ (h : r < a .rows) where
@@ -76,7 +77,9 @@ module _ (frame : List ℕ) (width : ℕ) (a : Region) where
             row : (c : ℕ) → sumTo (λ j. getD frame ((a .top + r) * width + a .left + j) 0) c ≡ sumTo (λ j. part r j) c
             row c = sumTo-ext _ _ c (λ j l. rw add-assoc)
 
-        pub sums-more : SumsGoing before (fillTo table (here + (a .columns + 1)) (nextRow frame from table here) (a .columns + 1)) (r + 1) (from + width) (here + (a .columns + 1))
+        pub sums-more :
+            SumsGoing before (fillTo table (here + (a .columns + 1)) (nextRow frame from table here) (a .columns + 1))
+            (r + 1) (from + width) (here + (a .columns + 1))
         sums-more = record {
           low = omega arith;
           long = length-fill table _ _ (a .columns + 1) sums-room ∙ g .long;
@@ -85,7 +88,8 @@ module _ (frame : List ℕ) (width : ℕ) (a : Region) where
           filled =
               let e : here + (a .columns + 1) ≡ (r + 1) * (a .columns + 1) = omega (arith, g .here-is, row-next r (a .columns + 1)) in
               ap (λ (t : List ℕ). fillTo t (here + (a .columns + 1)) (nextRow frame from table here) (a .columns + 1)) (g .filled)
-              ∙ rw (e, fill-join (sumsTo part (a .columns) (r + 1)) before _ (a .columns + 1) _ (length-sums part (a .columns) (r + 1)), sums-row, concatTo-more _ (r + 1), row-next (r + 1) (a .columns + 1));
+              ∙ rw (e, fill-join (sumsTo part (a .columns) (r + 1)) before _ (a .columns + 1) _ (length-sums part (a .columns) (r + 1)), sums-row)
+              (rw (concatTo-more _ (r + 1), row-next (r + 1) (a .columns + 1)));
         }
 
   -- all rows are made
@@ -96,4 +100,5 @@ module _ (frame : List ℕ) (width : ℕ) (a : Region) where
       let e : r ≡ a .rows = omega arith in
       rw (g .filled, e, fill-zero)
       (ap (_++_ (sumsTo part (a .columns) (a .rows + 1)))
-      (drop-over (listTo (λ c. 0) (a .columns + 1)) d (a .columns + 1) ((a .rows + 1) * (a .columns + 1)) (length-listTo _ _) (omega (arith, row-next (a .rows) (a .columns + 1)))))
+      (drop-over (listTo (λ c. 0) (a .columns + 1)) d (a .columns + 1) ((a .rows + 1) * (a .columns + 1))
+      (length-listTo _ _) (omega (arith, row-next (a .rows) (a .columns + 1)))))

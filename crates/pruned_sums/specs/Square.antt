@@ -31,5 +31,6 @@ pub record HasSquare (sums : List ℕ) (rowoffset m at : ℕ) : Type 0 where
 
 abbrev pub IsSquare : List ℕ → ℕ → ℕ → ℕ → ℕ → Type 0
 IsSquare sums rowoffset m at r =
-    (g : Block) (rows columns y x : ℕ) → SumsOf g rows columns sums → rowoffset ≡ m * (columns + 1) → at ≡ y * (columns + 1) + x → y + m ≤ rows → x + m ≤ columns
+    (g : Block) (rows columns y x : ℕ) → SumsOf g rows columns sums → rowoffset ≡ m * (columns + 1) → at ≡ y * (columns + 1) + x
+    → y + m ≤ rows → x + m ≤ columns
     → r ≡ squareAt g m y x

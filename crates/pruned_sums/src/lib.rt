@@ -48,7 +48,8 @@ fn fill_row(frame: &[u8], from: usize, columns: usize, table: &mut [u32], above:
 // The summed-area table of a part of a frame.
 pub fn fill_sums(frame: &[u8], width: usize, a: Region, table: &mut [u32])
     requires { ⌜ Fillable (now frame) width a (length (now table)) ⌝ }
-    ensures { λ _. ⌜ now (table .exit) ≡ summed (blockAt (now (frame .entry)) width (a .top) (a .left)) (a .rows) (a .columns) ++ drop ((a .rows + 1) * (a .columns + 1)) (now (table .entry)) ⌝ }
+    ensures { λ _. ⌜ now (table .exit) ≡ summed (blockAt (now (frame .entry)) width (a .top) (a .left)) (a .rows) (a .columns)
+        ++ drop ((a .rows + 1) * (a .columns + 1)) (now (table .entry)) ⌝ }
 {
     let top = a.top;
     let left = a.left;

@@ -65,7 +65,8 @@ loop-again : tie.Need-loop-again Inv-loop μ-loop
 loop-again c =
     let b = c .before .before .before .before in
     let a = b .before .before .before .args in
-    row-more _ _ _ _ _ _ (omega arith) (omega arith) _ _ _ (b .loop .inv) (c .wide-u8 .result) (c .wide-u8 .ensures .0) (omega (arith, c .before .shared-slice-known2 .given (a .from + b .loop .c))) (omega arith)
+    row-more _ _ _ _ _ _ (omega arith) (omega arith) _ _ _ (b .loop .inv) (c .wide-u8 .result) (c .wide-u8 .ensures .0)
+    (omega (arith, c .before .shared-slice-known2 .given (a .from + b .loop .c))) (omega arith)
 
 add-table-4 : tie.Need-add-table-4 Inv-loop μ-loop
 add-table-4 c = search needs
