@@ -56,17 +56,22 @@ module _ (a : Block) (blocksums : List ℕ) (s : Subblocks) (n : ℕ) (t : SumsO
     near = omega arith;
     narrow = narrow;
     each = λ p q hp hq. rw e
-        (has-square a n n blocksums t (s .m) (p * s .m) (q * s .m) (omega (arith, row-fits p (s .k) (s .m) hp)) (omega (arith, row-fits q (s .k) (s .m) hq)) bytes (omega (arith, row-fits p (s .k) (s .m) hp)));
+        (has-square a n n blocksums t (s .m) (p * s .m) (q * s .m) (omega (arith, row-fits p (s .k) (s .m) hp))
+        (omega (arith, row-fits q (s .k) (s .m) hq)) bytes (omega (arith, row-fits p (s .k) (s .m) hp)));
   }
 
   -- lists that begin with the squares' sums and their steps
   pub cut-is : (block steps c d : List ℕ) → block ≡ inRows (blockSquareSum blocksums s) (s .k) (s .k) ++ c → steps ≡ inRows (squareStep s) (s .k) (s .k) ++ d
       → Cut a (s .m) (s .k) (s .stride) block steps
   cut-is block steps c d sums far = record {
-    sums-long = rw sums (omega (arith, length-append (inRows (blockSquareSum blocksums s) (s .k) (s .k)) c, length-in-rows (blockSquareSum blocksums s) (s .k) (s .k)));
+    sums-long =
+        rw sums
+        (omega (arith, length-append (inRows (blockSquareSum blocksums s) (s .k) (s .k)) c, length-in-rows (blockSquareSum blocksums s) (s .k) (s .k)));
     steps-long = rw far (omega (arith, length-append (inRows (squareStep s) (s .k) (s .k)) d, length-in-rows (squareStep s) (s .k) (s .k)));
     sum = λ p q hp hq. rw (sums, in-rows-at (blockSquareSum blocksums s) (s .k) (s .k) p q c hp hq, e)
-        (square-sum-at-is a n n blocksums t (s .m) (p * s .m) (q * s .m) (omega (arith, row-fits p (s .k) (s .m) hp)) (omega (arith, row-fits q (s .k) (s .m) hq)) ∙ sym (square-is a (s .m) p q));
+        (square-sum-at-is a n n blocksums t (s .m) (p * s .m) (q * s .m) (omega (arith, row-fits p (s .k) (s .m) hp))
+        (omega (arith, row-fits q (s .k) (s .m) hq))
+        ∙ sym (square-is a (s .m) p q));
     step = λ p q hp hq. rw far (in-rows-at _ (s .k) (s .k) p q d hp hq);
   }
 
@@ -102,10 +107,13 @@ module _ (a g : Block) (rows columns m k : ℕ) (block steps sums : List ℕ) (t
       few = squares-few k m two sixteen;
       sums-long = cut .sums-long;
       steps-long = cut .steps-long;
-      small = by-rows (λ s. getD block s 0 ≤ largestSquareSum) k (λ p q hp hq. rw (cut .sum p q hp hq, square-is) (square-small a m _ _ ab (omega (arith, row-fits p k m hp))));
+      small =
+          by-rows (λ s. getD block s 0 ≤ largestSquareSum) k
+          (λ p q hp hq. rw (cut .sum p q hp hq, square-is) (square-small a m _ _ ab (omega (arith, row-fits p k m hp))));
       each = by-rows (λ s. HasSquare sums (m * (columns + 1)) m (corner r c + getD steps s 0)) k (λ p q hp hq.
           rw (cut .step p q hp hq, square-place p q)
-          (has-square g rows columns sums t m (r + p * m) (c + q * m) (omega (arith, row-fits p k m hp)) (omega (arith, row-fits q k m hq)) gb (omega (arith, row-fits p k m hp))));
+          (has-square g rows columns sums t m (r + p * m) (c + q * m) (omega (arith, row-fits p k m hp)) (omega (arith, row-fits q k m hq))
+          gb (omega (arith, row-fits p k m hp))));
     }
 
 -- ---- what the contracts say of the numbers

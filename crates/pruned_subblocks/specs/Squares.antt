@@ -64,5 +64,6 @@ pub record Compared (block steps sums : List ℕ) (rowoffset m count at : ℕ) :
 -- k × k squares of m × m pels, of the block a and of the block whose corner stands at row y and column x of g
 abbrev pub IsDistance : List ℕ → List ℕ → List ℕ → ℕ → ℕ → ℕ → ℕ → ℕ → Type 0
 IsDistance block steps sums rowoffset m count at r =
-    (a g : Block) (rows columns k y x : ℕ) → Cut a m k (columns + 1) block steps → SumsOf g rows columns sums → 0 < m → count ≡ k * k → rowoffset ≡ m * (columns + 1)
+    (a g : Block) (rows columns k y x : ℕ) → Cut a m k (columns + 1) block steps → SumsOf g rows columns sums → 0 < m
+    → count ≡ k * k → rowoffset ≡ m * (columns + 1)
     → at ≡ y * (columns + 1) + x → y + k * m ≤ rows → x + k * m ≤ columns → r ≡ distanceBy absolute (k * m) m a (λ i j. g (y + i) (x + j))

@@ -16,7 +16,8 @@ abbrev Inv-loop : tie.InvT-loop
 Inv-loop blocksums p from block₀ steps₀ m k blockstride stride rowoffset down q₀ block steps q =
     (q ≤ k)
     × ((length block ≡ length block₀) × (length steps ≡ length steps₀))
-    × ((block ≡ fillTo block₀ from (λ j. squareSumAt blocksums (m * blockstride) m (p * m * blockstride + j * m)) q) × (steps ≡ fillTo steps₀ from (λ j. p * m * stride + j * m) q))
+    × ((block ≡ fillTo block₀ from (λ j. squareSumAt blocksums (m * blockstride) m (p * m * blockstride + j * m)) q)
+    × (steps ≡ fillTo steps₀ from (λ j. p * m * stride + j * m) q))
 
 abbrev μ-loop : tie.MeasureT-loop
 μ-loop blocksums p from block₀ steps₀ m k blockstride stride rowoffset down q₀ block steps q = k - q
@@ -41,7 +42,8 @@ far d stride h k = mul-le-mul {n₂ = largestN} {m₂ = 1025} h k
 place-small : (b : tie.In-loop Inv-loop μ-loop) →
     let a = start (b .before) .args in
     let q = b .before .loop .q in
-    (a .p * a .s .m * a .s .blockstride ≤ largestN * 1025) × (q * a .s .m * a .s .blockstride ≤ largestN * 1025) × (a .p * a .s .m ≤ largestN) × (q * a .s .m ≤ largestN)
+    (a .p * a .s .m * a .s .blockstride ≤ largestN * 1025) × (q * a .s .m * a .s .blockstride ≤ largestN * 1025)
+    × (a .p * a .s .m ≤ largestN) × (q * a .s .m ≤ largestN)
 place-small b =
     let s = start (b .before) in
     let down : s .args .p * s .args .s .m ≤ largestN = omega (arith, down-small s) in

@@ -29,12 +29,14 @@ here b = b .before .before .before .before .before .pre .each (b .before .loop .
 turn : (c : tie.After-abs-diff-u32 Inv-loop μ-loop) →
     let b = c .before .before .before .before in
     let a = b .before .before .before .before .before .args in
-    (c .abs-diff-u32 .result ≡ differenceAt (now (a .block)) (now (a .steps)) (now (a .sums)) (a .rowoffset) (a .m) (a .at) (b .before .loop .s)) × (c .abs-diff-u32 .result ≤ largestSquareSum)
+    (c .abs-diff-u32 .result ≡ differenceAt (now (a .block)) (now (a .steps)) (now (a .sums)) (a .rowoffset) (a .m) (a .at) (b .before .loop .s))
+    × (c .abs-diff-u32 .result ≤ largestSquareSum)
 turn c =
     let b = c .before .before .before .before in
     let s = b .before .before .before .before .before in
     let k = c .before .square-sum-at .ensures in
-    let e : c .abs-diff-u32 .result ≡ differenceAt (now (s .args .block)) (now (s .args .steps)) (now (s .args .sums)) (s .args .rowoffset) (s .args .m) (s .args .at) (b .before .loop .s) =
+    let a = s .args in
+    let e : c .abs-diff-u32 .result ≡ differenceAt (now (a .block)) (now (a .steps)) (now (a .sums)) (a .rowoffset) (a .m) (a .at) (b .before .loop .s) =
     rw (k .0) at (c .abs-diff-u32 .ensures) in
     (e, omega (arith, e, here b .small, s .pre .small (b .before .loop .s) (b .loop-test .taken)))
 
