@@ -20,7 +20,12 @@ pub within-few : (limit : ℕ) (remaining dist : List ℕ) (n : ℕ) → length 
 unfolding keptWithin
 within-few limit remaining dist zero = le-refl 0
 within-few limit remaining dist (suc n) =
-    omega (arith, within-few limit remaining dist n, length-append (keptWithin limit remaining dist n) (cond (leb (getD dist n 0) limit) (getD remaining n 0 ∷ []) []), one (leb (getD dist n 0) limit))
+    omega (
+      arith,
+      within-few limit remaining dist n,
+      length-append (keptWithin limit remaining dist n) (cond (leb (getD dist n 0) limit) (getD remaining n 0 ∷ []) []),
+      one (leb (getD dist n 0) limit),
+    )
   where
     one : (t : Bool) → length (cond {A = List ℕ} t (getD remaining n 0 ∷ []) []) ≤ 1
     one true = le-refl 1
@@ -46,7 +51,13 @@ least-place f g h zero e = (le-refl 1, refl)
 least-place f g h (suc n) e =
     let (l, q) = least-place f g h n (λ i k. e i (omega arith)) in
     let a = leastOf g (listTo (λ i. i) (suc n)) in
-    rw (leastOf-more g (listTo (λ i. i) (suc n)) (suc n) (omega (arith, length-listTo {A = ℕ} (λ i. i) (suc n))), leastOf-more f (listTo h (suc n)) (h (suc n)) (omega (arith, length-listTo h (suc n))), q, ← e (suc n) (omega arith), ← e a (omega arith))
+    rw (
+      leastOf-more g (listTo (λ i. i) (suc n)) (suc n) (omega (arith, length-listTo {A = ℕ} (λ i. i) (suc n))),
+      leastOf-more f (listTo h (suc n)) (h (suc n)) (omega (arith, length-listTo h (suc n))),
+      q,
+      ← e (suc n) (omega arith),
+      ← e a (omega arith),
+    )
     (step l (ltb (g (suc n)) (g a)))
   where
     step : {a : ℕ} → a < suc n → (t : Bool) → (cond t (suc n) a < suc (suc n)) × (cond t (h (suc n)) (h a) ≡ h (cond t (suc n) a))
@@ -65,7 +76,8 @@ nearest-mem remaining dist zero h = absurd (not-suc-le-zero h)
 nearest-mem remaining dist (suc n) h = (_, least-place (λ i. getD dist i 0) (λ i. getD dist i 0) (λ i. i) n (λ i k. refl) .0, refl)
 
 -- an array filled with f of the candidates
-pub filled-is : (f : ℕ → ℕ) (remaining before dist : List ℕ) (count : ℕ) → dist ≡ fillTo before 0 (λ i. f (getD remaining i 0)) count → length before ≡ vectorCount
+pub filled-is : (f : ℕ → ℕ) (remaining before dist : List ℕ) (count : ℕ)
+    → dist ≡ fillTo before 0 (λ i. f (getD remaining i 0)) count → length before ≡ vectorCount
     → count ≤ vectorCount
     → Stored f remaining count dist
 filled-is f remaining before dist count e h few = record {

@@ -57,7 +57,9 @@ pub nearest-last : {dist : List ℕ} {count best : ℕ} (remaining : List ℕ) �
     → getD remaining best 0 ≡ nearestOf remaining count dist
 unfolding nearestOf
 nearest-last {dist} {count} {best} remaining s =
-    ap (λ (i : ℕ). getD remaining i 0) (s .least ∙ ap (leastOf (λ j. getD dist j 0)) (take-all count (listTo (λ j. j) count) (omega (arith, length-listTo (λ j. j) count))))
+    ap (λ (i : ℕ). getD remaining i 0)
+    (s .least
+    ∙ ap (leastOf (λ j. getD dist j 0)) (take-all count (listTo (λ j. j) count) (omega (arith, length-listTo (λ j. j) count))))
 
 -- ---- dropping: those of the first i that are within the limit stand in front
 
@@ -66,7 +68,8 @@ swept-past : (limit : ℕ) (old dist : List ℕ) (n k : ℕ) → length (keptWit
 unfolding swept keptWithin
 swept-past limit old dist zero k h = refl
 swept-past limit old dist (suc n) k h =
-    let l : length (keptWithin limit old dist n) < k = omega (arith, length-append (keptWithin limit old dist n) (cond (leb (getD dist n 0) limit) (getD old n 0 ∷ []) [])) in
+    let l : length (keptWithin limit old dist n) < k =
+    omega (arith, length-append (keptWithin limit old dist n) (cond (leb (getD dist n 0) limit) (getD old n 0 ∷ []) [])) in
     drop-set-lt k _ _ _ l ∙ swept-past limit old dist n k l
 
 pub record Sifting (old dist : List ℕ) (count limit i j : ℕ) (remaining : List ℕ) : Type 0 where
@@ -101,7 +104,14 @@ module _ {old dist : List ℕ} {count limit i j : ℕ} {remaining : List ℕ} (s
     behind = omega arith;
     many = rw (add-one i, le-leb (getD dist i 0) limit l) (omega (arith, s .many, length-append (keptWithin limit old dist i) (getD old i 0 ∷ [])));
     list = stored-is;
-    front = rw (add-one i, le-leb (getD dist i 0) limit l, add-one j, take-suc-set remaining j (getD remaining i 0) (omega (arith, s .long, s .behind)), s .front, s .rest i (omega arith));
+    front = rw (
+      add-one i,
+      le-leb (getD dist i 0) limit l,
+      add-one j,
+      take-suc-set remaining j (getD remaining i 0) (omega (arith, s .long, s .behind)),
+      s .front,
+      s .rest i (omega arith),
+    );
     long = length-set remaining j _ ∙ s .long;
     rest = stored-rest;
   }

@@ -37,7 +37,8 @@ pub fn keep_within(
     limit: u32,
 ) -> usize
     requires { ⌜ (length (now remaining) ≡ vectorCount) × (count ≤ vectorCount) ⌝ }
-    ensures { λ r. ⌜ Front (keptWithin limit (now (remaining .entry)) (now (dist .entry)) count) (swept limit (now (remaining .entry)) (now (dist .entry)) count) (now (remaining .exit)) r
+    ensures { λ r. ⌜ Front (keptWithin limit (now (remaining .entry)) (now (dist .entry)) count)
+        (swept limit (now (remaining .entry)) (now (dist .entry)) count) (now (remaining .exit)) r
         × (drop (r + 1) (now (remaining .exit)) ≡ drop (r + 1) (now (remaining .entry))) ⌝ }
 {
     let mut kept: usize = 0;
