@@ -16,7 +16,9 @@ use Rattle.search.specs.Target.{Target, target}
 use Rattle.search.specs.Exhaustive.{Best}
 use Rattle.base.specs.Lists.{Each}
 use Rattle.probe.specs.Probe.{origin, plus, Seen, atOrigin, around, isIn, fresh, OwnDistortion, Alike}
-use Rattle.probe.proofs.Probe.{probe-own-distortion, at-origin-own-distortion, never-lower, probe-count, probe-best, each-fresh, each-around, all?, all-each, all-within, fresh-moved, length-around, around-plus, plus-origin, within-more, each-more, around-within, probe-alike, at-origin-within, at-origin-alike}
+use Rattle.probe.proofs.Probe.{probe-own-distortion, at-origin-own-distortion, never-lower, probe-count, probe-best, each-fresh, each-around, all?}
+use Rattle.probe.proofs.Probe.{all-each, all-within, fresh-moved, length-around, around-plus}
+use Rattle.probe.proofs.Probe.{plus-origin, within-more, each-more, around-within, probe-alike, at-origin-within, at-origin-alike}
 use Rattle.four_step.specs.FourStep.{square, ring, moved, step1, step23, step4, from3, from2, fourStep}
 
 -- ---- honest

@@ -14,7 +14,8 @@ use Rattle.order.specs.Vectors.{Within, same?, same-self}
 use Rattle.search.specs.Target.{Target}
 use Rattle.base.specs.Lists.{Each}
 use Rattle.probe.specs.Probe.{origin, plus, Seen, probe, atOrigin, around, isIn, fresh}
-use Rattle.probe.proofs.Probe.{probe-best, probe-all, each-map, each-fresh, each-around, all?, all-each, same-moved, length-around, plus-origin, within-more, at-origin-within}
+use Rattle.probe.proofs.Probe.{probe-best, probe-all, each-map, each-fresh, each-around, all?}
+use Rattle.probe.proofs.Probe.{all-each, same-moved, length-around, plus-origin, within-more, at-origin-within}
 use Rattle.four_step.specs.FourStep.{square, ring, moved, step1, step23, step4, from3, from2, fourStep}
 use Rattle.four_step.proofs.FourStep.{new, newBy, new-moved, moved-points, ring-points, step23-within, step1-within}
 

@@ -33,7 +33,8 @@ returns-2 c =
     let a = start (c .before) .args in
     let e = c .before .before in
     holds-by (c .step-last2 .ensures)
-    (ap (step4 (targetOf (now (a .older)) (now (a .newer)) (a .b))) (c .before .step-on .ensures .is) ∙ from3-moves _ _ _ (sym (e .before .stays .ensures) ∙ e .if1 .left)) (omega arith)
+    (ap (step4 (targetOf (now (a .older)) (now (a .newer)) (a .b))) (c .before .step-on .ensures .is)
+    ∙ from3-moves _ _ _ (sym (e .before .stays .ensures) ∙ e .if1 .left)) (omega arith)
 
 pub from-three-spec : {M : Type 1} → statement M
 from-three-spec = tie.close (tie.spec stays-requires step-last-requires returns step-on-requires step-last-requires-2 returns-2)

@@ -33,7 +33,8 @@ returns-2 c =
     let a = start (c .before) .args in
     let e = c .before .before in
     holds-by (c .from-three .ensures)
-    (ap (from3 (targetOf (now (a .older)) (now (a .newer)) (a .b)) _) (c .before .step-on .ensures .is) ∙ from2-moves _ _ _ (sym (e .before .stays .ensures) ∙ e .if1 .left)) (omega arith)
+    (ap (from3 (targetOf (now (a .older)) (now (a .newer)) (a .b)) _) (c .before .step-on .ensures .is)
+    ∙ from2-moves _ _ _ (sym (e .before .stays .ensures) ∙ e .if1 .left)) (omega arith)
 
 pub from-two-spec : {M : Type 1} → statement M
 from-two-spec = tie.close (tie.spec stays-requires step-last-requires returns step-on-requires from-three-requires returns-2)

@@ -24,7 +24,9 @@ unfolding fourStep unbias
 returns c =
     let a = c .before .before .before .before .before .args in
     c .result-of .ensures
-    ∙ ap resultOf (c .before .from-two .ensures .is ∙ ap (from2 (targetOf (now (a .older)) (now (a .newer)) (a .b)) origin) (c .before .before .step-one .ensures .is))
+    ∙ ap resultOf
+    (c .before .from-two .ensures .is
+    ∙ ap (from2 (targetOf (now (a .older)) (now (a .newer)) (a .b)) origin) (c .before .before .step-one .ensures .is))
 
 pub search-spec : {M : Type 1} → statement M
 search-spec = tie.close (tie.spec step-one-requires from-two-requires result-of-requires returns)
