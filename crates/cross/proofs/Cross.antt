@@ -69,7 +69,12 @@ module _ (t : Target) where
   pass-count : (p : ℕ) (s : Seen) → pass t p s .count ≤ s .count + 4
   unfolding pass diagonalCross
   pass-count p s =
-      omega (arith, probe-count t s (around (s .best) (widened p diagonalCross)), length-around (s .best) (widened p diagonalCross), length-widened p diagonalCross)
+      omega (
+        arith,
+        probe-count t s (around (s .best) (widened p diagonalCross)),
+        length-around (s .best) (widened p diagonalCross),
+        length-widened p diagonalCross,
+      )
 
   passes-count : (n p : ℕ) (s : Seen) → passesIn n t p s .count ≤ s .count + 4 * n
   unfolding passesIn

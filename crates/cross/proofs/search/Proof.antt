@@ -23,7 +23,8 @@ returns c =
     let a = start (c .before .before) .args in
     let f = c .before .before .before .at-origin in
     c .result-of .ensures
-    ∙ ap resultOf (cross-stops (targetOf (now (a .older)) (now (a .newer)) (a .b)) (a .t) (a .b .w) (seenOf (f .result)) (f .ensures .is) (c .before .if1 .taken))
+    ∙ ap resultOf
+    (cross-stops (targetOf (now (a .older)) (now (a .newer)) (a .b)) (a .t) (a .b .w) (seenOf (f .result)) (f .ensures .is) (c .before .if1 .taken))
 
 all-passes-requires : tie.Need-all-passes-requires
 all-passes-requires c κs = search needs
