@@ -72,7 +72,7 @@ typedef struct {
 gauge_row gauge_row_view(const uint8_t *older, size_t older_length, const uint8_t *newer, size_t newer_length, size_t width,
                          size_t height, size_t n, uint32_t side, size_t row, size_t column);
 
-/* What a search is asked. */
+/* A request for a search. */
 typedef struct {
     size_t width, height, n;
     uint32_t search; /* 1 full, 2 pruned, 3 four-step, 4 cross */

@@ -1,6 +1,6 @@
 -- 01, "Field, reading, track": "A single-block search takes neither list nor table; its block stands at any pel row and column."
 --   searchRefusal   1 2 3 4 5 6 7
---   searchBlock      the answer: the number and zeros, or what the search requested for finds
+--   searchBlock      the answer: the number and zeros, or what the requested search finds
 -- The counts of four-step where a block stands clear of every border: proofs/Unclipped.antt.
 use Prim.Native.Nat.{ℕ, _+_, _≤_}
 use mathlib.Core.Path.{_≡_, ap, sym, _∙_}
@@ -78,7 +78,7 @@ module _ (older newer : List ℕ) (q : Request) (y x : ℕ) where
   unfolding searchBlock
   block-accepted h = rw h
 
--- the search requested for, by its number
+-- the requested search, by its number
 module _ (p : Pair) (q : Request) (y x : ℕ) where
   pub searched-full : q .search ≡ 1 → searchBy p q y x ≡ fullSearch p (q .w) y x
   unfolding searchBy

@@ -1,4 +1,4 @@
--- Cross over any target: each step probes a list of points, so it stays honest; each pass and the last cross have four points, and there are
+-- Cross over any target: each step probes a list of points, so it reports the distortion of its own vector; each pass and the last cross have four points, and there are
 -- log2 w - 1 passes before the one at p = 1.
 use Prim.Native.Nat.{ℕ, zero, suc, _+_, _-_, _*_, _/_, _≤_}
 use mathlib.Core.Path.{_≡_, refl, ap}
@@ -20,7 +20,7 @@ use Rattle.probe.proofs.Probe.{probe-own-distortion, at-origin-own-distortion, 
 use Rattle.cross.specs.Cross.{diagonalCross, plusCross, pass, allPasses, onDiagonal, ended, finished, cross}
 use Rattle.cross.proofs.Passes.{passesIn, passes-many, log2-some}
 
--- ---- honest
+-- ---- its own distortion
 
 module _ (t : Target) where
   pass-own-distortion : (p : ℕ) (s : Seen) → OwnDistortion t s → OwnDistortion t (pass t p s)

@@ -1,5 +1,5 @@
 -- A field's grid blocks, one by one.
---   searchAt    what the search asked for answers at grid block k; vectorOf: its vector
+--   searchAt    what the requested search answers at grid block k; vectorOf: its vector
 --   Prepared    what a block's search asks: frames, request, and for search 2 the table of sums
 --   Sound       what holds of each block's result, whatever the search: a vector of window 16, and numbers that are small
 --   join        the sums with one block more; Bounded: small enough for that

@@ -1,4 +1,4 @@
-// A grid block of document 01's field: what the search asked for answers there, and the sums over the blocks so far.
+// A grid block of document 01's field: what the requested search answers there, and the sums over the blocks so far.
 
 ghost use mathlib.Core.Path.{_≡_};
 ghost use Prim.Native.Nat.{_<_};
@@ -31,7 +31,7 @@ pub fn whole_frame(q: Request) -> Region
     }
 }
 
-// What the search asked for answers at grid block k.
+// What the requested search answers at grid block k.
 pub fn search_at(
     older: &[u8],
     newer: &[u8],

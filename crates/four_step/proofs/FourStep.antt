@@ -1,4 +1,4 @@
--- Four-step over any target: each step probes a list of points, so it stays honest; wherever a pattern moves to, at most five of its nine points
+-- Four-step over any target: each step probes a list of points, so it reports the distortion of its own vector; wherever a pattern moves to, at most five of its nine points
 -- are new; and three moves by 2 and one by 1 end in window 7.
 use Prim.Native.Nat.{ℕ, _+_, _≤_}
 use mathlib.Core.Path.{_≡_, ap, ap₂, subst, _∙_}
@@ -21,7 +21,7 @@ use Rattle.probe.proofs.Probe.{all-each, all-within, fresh-moved, length-around
 use Rattle.probe.proofs.Probe.{plus-origin, within-more, each-more, around-within, probe-alike, at-origin-within, at-origin-alike}
 use Rattle.four_step.specs.FourStep.{square, ring, moved, step1, step23, step4, from3, from2, fourStep}
 
--- ---- honest
+-- ---- its own distortion
 
 module _ (t : Target) where
   moved-own-distortion : (before : List Vector) (s : Seen) → OwnDistortion t s → OwnDistortion t (moved t before s)

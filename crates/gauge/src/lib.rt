@@ -50,7 +50,7 @@ pub extern "C" fn gauge_measure(
     measuring::measure(older, newer, s, row, column, dy, dx)
 }
 
-// The row view: where in the frame asked for its N pels stand.
+// The row view: where in its frame the N pels stand.
 #[no_mangle]
 pub extern "C" fn gauge_row_view(
     older: &[u8],
@@ -68,7 +68,7 @@ pub extern "C" fn gauge_row_view(
     view::view_place(older.len(), newer.len(), s, side, row, column)
 }
 
-// Searches one block, at a row and a column, by the search that is asked for.
+// Searches one block, at a row and a column, by the requested search.
 #[no_mangle]
 pub extern "C" fn gauge_search_block(
     older: &[u8],

@@ -51,6 +51,6 @@ pub record RoundTrip : Type 0 where
   -- and after it the next call answers 34 and leaves the walker where it stood: so does every further call.
   pub walker-stays : (log : List ℕ) (c : Cursor) → isRefused (stepAt log c .command) ≡ true
       → stepAt log (stepAt log c .next) ≡ record { command = Cmd.Refused 34 0; next = stepAt log c .next }
-  -- A caller of the plain call who begins with the start's plain numbers and hands `next` back until the answer is a refusal is told the walk, and however
+  -- A caller of the plain call who begins with the start's plain numbers and hands `next` back until the answer is a refusal sees the walk, and however
   -- many calls are allowed beyond the log's length, makes no more.
   pub plain-walk : (log : List ℕ) (calls : ℕ) → length log < calls → CommandsOf (answersFrom calls log (plainOf startCursor)) (walk log)

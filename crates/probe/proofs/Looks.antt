@@ -32,7 +32,7 @@ use Rattle.probe.proofs.Probe.{eqb-same, all?, all-within}
 pub holds-by : {r : BestSoFar} {s t : Seen} {m n : ℕ} → Holds r s m → s ≡ t → m ≤ n → Holds r t n
 holds-by h e l = record { is = h .is ∙ e; down = h .down; across = h .across; few = let f = h .few in omega arith }
 
--- what is held may stay as it is
+-- the best so far may stay as it is
 pub holds-same : {older newer : List ℕ} {b : SearchBlock} {s : BestSoFar} {n : ℕ} {q : Seen} → Ongoing older newer b s n → seenOf s ≡ q
     → Holds s q (s .count + 1)
 holds-same o e = record { is = e; down = o .down; across = o .across; few = omega arith }

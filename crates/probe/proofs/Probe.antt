@@ -41,7 +41,7 @@ pub at-origin-own-distortion : (t : Target) → T (t .candidate origin) → OwnD
 unfolding atOrigin
 at-origin-own-distortion t c = record { chosen = c; reported = refl }
 
--- no honest search reports less than the exhaustive best of the same block, in a window that is no smaller
+-- no search that reports the distortion of its own vector reports less than the exhaustive best of the same block, in a window that is no smaller
 pub never-lower : (p : Pair) (u w y x : ℕ) (v : Vector) (s : Seen) → u ≤ w → Best p w y x v → OwnDistortion (target p u y x) s → distortion p y x v ≤ s .least
 never-lower p u w y x v s l b h =
     rw (h .reported)

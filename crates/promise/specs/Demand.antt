@@ -218,7 +218,7 @@ abbrev pub FieldNotLower : Pair → List ℤ → FieldResult → ℕ → Type 0
 FieldNotLower p list f most =
     EachBlock p (λ k. reported list k ≤ℤ reported (f .list) k) × (getD (f .answer .counts) lastCount 0 ≤ blocks (p .sizes) * most)
 
--- every place a block may stand at, and every field whose list has room, is searchBy unrefused
+-- every place a block may stand at, and every field whose list has room, is searched unrefused
 abbrev pub Runs : Pair → (search w t : ℕ) → Type 0
 Runs p search w t =
     EachPlace p (λ y x. blockOn p search w t y x .refusal ≡ 0)

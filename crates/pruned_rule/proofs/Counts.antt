@@ -13,7 +13,7 @@ use Rattle.pruned_rule.proofs.Parts.{parted, parted-total, total-length
 
 -- what holds after each step, of the candidates ks
 pub record Counted (ks : List ℕ) (s : Pruning) : Type 0 where
-  -- left and dropped together have each candidate just as often as ks has it: every sum exceeding them agrees
+  -- left and dropped together have each candidate just as often as ks has it: every sum over them agrees
   pub parts : (g : ℕ → ℕ) → total g (s .left) + total g (s .dropped) ≡ total g ks
   tested : AtMost (length ks) (s .tested)
 

@@ -11,7 +11,7 @@ use lib.ListN.{length}
 use Rattle.base.specs.Least.{_∈_, FirstLeast, here, later}
 use Rattle.pruned_rule.specs.Sift.{kept, exceeding, total}
 
--- ys are the members of ks within the limit and ns those exceeding it, each in its order
+-- ys are the members of ks within the limit and ns those over it, each in its order
 pub data Parted (v : ℕ → ℕ) (l : ℕ) : List ℕ → List ℕ → List ℕ → Type 0 where
   empty : Parted v l [] [] []
   stays : {k : ℕ} {ks ys ns : List ℕ} → v k ≤ l → Parted v l ks ys ns → Parted v l (k ∷ ks) (k ∷ ys) ns
@@ -27,7 +27,7 @@ parted v l (k ∷ ks) = step (parted v l ks) (leb (v k) l) refl
     step r true e = stays (leb-true (v k) l e) r
     step r false e = goes (leb-false (v k) l e) r
 
--- each sum exceeding ks is the sum exceeding the two parts: they have each candidate as often as ks has it
+-- each sum over ks is the sum over the two parts: they have each candidate as often as ks has it
 pub parted-total : {v : ℕ → ℕ} {l : ℕ} {ks ys ns : List ℕ} (g : ℕ → ℕ) → Parted v l ks ys ns → total g ys + total g ns ≡ total g ks
 unfolding total
 parted-total g empty = refl

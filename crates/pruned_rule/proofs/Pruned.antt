@@ -26,7 +26,7 @@ pub record Holds (D : ℕ → ℕ) (ks : List ℕ) (s : Pruning) : Type 0 where
   pub best : FirstLeast D (leastOf D ks) (s .left)
   -- those left are candidates
   pub left-from : {k : ℕ} → k ∈ s .left → k ∈ ks
-  -- those dropped are candidates, of a distortion exceeding E
+  -- those dropped are candidates, of a distortion over E
   pub dropped-from : {k : ℕ} → k ∈ s .dropped → k ∈ ks
   pub dropped-over : {k : ℕ} → k ∈ s .dropped → s .bound < D k
   -- and none of them is left

@@ -99,7 +99,7 @@ pub safe : (μ : Measure) → Lawful μ → (N : ℕ) (a : Block) (b : ℕ → B
     → Safe (distortions μ N a b) (distances μ N a b) (μ .limit) m
 safe μ lawful N a b m h k e l = lawful N m h a (b k) e l
 
--- exceeding candidates ks by a lawful measure and at resolutions ms that divide N, E beginning as the distortion e of one of them
+-- over candidates ks by a lawful measure and at resolutions ms that divide N, E beginning as the distortion e of one of them
 module _ (μ : Measure) (lawful : Lawful μ) (N : ℕ) (a : Block) (b : ℕ → Block) (ms ks : List ℕ) (e : ℕ)
     (given : Attained (distortions μ N a b) ks e) (divide : (m : ℕ) → m ∈ N ∷ ms → m ∣ N)
   where

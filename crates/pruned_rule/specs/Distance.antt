@@ -1,5 +1,5 @@
--- 01, "The four searches", search 2: "Cut a block into m × m squares; its distance at m is the sum exceeding squares of the absolute difference of
--- pel sums." For every N and m, exceeding a measure of the differences.
+-- 01, "The four searches", search 2: "Cut a block into m × m squares; its distance at m is the sum over squares of the absolute difference of
+-- pel sums." For every N and m, over a measure of the differences.
 --   squareSum    the pel sum of the m × m square in row p and column q of squares
 --   distanceBy   the distance at m of two N × N blocks by a measure
 --   distortions  the newer block a against the older block b k of each candidate k: the distortions

@@ -1,4 +1,4 @@
--- 01, "The four searches", search 2, step by step, exceeding a list of candidates in preference order.
+-- 01, "The four searches", search 2, step by step, over a list of candidates in preference order.
 --   Pruning       where the search stands: E, the candidates that remain, those dropped, and how many were tested at each m so far
 --   allRemaining         "Begin with all candidates and E = distortion of (0,0)": that distortion is e
 --   lower         "find the remaining vector of least distance (equals: preference order), lower E to its distortion if that is less"

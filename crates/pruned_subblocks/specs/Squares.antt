@@ -1,6 +1,6 @@
 -- 01, "The four searches", search 2: "Cut a block into m × m squares; its distance at m is the sum over squares of the absolute difference of
 -- pel sums." How that is worked out over the summed-area table: the newer block's squares one behind the other, row by row, and each older square
--- by four look-ups, its place in the table told from the place of the older block's corner.
+-- by four look-ups, its place in the table known from the place of the older block's corner.
 --   mostSquares      how many squares of at least 2 × 2 pels a block has
 --   blockRegion      the newer block as a part of its frame; BlockSums: a summed-area table of that part
 --   blockSquareSum   the sum of the newer block's square in row p and column q of its squares, by the block's table; Cuttable: what that asks of all

@@ -1,7 +1,7 @@
 -- A number's decimal digits as bytes.
 --   digits    the digits of n, at most so many; decimal: all of them, for no number of 64 bits has more than 20
 --   digits-one, digits-more     the digits of a number below 10, and of another
---   digits-length, digits-few   no more digits than asked for; no more than a number below that limit has
+--   digits-length, digits-few   no more digits than wanted; no more than a number below that limit has
 use Prim.Native.Nat.{ℕ, zero, suc, _+_, _-_, _*_, _/_, _%_, _≤_, _<_}
 use mathlib.Core.Path.{_≡_}
 use mathlib.Core.List.{List, [], _∷_, _++_}

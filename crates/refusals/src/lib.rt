@@ -7,7 +7,7 @@ ghost use Rattle.refusals.specs.Cross.{crossWindow, log2};
 ghost use Rattle.refusals.specs.Refusals.{sideOk, blockSizeOk, blockOk, searchOk, windowOk, thresholdOk, placeOk, pairRefusal, placedRefusal, requestRefusal, sizesOf};
 use frame::Sizes;
 
-// What a search is requested: the sizes, the search 1 to 4, its window w, and the threshold T of search 4.
+// A request for a search: the sizes, the search 1 to 4, its window w, and the threshold T of search 4.
 #[repr(C)]
 pub struct Request {
     pub width: usize,

@@ -27,7 +27,7 @@ viewRefusal older newer s side row column =
     (unless (leb side 1) 12
     (unless (rowOk s row column) 7 0))
 
--- the frame that is asked for
+-- the frame of the side
 abbrev pub sideOf : Pair → ℕ → List ℕ
 sideOf p side = cond (eqb side 0) (p .older) (p .newer)
 

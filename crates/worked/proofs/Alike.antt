@@ -1,6 +1,6 @@
 -- Where all blocks have one vector of window 16, that is the vector of most blocks: it has every vote, and any other has none of the last block.
 --   allAlike        whether they all have, as a test
---   majorityOnce    the vector of most blocks, with no look at the table where they are alike
+--   majorityOnce    the vector of most blocks, without the table where they are alike
 use Prim.Native.Nat.{ℕ, zero, suc, _≤_, _<_}
 use mathlib.Core.Path.{_≡_, refl, sym, ap, subst, _∙_}
 use mathlib.Core.Logic.{inl, ⊎-elim}

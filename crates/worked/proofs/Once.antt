@@ -84,7 +84,7 @@ module _ (p : Pair) (w y x : ℕ) where
   pruned-once = by-walk (p .sizes) w y x _
 
 module _ (p : Pair) (q : Request) (y x : ℕ) where
-  -- the search asked for, by the answers f and g of searches 1 and 2
+  -- the requested search, by the answers f and g of searches 1 and 2
   abbrev searchedBy : SearchResult → SearchResult → SearchResult
   searchedBy f g =
       cond (eqb (q .search) 1) f

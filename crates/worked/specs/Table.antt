@@ -1,14 +1,14 @@
 -- 01, "Worked pairs": "Marked * belong to the proved set", and "For the reviewer": "Starred pairs: one joint table, one proof over it." Here
--- stand A to I. A row has what is asked of a pair and the answer that 01 gives; it is right if the definitions that the
+-- stand A to I. A row has a query of a pair and the answer that 01 gives; it is right if the definitions that the
 -- contracts cite give that answer.
 --   pairA, pairB, pairC, pairD   the frames with their sizes; E and F have C's, G and H have B's
---   full, pruned, fourStep, cross   what a search of a pair is asked
+--   full, pruned, fourStep, cross   a request for a search of a pair
 --   headOf, logB, logC   a head by search 2 with w 1; the logs of B and C
 --   heldList, heldTable, heldBuffer   what lent memory held
---   Query     what is asked: a search of one block, the measuring call, a distance, a field, a travel, calls on a track, or a log that is written, read,
+--   Query    a query: a search of one block, the measuring call, a distance, a field, a travel, calls on a track, or a log that is written, read,
 --            walked or printed
 --   answer   the answer by the definitions
---   Row      what is asked, and the answer that 01 gives; Right: they agree
+--   Row      a query, and the answer that 01 gives; Right: they agree
 --   table    the rows; the proof over them: proofs/Worked.antt
 use Prim.Native.Nat.{ℕ, _+_, _*_}
 use mathlib.Core.Path.{_≡_}
@@ -66,7 +66,7 @@ pairC = pairOf (replicate 64 7) (replicate 64 7) (sizes 8 8 4)
 unfoldable pub pairD : Pair
 pairD = pairOf (replicate 16 10) (twice (0 ∷ 20 ∷ 0 ∷ 20 ∷ 20 ∷ 0 ∷ 20 ∷ 0 ∷ [])) (sizes 4 4 4)
 
--- ---- what is asked
+-- ---- the requests
 
 abbrev pub full : ℕ → Pair → Request
 full w p = requestOf (p .sizes) 1 w 0
@@ -213,7 +213,7 @@ homedAndStepped y x t a =
 
 -- ---- logs: what buffer and list hold, two places longer than the used part
 
--- the head of a pair searchBy by search 2 with w 1
+-- the head of a pair searched by search 2 with w 1
 abbrev pub headOf : Pair → Head
 headOf p = record { width = p .sizes .width; height = p .sizes .height; n = p .sizes .n; w = 1; search = 2 }
 

@@ -1,4 +1,4 @@
--- `search_block`: past the chain the block is ready for each search, and the search requested for answers.
+-- `search_block`: past the chain the block is ready for each search, and the requested search answers.
 use mathlib.Core.Path.{_≡_, sym, _∙_}
 use native.Mathlib.Omega.{arith}
 use borrow.Author.Needs.{needs}

@@ -1,4 +1,4 @@
--- `fill`: the table of sums is made first, so each block may be searchBy; then the reading is that of all votes.
+-- `fill`: the table of sums is made first, so each block may be searched; then the reading is that of all votes.
 use borrow.Author.Needs.{sfits-of, needs}
 use mathlib.Core.Path.{refl, _∙_}
 use mir.Facts.{toZ-ofZ}

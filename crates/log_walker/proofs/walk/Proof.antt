@@ -95,8 +95,8 @@ module _ {M : Type 1} (𝓤 : URA M) (H : Heap 𝓤) (A : Atoms 𝓤) (W : Given
   abbrev to : Start 𝓤 H A mem run .Ghost
   to = ((tt, tt, tt, tt, tt), tt)
 
-  asked : ent 𝓤 (emp 𝓤) (Start 𝓤 H A mem run .pre to)
-  asked = qed W [] ∵ nothing ! $ nothing ! $ join ! $ frame ! $ done !
+  required : ent 𝓤 (emp 𝓤) (Start 𝓤 H A mem run .pre to)
+  required = qed W [] ∵ nothing ! $ nothing ! $ join ! $ frame ! $ done !
 
   said : (k : Cursor) → ent 𝓤 (ensured 𝓤 H A start.ended (start.clauses 𝓤 H A mem run) tt tt tt k) (fact 𝓤 (k ≡ startCursor))
   said k = exE 𝓤 _ (λ ws. snd∗ 𝓤 (sem 𝓤 H A (lasts start.ended tt tt ws)) (fact 𝓤 (k ≡ startCursor)))
@@ -113,7 +113,7 @@ module _ {M : Type 1} (𝓤 : URA M) (H : Heap 𝓤) (A : Atoms 𝓤) (W : Given
     goes p =
         qed W ((‵ (flft κ q) ⊛ ‵ ftrue) ∷ ‵ (owns (ShrSlice (named 0) κ u8 ∷ []) (s, tt) at) ∷ []) ∵ enter ! Cs Λ code.function (v ∷ []) _ $
         alloc1 ! (λ l₀. alloc1 ! (λ l₁. alloc1 ! (λ l₂. alloc0 ! $ params1 ! $ pass1 ! (init ! 2 refl (shr-slice-lawful 𝓤 H A W (named 0) κ u8 .typed s (v ∷ []) p .0)) $ pass0 ! $
-        use0 W (raw (Start 𝓤 H A mem run .pre to)) asked $
+        use0 W (raw (Start 𝓤 H A mem run .pre to)) required $
         calls-at ! fm (Start 𝓤 H A mem run) known to (no-more !) (λ u.
         use1 W (later (some (λ (k : Cursor). (‵ ftrue ⊛ ‵ (K.the-row .own k (u ∷ []))) ⊛ raw (ensured 𝓤 H A start.ended (start.clauses 𝓤 H A mem run) tt tt tt k)))) (id⊢ 𝓤 _) $ await ! tt $ pick ! (λ k.
         split ! $ move ! (1 ∷ []) $ use1 W (raw (fact 𝓤 (k ≡ startCursor))) (said k) $ heard ! (k ≡ startCursor) (λ e. split ! $ drop ! $

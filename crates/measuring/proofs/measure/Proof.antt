@@ -19,7 +19,7 @@ use Rattle.measuring.proofs.measure.Tie as tie
 abbrev start : tie.After-older-at → tie.Start
 start c = c .before .before .before .before .before
 
--- the pair and the vector that are asked
+-- the pair and the vector that are measured
 abbrev pairIn : tie.Start → Pair
 pairIn s = pairOf (now (s .args .older)) (now (s .args .newer)) (s .args .s)
 

@@ -1,4 +1,4 @@
--- `first`: the older block of (0,0) stands where the newer one stands.
+-- `at_origin`: the older block of (0,0) stands where the newer one stands.
 use native.Mathlib.Omega.{arith}
 use Rattle.probe.proofs.Looks.{at-origin-is}
 use Rattle.probe.proofs.at_origin.Statement.{statement}

@@ -21,11 +21,11 @@ abbrev μ-loop : tie.MeasureT-loop
 μ-loop y x cy cx offsets i₀ i = length offsets - i
 
 -- whether the point is the one that this turn's offsets lead to
-asked : (c : tie.After-is-at Inv-loop μ-loop) →
+tested : (c : tie.After-is-at Inv-loop μ-loop) →
     let a = c .before .before .before .before .before .args in
     let i = c .before .before .before .before .loop .i in
     c .is-at .result ≡ same? (point (a .y) (a .x)) (plus (point (a .cy) (a .cx)) (offset (getD (now (a .offsets)) i [])))
-asked c =
+tested c =
     rw (toZ-ofZ (sfits-of (c .before .before .is-at-arg .given)), toZ-ofZ (sfits-of (c .before .is-at-arg2 .given))) at (c .is-at .ensures)
 
 loop-holds : tie.Need-loop-holds Inv-loop μ-loop
@@ -53,7 +53,7 @@ is-at-requires : tie.Need-is-at-requires Inv-loop μ-loop
 is-at-requires c κs = search needs
 
 returns : tie.Need-returns Inv-loop μ-loop
-returns c = missing-hit _ _ _ _ _ _ (c .before .before .before .before .before .loop .inv) (omega arith) (sym (asked (c .before)) ∙ c .if1 .taken)
+returns c = missing-hit _ _ _ _ _ _ (c .before .before .before .before .before .loop .inv) (omega arith) (sym (tested (c .before)) ∙ c .if1 .taken)
 
 add-i : tie.Need-add-i Inv-loop μ-loop
 add-i c = search needs
@@ -62,7 +62,7 @@ loop-less : tie.Need-loop-less Inv-loop μ-loop
 loop-less c = search needs
 
 loop-again : tie.Need-loop-again Inv-loop μ-loop
-loop-again c = missing-more _ _ _ _ _ _ (c .before .before .before .before .before .loop .inv) (omega arith) (sym (asked (c .before)) ∙ c .if1 .left)
+loop-again c = missing-more _ _ _ _ _ _ (c .before .before .before .before .before .loop .inv) (omega arith) (sym (tested (c .before)) ∙ c .if1 .left)
 
 returns-2 : tie.Need-returns-2 Inv-loop μ-loop
 returns-2 c = missing-last _ _ _ _ _ _ (c .before .loop .inv) (omega arith)

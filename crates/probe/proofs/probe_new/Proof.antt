@@ -1,4 +1,4 @@
--- `look_new`: outside window 16 there is no candidate; inside, the two shifted parts are the point.
+-- `probe_new`: outside window 16 there is no candidate; inside, the two shifted parts are the point.
 use Prim.Native.Nat.{_+_, _≤_}
 use mathlib.Core.Path.{_≡_, ap₂, subst, sym, _∙_}
 use native.Mathlib.Omega.{arith}

@@ -1,4 +1,4 @@
--- `look`: weighing answers nothing, less than the least, or no less.
+-- `probe_point`: the point is no candidate, or its distortion is less than the least, or no less.
 use mathlib.Core.Path.{_≡_, sym, _∙_}
 use native.Mathlib.Omega.{arith}
 use borrow.Author.Needs.{needs, sfits-of}

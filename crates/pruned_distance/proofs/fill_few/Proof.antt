@@ -21,7 +21,7 @@ Inv-loop block steps sums rowoffset m squares order o remaining count dist₀ i�
 abbrev μ-loop : tie.MeasureT-loop
 μ-loop block steps sums rowoffset m squares order o remaining count dist₀ i₀ dist i = count - i
 
--- what is asked of a turn's candidate
+-- what a turn's candidate must be
 candidate : (b : tie.In-loop Inv-loop μ-loop) →
     let a = b .before .before .before .before .before .args in
     let k = getD (now (a .remaining)) (b .before .loop .i) 0 in

@@ -21,7 +21,7 @@ abbrev μ-loop : tie.MeasureT-loop
 abbrev start : tie.After-place-of Inv-loop μ-loop → tie.Start Inv-loop μ-loop
 start c = c .before .before .before .before .before
 
--- what is asked of a turn's candidate
+-- what a turn's candidate must be
 candidate : (b : tie.In-loop Inv-loop μ-loop) →
     let a = b .before .before .args in
     let k = getD (now (a .remaining)) (b .before .loop .i) 0 in

@@ -1,4 +1,4 @@
--- `is_listed`: the three tests of the definition, in its order.
+-- `block_size_ok`: the three tests of the definition, in its order.
 use borrow.Author.Tests.{ne-eqb, eq-eqb}
 use Rattle.refusals.specs.Refusals.{blockSizeOk}
 use Rattle.refusals.proofs.block_size_ok.Statement.{statement}

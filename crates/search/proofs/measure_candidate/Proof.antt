@@ -1,4 +1,4 @@
--- `weigh`: the older block is the one that the vector names, and it lies inside.
+-- `measure_candidate`: the older block is the one that the vector names, and it lies inside.
 use mathlib.Core.Path.{_≡_, sym, _∙_}
 use borrow.Author.Needs.{needs}
 use lib.Dec.{T}

@@ -1,4 +1,4 @@
--- `gap`: the difference of two squares' sums fits 32 bits, and its magnitude is that of the integers' difference.
+-- `abs_diff_u32`: the difference of two squares' sums fits 32 bits, and its magnitude is that of the integers' difference.
 use mathlib.Core.Path.{ap, _∙_}
 use native.Mathlib.Omega.{arith}
 use borrow.Author.Needs.{needs}

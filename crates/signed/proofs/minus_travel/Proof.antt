@@ -1,4 +1,4 @@
--- `retreat`: y - d fits 64 bits whatever y and d are; the two tests are those of `movedBy`.
+-- `minus_travel`: y - d fits 64 bits whatever y and d are; the two tests are those of `movedBy`.
 use borrow.Author.Needs.{needs}
 use native.Mathlib.Omega.{arith}
 use mathlib.Core.Path.{_≡_, sym}

@@ -132,8 +132,8 @@ module _ {M : Type 1} (𝓤 : URA M) (H : Heap 𝓤) (A : Atoms 𝓤) (W : Given
   abbrev to : StepAt 𝓤 H A at-mem run .Ghost
   to = (((κ′, tt), (q′, tt), tt, (h .log, (h .cursor, tt)), passed), tt)
 
-  asked : ent 𝓤 (onEntry 𝓤 H A step.signature (κ′, tt) (q′, tt) (h .log, (h .cursor, tt)) passed) (StepAt 𝓤 H A at-mem run .pre to)
-  asked = qed W ((‵ (flft κ′ q′) ⊛ ‵ ftrue) ∷ ‵ (owns (ShrSlice (named 0) κ′ u8 ∷ K.the-row ∷ []) (h .log, (h .cursor, tt)) passed) ∷ []) ∵ join ! $ frame ! $ done !
+  required : ent 𝓤 (onEntry 𝓤 H A step.signature (κ′, tt) (q′, tt) (h .log, (h .cursor, tt)) passed) (StepAt 𝓤 H A at-mem run .pre to)
+  required = qed W ((‵ (flft κ′ q′) ⊛ ‵ ftrue) ∷ ‵ (owns (ShrSlice (named 0) κ′ u8 ∷ K.the-row ∷ []) (h .log, (h .cursor, tt)) passed) ∷ []) ∵ join ! $ frame ! $ done !
 
   -- what the struct owns gives what the callee asks, and is kept
   apart : ent 𝓤 (⋆ 𝓤 H A (‵ Own ∷ (‵ (flft κ′ q′) ⊛ ‵ ftrue) ∷ [])) (sep 𝓤 (StepAt 𝓤 H A at-mem run .pre to) (sem 𝓤 H A Own))
@@ -142,7 +142,7 @@ module _ {M : Type 1} (𝓤 : URA M) (H : Heap 𝓤) (A : Atoms 𝓤) (W : Given
       use1 W (‵ Own ⊛ ‵ Own) (LL.copy D (T′.the-copy (α κ′)) 𝓤 H A W .twice h (mach ∷ [])) $ split ! $
       use1 W (given (mach ∷ [] ≡ mach ∷ []) (‵ (all-own (D .parts) L hv))) (own-open 𝓤 H A W D L hv mach) $ learn ! (λ _.
       -- [what the fields own together; what the struct owns; the token]
-      move ! (2 ∷ 0 ∷ []) $ use2 W (raw (StepAt 𝓤 H A at-mem run .pre to)) asked $ frame ! $ done !)
+      move ! (2 ∷ 0 ∷ []) $ use2 W (raw (StepAt 𝓤 H A at-mem run .pre to)) required $ frame ! $ done !)
 
   said : (r : WalkStep) → ent 𝓤 (ensured 𝓤 H A step.ended (step.clauses 𝓤 H A at-mem run) (κ′, tt) (h .log, (h .cursor, tt)) tt r) (fact 𝓤 (r ≡ found))
   said r = exE 𝓤 _ (λ ws. snd∗ 𝓤 (sem 𝓤 H A (lasts step.ended (κ′, tt) (h .log, (h .cursor, tt)) ws)) (fact 𝓤 (r ≡ found)))
