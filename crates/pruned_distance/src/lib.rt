@@ -25,6 +25,15 @@ pub struct Origin {
     pub stride: usize,
 }
 
+// The squares of the candidates' older blocks in the summed-area table: where the older blocks stand, the places from a square's upper
+// row to its lower, a square's side, and how many squares a block has.
+struct TableSquares {
+    origin: Origin,
+    rowoffset: usize,
+    m: usize,
+    count: usize,
+}
+
 // The place of the older block of the vector at place k of the preference table.
 fn place_of(order: &[i32; order::NUMBERS], k: usize, o: Origin) -> usize
     requires { ⌜ (now order ≡ flat preference) × (k < vectorCount) × Reached o (preferred k) ⌝ }
@@ -39,22 +48,23 @@ fn fill_few(
     block: &[u32],
     steps: &[usize],
     sums: &[u32],
-    rowoffset: usize,
-    m: usize,
-    squares: usize,
+    s: TableSquares,
     order: &[i32; order::NUMBERS],
-    o: Origin,
     remaining: &[u16; order::VECTORS],
     count: usize,
     dist: &mut [u32; order::VECTORS],
 )
     requires { ⌜ (now order ≡ flat preference) × (length (now dist) ≡ vectorCount) × (length (now remaining) ≡ vectorCount) × (count ≤ vectorCount) ⌝ }
-    requires { ⌜ ((i : ℕ) → i < count → (getD (now remaining) i 0 < vectorCount) × Reached o (preferred (getD (now remaining) i 0))
-        × Compared (now block) (now steps) (now sums) rowoffset m squares (placeOf o (preferred (getD (now remaining) i 0)))) ⌝ }
+    requires { ⌜ ((i : ℕ) → i < count → (getD (now remaining) i 0 < vectorCount) × Reached (s .origin) (preferred (getD (now remaining) i 0))
+        × Compared (now block) (now steps) (now sums) (s .rowoffset) (s .m) (s .count) (placeOf (s .origin) (preferred (getD (now remaining) i 0)))) ⌝ }
     ensures { λ _. ⌜ now (dist .exit) ≡ fillTo (now (dist .entry)) 0
-        (λ i. sumTo (differenceAt (now (block .entry)) (now (steps .entry)) (now (sums .entry)) rowoffset m
-        (placeOf o (preferred (getD (now (remaining .entry)) i 0)))) squares) count ⌝ }
+        (λ i. sumTo (differenceAt (now (block .entry)) (now (steps .entry)) (now (sums .entry)) (s .rowoffset) (s .m)
+        (placeOf (s .origin) (preferred (getD (now (remaining .entry)) i 0)))) (s .count)) count ⌝ }
 {
+    let o = s.origin;
+    let rowoffset = s.rowoffset;
+    let m = s.m;
+    let squares = s.count;
     let mut i: usize = 0;
     while i < count {
         let at = place_of(order, signed::wide_u16(remaining[i]), o);
@@ -160,10 +170,11 @@ pub fn fill_distances(
     let stride = a.columns + 1;
     let mut block = [0u32; pruned_subblocks::MOST_SQUARES];
     let mut steps = [0usize; pruned_subblocks::MOST_SQUARES];
+    let blockstride = s.n + 1;
     let q = Subblocks {
         m,
         k,
-        blockstride: s.n + 1,
+        blockstride,
         stride,
     };
     pruned_subblocks::cut(blocksums, q, &mut block, &mut steps);
@@ -177,19 +188,15 @@ pub fn fill_distances(
             left,
             stride,
         };
-        fill_few(
-            &block,
-            &steps,
-            sums,
-            m * stride,
+        let rowoffset = m * stride;
+        let squares = k * k;
+        let t = TableSquares {
+            origin: o,
+            rowoffset,
             m,
-            k * k,
-            order,
-            o,
-            remaining,
-            count,
-            dist,
-        );
+            count: squares,
+        };
+        fill_few(&block, &steps, sums, t, order, remaining, count, dist);
     } else {
         fill_many(
             older,

@@ -59,8 +59,8 @@ div-k c = search needs
 add-stride : tie.Need-add-stride
 add-stride c = search needs
 
-add-t23 : tie.Need-add-t23
-add-t23 c = omega (arith, size _ _ _ _ _ _ _ _ (entry (c .before .before .before .before) .pre .2))
+add-blockstride : tie.Need-add-blockstride
+add-blockstride c = omega (arith, size _ _ _ _ _ _ _ _ (entry (c .before .before .before .before) .pre .2))
 
 slice-aggregate-cut : tie.Need-slice-aggregate-cut
 slice-aggregate-cut c = search needs
@@ -77,21 +77,21 @@ cut-requires c κs =
     let narrows = narrow _ _ _ _ _ _ _ _ t in
     (cuttable _ _ _ _ (s .pre .3) refl (t .whole) small narrows (λ i j. newer-bytes (given c) _), few, few)
 
+mul-rowoffset : tie.Need-mul-rowoffset
+mul-rowoffset c =
+    let k = c .before .before .before in
+    omega (arith, rowoffset-small _ _ _ _ _ _ _ _ (tested k) _ _ _ (tested k .whole) (squares k) (olds k) (news k))
+
+mul-squares : tie.Need-mul-squares
+mul-squares c =
+    let k = c .before .before .before in
+    omega (arith, few-squares _ _ _ _ _ _ _ _ (tested k) _ _ _ (tested k .whole) (squares k) (olds k) (news k))
+
 slice-aggregate-fill-few : tie.Need-slice-aggregate-fill-few
 slice-aggregate-fill-few c = search needs
 
 slice-aggregate-fill-few-2 : tie.Need-slice-aggregate-fill-few-2
 slice-aggregate-fill-few-2 c = search needs
-
-mul-fill-few : tie.Need-mul-fill-few
-mul-fill-few c =
-    let k = c .before .before .before .before .before in
-    omega (arith, rowoffset-small _ _ _ _ _ _ _ _ (tested k) _ _ _ (tested k .whole) (squares k) (olds k) (news k))
-
-mul-fill-few-2 : tie.Need-mul-fill-few-2
-mul-fill-few-2 c =
-    let k = c .before .before .before .before .before in
-    omega (arith, few-squares _ _ _ _ _ _ _ _ (tested k) _ _ _ (tested k .whole) (squares k) (olds k) (news k))
 
 fill-few-requires : tie.Need-fill-few-requires
 fill-few-requires c κs =
@@ -131,14 +131,14 @@ fill-distances-spec =
     (tie.spec
     div-k
     add-stride
-    add-t23
+    add-blockstride
     slice-aggregate-cut
     slice-aggregate-cut-2
     cut-requires
+    mul-rowoffset
+    mul-squares
     slice-aggregate-fill-few
     slice-aggregate-fill-few-2
-    mul-fill-few
-    mul-fill-few-2
     fill-few-requires
     slice-aggregate-fill-many
     slice-aggregate-fill-many-2

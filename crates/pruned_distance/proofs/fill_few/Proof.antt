@@ -15,22 +15,25 @@ use Rattle.pruned_distance.proofs.fill_few.Statement.{statement}
 use Rattle.pruned_distance.proofs.fill_few.Tie as tie
 
 abbrev Inv-loop : tie.InvT-loop
-Inv-loop block steps sums rowoffset m squares order o remaining count dist₀ i₀ dist i =
+Inv-loop block steps sums order remaining count dist₀ o rowoffset m squares i₀ dist i =
     Filling (λ j. sumTo (differenceAt block steps sums rowoffset m (placeOf o (preferred (getD remaining j 0)))) squares) count dist₀ dist i
 
 abbrev μ-loop : tie.MeasureT-loop
-μ-loop block steps sums rowoffset m squares order o remaining count dist₀ i₀ dist i = count - i
+μ-loop block steps sums order remaining count dist₀ o rowoffset m squares i₀ dist i = count - i
+
+abbrev start : tie.At-loop Inv-loop μ-loop → tie.Start Inv-loop μ-loop
+start l = l .before .before .before .before .before
 
 -- what a turn's candidate must be
 candidate : (b : tie.In-loop Inv-loop μ-loop) →
-    let a = b .before .before .before .before .before .args in
+    let a = start (b .before) .args in
     let k = getD (now (a .remaining)) (b .before .loop .i) 0 in
-    (k < vectorCount) × Reached (a .o) (preferred k)
-    × Compared (now (a .block)) (now (a .steps)) (now (a .sums)) (a .rowoffset) (a .m) (a .squares) (placeOf (a .o) (preferred k))
-candidate b = b .before .before .before .before .before .pre .1 (b .before .loop .i) (b .loop-test .taken)
+    (k < vectorCount) × Reached (a .s .origin) (preferred k)
+    × Compared (now (a .block)) (now (a .steps)) (now (a .sums)) (a .s .rowoffset) (a .s .m) (a .s .count) (placeOf (a .s .origin) (preferred k))
+candidate b = start (b .before) .pre .1 (b .before .loop .i) (b .loop-test .taken)
 
 loop-holds : tie.Need-loop-holds Inv-loop μ-loop
-loop-holds c = filling-first _ _ _ (c .before .before .before .pre .0 .1)
+loop-holds c = filling-first _ _ _ (c .before .before .before .before .pre .0 .1)
 
 mul-wide-u16 : tie.Need-mul-wide-u16 Inv-loop μ-loop
 mul-wide-u16 c = search needs
@@ -45,7 +48,7 @@ place-of-requires : tie.Need-place-of-requires Inv-loop μ-loop
 place-of-requires c κs =
     let b = c .before .before in
     let h = candidate b in
-    rw (c .wide-u16 .ensures) (b .before .before .before .before .before .pre .0 .0, h .0, h .1)
+    rw (c .wide-u16 .ensures) (start (b .before) .pre .0 .0, h .0, h .1)
 
 distance-from-requires : tie.Need-distance-from-requires Inv-loop μ-loop
 distance-from-requires c κs = rw (c .place-of .ensures, c .before .wide-u16 .ensures) (candidate (c .before .before .before) .2)
@@ -71,7 +74,7 @@ loop-again c =
 returns : tie.Need-returns Inv-loop μ-loop
 returns c =
     let l = c .before .loop in
-    let e : l .i ≡ c .before .before .before .before .before .args .count = omega arith in
+    let e : l .i ≡ start (c .before) .args .count = omega arith in
     rw e at (l .inv .filled)
 
 pub fill-few-spec : {M : Type 1} → statement M
