@@ -14,10 +14,10 @@ use lib.Dec.{T, leb, leb→le, le→leb}
 use lib.IntN.{ℤ, pos, negsuc, natAbs, _+ℤ_}
 use lib.Signed.{_≤ℤ_, leZ-yes}
 use borrow.Author.Tests.{lt-leb}
-use Rattle.base.specs.Tests.{and-left, and-right, and-both, le-both, iff-test}
+use Rattle.base.specs.Tests.{and-left, and-right, and-both, iff-test}
 use Rattle.signed.specs.Int.{up, dn, added}
 use Rattle.order.specs.declared.Vector.{Vector}
-use Rattle.order.specs.Vectors.{vec, Within}
+use Rattle.order.specs.Vectors.{vec, Within, inWindow, within-yes, within-true}
 use Rattle.frame.specs.declared.Sizes.{Sizes}
 use Rattle.frame.specs.declared.Older.{Older}
 use Rattle.frame.specs.declared.Older.the-variants.{At as Older·At, Outside as Older·Outside}
@@ -44,9 +44,6 @@ pub record Candidate (s : Sizes) (w y x : ℕ) (v : Vector) : Type 0 where
 abbrev pub inside : ℤ → ℕ → ℕ → Bool
 inside (pos a) n side = leb (a + n) side
 inside (negsuc a) n side = false
-
-abbrev pub inWindow : ℕ → Vector → Bool
-inWindow w v = leb (natAbs (v .dy)) w && leb (natAbs (v .dx)) w
 
 -- the block at row r, column c lies wholly inside the frame
 abbrev pub blockInside : Sizes → ℤ → ℤ → Bool
@@ -76,13 +73,6 @@ inside-up (negsuc a) n side t = absurd t
 inside-at : (z : ℤ) (n side a : ℕ) → up z ≡ a + dn z → a + n ≤ side → T (inside z n side)
 inside-at (pos b) n side a e h = le→leb (b + n) side (omega arith)
 inside-at (negsuc b) n side a e h = absurd (omega arith)
-
-within-yes : (w : ℕ) (v : Vector) → T (inWindow w v) → Within w v
-within-yes w v t = let b = le-both (natAbs (v .dy)) w (natAbs (v .dx)) w t in record { down = b .0; across = b .1 }
-
-within-true : (w : ℕ) (v : Vector) → Within w v → T (inWindow w v)
-within-true w v i =
-    and-both (leb (natAbs (v .dy)) w) (leb (natAbs (v .dx)) w) (le→leb (natAbs (v .dy)) w (i .down)) (le→leb (natAbs (v .dx)) w (i .across))
 
 -- what a candidate's older block is, in plain numbers
 pub record OlderInside (s : Sizes) (w y x : ℕ) (v : Vector) : Type 0 where

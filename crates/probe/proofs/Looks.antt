@@ -16,9 +16,9 @@ use Rattle.signed.specs.declared.Shifted.the-variants.{At, Outside}
 use Rattle.signed.specs.Int.{up, dn, parts, eqZ, eqZ-is}
 use Rattle.signed.specs.Values.{bias, unbias, bias-unbias, unbias-is, shiftedBy, point-is, point-out}
 use Rattle.order.specs.declared.Vector.{Vector}
-use Rattle.order.specs.Vectors.{vec, Within, same?}
+use Rattle.order.specs.Vectors.{vec, Within, same?, inWindow}
 use Rattle.frame.specs.Pictures.{Pair}
-use Rattle.frame.specs.Candidates.{inWindow, candidate, candidate-older}
+use Rattle.frame.specs.Candidates.{candidate, candidate-older}
 use Rattle.distortion.specs.Blocks.{absolute, blockAt, newerBlock, distortionBy}
 use Rattle.frame.specs.declared.SearchBlock.{SearchBlock}
 use Rattle.search.specs.declared.MeasuredCandidate.the-variants.{Distortion, NotCandidate}

@@ -11,9 +11,9 @@ use lib.ListN.{length}
 use Rattle.base.specs.Tests.{and-left, and-right, le-both, true-T, iff-test}
 use Rattle.signed.specs.Int.{eqZ, eqZ-is, up, dn, sum, added}
 use Rattle.order.specs.declared.Vector.{Vector}
-use Rattle.order.specs.Vectors.{vec, Within, same?}
+use Rattle.order.specs.Vectors.{vec, Within, same?, inWindow}
 use Rattle.frame.specs.Pictures.{Pair}
-use Rattle.frame.specs.Candidates.{inWindow, candidate-yes, candidate-wider}
+use Rattle.frame.specs.Candidates.{candidate-yes, candidate-wider}
 use Rattle.distortion.specs.Blocks.{distortion}
 use Rattle.search.specs.Target.{Target, target}
 use Rattle.search.specs.Exhaustive.{Best}

@@ -69,8 +69,8 @@ pub majority-ext : (f g : ℕ → Vector) (n : ℕ) → ((k : ℕ) → k < n →
 unfolding majority
 majority-ext f g n e = ap preferred (most-ext _ _ vectorCount (λ k h. votes-ext f g n e (preferred k)))
 
-within? : (v : Vector) → Dec (Within 16 v)
-within? v = go (decLe (natAbs (v .dy)) 16) (decLe (natAbs (v .dx)) 16)
+decWithin : (v : Vector) → Dec (Within 16 v)
+decWithin v = go (decLe (natAbs (v .dy)) 16) (decLe (natAbs (v .dx)) 16)
   where
     go : Dec (natAbs (v .dy) ≤ 16) → Dec (natAbs (v .dx) ≤ 16) → Dec (Within 16 v)
     go (yes a) (yes b) = yes (record { down = a; across = b })
@@ -110,7 +110,7 @@ module _ (has : ℕ → Vector) (n : ℕ) where
 
 pub majority-most : (has : ℕ → Vector) (n : ℕ) → 0 < n → ((k : ℕ) → k < n → Within 16 (has k)) → Most has n (majority has n)
 unfolding majority
-majority-most has n some all = record { most = λ u ne. other u ne (within? u) }
+majority-most has n some all = record { most = λ u ne. other u ne (decWithin u) }
   where
     other : (u : Vector) → (u ≡ preferred (top has n) → ⊥) → Dec (Within 16 u) → Behind has n (preferred (top has n)) u
     other u ne (yes w) = behind has n u w ne
