@@ -8,12 +8,16 @@ use Rattle.distortion.specs.Blocks.{Comparable, begins, block-inside}
 use Rattle.full.proofs.choose_of_many.Statement.{statement}
 use Rattle.full.proofs.choose_of_many.Tie as tie
 
+-- back to the function's entry
+abbrev start : tie.After-struct-known → tie.Start
+start c = c .before .before .before .before
+
 -- the block against the older one at the same place
-own : (s : tie.Start) → let b = s .args .b in Comparable (now (s .args .older)) (now (s .args .newer)) (b .sizes) (b .y) (b .x) (b .y) (b .x)
-own s = let p = s .pre .0 .0 .placed in record { placed = p; down = p .down; across = p .across }
+at-its-place : (s : tie.Start) → let b = s .args .b in Comparable (now (s .args .older)) (now (s .args .newer)) (b .sizes) (b .y) (b .x) (b .y) (b .x)
+at-its-place s = let p = s .pre .0 .0 .placed in record { placed = p; down = p .down; across = p .across }
 
 first : (s : tie.Start) → let b = s .args .b in b .y * b .sizes .width + b .x ≤ length (now (s .args .newer))
-first s = begins _ _ _ _ _ _ _ (own s) .0
+first s = begins _ _ _ _ _ _ _ (at-its-place s) .0
 
 choose-requires : tie.Need-choose-requires
 choose-requires c κs = c .before .before .before .before .before .pre
@@ -22,15 +26,16 @@ returns : tie.Need-returns
 returns c = c .choose .ensures
 
 mul-here : tie.Need-mul-here
-mul-here c = omega (arith, first (c .before .before .before .before .before .before))
+mul-here c = omega (arith, first (start (c .before .before)))
 
 add-here : tie.Need-add-here
-add-here c = omega (arith, first (c .before .before .before .before .before .before .before))
+add-here c = omega (arith, first (start (c .before .before .before)))
 
 copy-block-requires : tie.Need-copy-block-requires
 copy-block-requires c κs =
-    let s = c .before .before .before .before .before .before .before .before in
-    let k = block-inside _ _ _ _ _ _ _ (own s) in
+    let e = c .before .before .before .before in
+    let s = e .before .before .before .before in
+    let k = block-inside _ _ _ _ _ _ _ (at-its-place s) in
     (rw (c .before .before .before .if1 .left) at (k .in-newer), k .wide, refl)
 
 choose-copied-requires : tie.Need-choose-copied-requires

@@ -38,7 +38,7 @@ column c = rw (toZ-ofZ (start (c .before .before) .fits .dx)) at (c .shift2 .ens
 
 -- where the function began
 abbrev begun : tie.After-known-told2 → tie.Start
-begun c = c .before .before .before .before .before .before .before .before .before .before
+begun c = start (c .before .before .before .before .before)
 
 -- both parts lie in window 16, and are the point
 placed : (c : tie.After-known-told2) →

@@ -46,14 +46,30 @@ slice-aggregate-fill-sums : tie.Need-slice-aggregate-fill-sums Inv-loop μ-loop
 slice-aggregate-fill-sums c = search needs
 
 fill-sums-requires : tie.Need-fill-sums-requires Inv-loop μ-loop
-fill-sums-requires c κs = rw (c .before .block-region .ensures) (block-fillable _ _ _ (c .before .before .before .before .before .before .pre .0 .ready))
+fill-sums-requires c κs =
+    let s = c .before .before .before .before .before in
+    rw (c .before .block-region .ensures) (block-fillable _ _ _ (s .before .pre .0 .ready))
+
+-- ---- back from a place: to the distances before a sifting, the gathering, the block's table, the function's entry
+
+abbrev measured : tie.After-sifted Inv-loop μ-loop → tie.After-dist Inv-loop μ-loop
+measured c = c .before .before .before .before
+
+abbrev gathered : tie.After-dist Inv-loop μ-loop → tie.After-gather Inv-loop μ-loop
+gathered c = c .before .before .before .before
+
+abbrev summed : tie.After-gather Inv-loop μ-loop → tie.After-fill-sums Inv-loop μ-loop
+summed c = c .before .before .before
+
+abbrev known : tie.After-fill-sums Inv-loop μ-loop → tie.After-shared-slice-known2 Inv-loop μ-loop
+known c = c .before .before .before .before .before
 
 abbrev start : tie.After-fill-sums Inv-loop μ-loop → tie.Start Inv-loop μ-loop
-start c = c .before .before .before .before .before .before .before
+start c = known c .before .before
 
--- where the table is filled, from where the loop begins
+-- from where the loop begins
 abbrev tabled : tie.At-loop Inv-loop μ-loop → tie.After-fill-sums Inv-loop μ-loop
-tabled c = c .before .before .before .before .before .before .before .before .before .before .before .before
+tabled c = summed (gathered (measured (c .before)))
 
 block-sums : (c : tie.After-fill-sums Inv-loop μ-loop) →
     let a = start c .args in
@@ -66,14 +82,15 @@ gather-requires : tie.Need-gather-requires Inv-loop μ-loop
 gather-requires c κs = search needs
 
 begin-requires : tie.Need-begin-requires Inv-loop μ-loop
-begin-requires c κs = let s = c .before .before .before .before .before .before .before .before .before .before in (s .pre .0 .ready, s .pre .1)
+begin-requires c κs = let s = start (summed c) in (s .pre .0 .ready, s .pre .1)
 
 slice-aggregate-fill-distances : tie.Need-slice-aggregate-fill-distances Inv-loop μ-loop
 slice-aggregate-fill-distances c = search needs
 
 fill-distances-requires : tie.Need-fill-distances-requires Inv-loop μ-loop
 fill-distances-requires c κs =
-    let o = c .before .before .before .before .before .before .before in
+    let g = gathered c in
+    let o = summed g in
     let s = start o in
     let l = s .pre .0 in (
       s .pre .1,
@@ -82,22 +99,25 @@ fill-distances-requires c κs =
         lent = l;
         whole = div-mul-cancel _ (dvd-refl _);
         two = two-least _ (l .ready .placed .paired .allowed);
-        listed = gathered-listed _ (c .before .before .before .before .gather .ensures) refl;
+        listed = gathered-listed _ (g .gather .ensures) refl;
       },
       block-sums o,
     )
 
 sifted-requires : tie.Need-sifted-requires Inv-loop μ-loop
 sifted-requires c κs =
-    let a = c .before .before .before .before .before .before .before .gather .ensures in
-    let f = c .before .before .before .before .before .before .begin .ensures in
+    let d = c .before .before .before in
+    let a = gathered d .gather .ensures in
+    let f = d .before .before .before .begin .ensures in
     (gathered-long _ a refl, omega (arith, gathered-few _ a, f .count), omega (arith, f .slot))
 
 loop-holds : tie.Need-loop-holds Inv-loop μ-loop
 loop-holds c =
-    let s = start (c .before .before .before .before .before .before .before .before .before .before .before) in
-    let a = c .before .before .before .before .before .before .before .before .gather .ensures in
-    let f = c .before .before .before .before .before .before .before .begin .ensures in
+    let m = c .before .before .before .before in
+    let g = m .before .before .before .before in
+    let s = start (g .before .before .before) in
+    let a = g .gather .ensures in
+    let f = m .before .before .before .begin .ensures in
     let d = filled-is _ _ _ _ _ (c .before .before .before .fill-distances .ensures) refl (gathered-few _ a) in
     let t = c .sifted .ensures in
     let r = s .pre .0 .ready in
@@ -153,7 +173,7 @@ measure-remaining-requires : tie.Need-measure-remaining-requires Inv-loop μ-loo
 measure-remaining-requires c κs =
     let i = c .before .before in
     let l = i .loop .inv in
-    let few = gathered-few _ (i .before .before .before .before .before .before .before .before .before .gather .ensures) in
+    let few = gathered-few _ (gathered (measured (i .before)) .gather .ensures) in
     let s = start (tabled i) in
     ((s .pre .0 .ready, s .pre .1), (going-listed (l .0), going-some (l .0), omega (arith, l .0 .slots), omega (arith, going-few (l .0), l .1), few))
 
