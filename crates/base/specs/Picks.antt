@@ -6,7 +6,8 @@ use Prim.Native.Nat.{ℕ, zero, suc, _+_, _≤_, _<_, zero-le}
 use mathlib.Core.Path.{_≡_, refl, sym, ap, ap₂, _∙_, subst}
 use mathlib.Core.Logic.{_⊎_, inl, inr, ⊎-elim}
 use mathlib.Core.Bool.{Bool, true, false, cond}
-use mathlib.Core.List.{List, [], _∷_, _++_, append-nil, List·Memᴰ·head, List·Memᴰ·cases-cons, List·Memᴰ·not-nil, List·Memᴰ·eq-of-singleton, Memᴰ·append-left, Memᴰ·append-right, List·Memᴰ·append-cases}
+use mathlib.Core.List.{List, [], _∷_, _++_, append-nil, List·Memᴰ·head}
+use mathlib.Core.List.{List·Memᴰ·cases-cons, List·Memᴰ·not-nil, List·Memᴰ·eq-of-singleton, Memᴰ·append-left, Memᴰ·append-right, List·Memᴰ·append-cases}
 use native.Mathlib.Nat.{add-zero, zero-add, le-refl, le-step, le-of-eq, lt-suc-self, not-suc-le-zero, eq-or-lt-of-le, le-of-suc-le-suc}
 use native.Mathlib.Numerals.{add-one}
 use native.Mathlib.Omega.{arith}
@@ -130,7 +131,8 @@ unfolding pickFrom
 pickFrom-more p k zero = rw add-zero
 pickFrom-more p k (suc n) =
     let e : suc k + n ≡ k + suc n = omega arith in
-    ap (consIf (p k) k) (pickFrom-more p (suc k) n ∙ ap (λ (j : ℕ). pickFrom p (suc k) n ++ consIf (p j) j []) e) ∙ sym (consIf-append (p k) k (pickFrom p (suc k) n) _)
+    ap (consIf (p k) k) (pickFrom-more p (suc k) n ∙ ap (λ (j : ℕ). pickFrom p (suc k) n ++ consIf (p j) j []) e)
+    ∙ sym (consIf-append (p k) k (pickFrom p (suc k) n) _)
 
 pub pick-from : (p : ℕ → Bool) (n : ℕ) → pick p n ≡ pickFrom p 0 n
 unfolding pick pickFrom

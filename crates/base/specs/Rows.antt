@@ -8,7 +8,8 @@ use native.Mathlib.Nat.{zero-mul, suc-mul}
 use native.Mathlib.Omega.{arith}
 use lib.ListN.{length, getD, drop, drop-of-length-le, List·getD-append}
 use Rattle.base.specs.Index.{row-next, row-fits}
-use Rattle.base.specs.Lists.{listTo, concatTo, fillTo, length-listTo, listTo-ext, getD-listTo, concatTo-more, concatTo-ext, length-concatTo, getD-concatTo, length-fill, fill-join, front-behind}
+use Rattle.base.specs.Lists.{listTo, concatTo, fillTo, length-listTo, listTo-ext, getD-listTo}
+use Rattle.base.specs.Lists.{concatTo-more, concatTo-ext, length-concatTo, getD-concatTo, length-fill, fill-join, front-behind}
 use Rattle.base.specs.Fronts.{drop-front}
 
 abbrev pub inRows : (ℕ → ℕ → ℕ) → ℕ → ℕ → List ℕ
@@ -35,7 +36,8 @@ in-rows-self l zero k h = rw zero-mul
 in-rows-self l (suc p) k h =
     let more = suc-mul p k in
     in-rows-self l p k (omega arith)
-    ∙ rw more (ap (_++_ (inRows (λ i j. getD l (i * k + j) 0) p k)) (drop-front l (p * k) k 0 (omega arith)) ∙ sym (append-assoc (inRows (λ i j. getD l (i * k + j) 0) p k) (listTo (λ i. getD l (p * k + i) 0) k) (drop (p * k + k) l)))
+    ∙ rw more (ap (_++_ (inRows (λ i j. getD l (i * k + j) 0) p k)) (drop-front l (p * k) k 0 (omega arith))
+    ∙ sym (append-assoc (inRows (λ i j. getD l (i * k + j) 0) p k) (listTo (λ i. getD l (p * k + i) 0) k) (drop (p * k + k) l)))
 
 pub record Rowed (f : ℕ → ℕ → ℕ) (k : ℕ) (before list : List ℕ) (p : ℕ) : Type 0 where
   pub long : length list ≡ length before
@@ -46,7 +48,8 @@ module _ (f : ℕ → ℕ → ℕ) (k : ℕ) (before : List ℕ) where
   unfolding concatTo
   rowed-first = record { long = refl; filled = rw zero-mul }
 
-  pub rowed-more : (list next : List ℕ) (p from : ℕ) → Rowed f k before list p → from ≡ p * k → from + k ≤ length list → next ≡ fillTo list from (f p) k → Rowed f k before next (p + 1)
+  pub rowed-more : (list next : List ℕ) (p from : ℕ) → Rowed f k before list p → from ≡ p * k → from + k ≤ length list → next ≡ fillTo list from (f p) k
+      → Rowed f k before next (p + 1)
   rowed-more list next p from g e room h = record {
     long = rw h (length-fill list from (f p) k room ∙ g .long);
     filled =

@@ -6,7 +6,8 @@ use Prim.Native.Nat.{ℕ, zero, suc, _+_, _*_, _≤_, _<_}
 use mathlib.Core.Path.{_≡_, refl, sym, ap, ap₂, _∙_}
 use mathlib.Core.Logic.{⊎-elim}
 use mathlib.Core.List.{List, [], _∷_, _++_}
-use native.Mathlib.Nat.{add-zero, add-suc, add-assoc, zero-mul, mul-zero, suc-mul, mul-add, le-refl, add-le-add, lt-suc-self, le-step, le-trans, le-add-left, le-add-right, eq-or-lt-of-le, le-of-suc-le-suc}
+use native.Mathlib.Nat.{add-zero, add-suc, add-assoc, zero-mul, mul-zero, suc-mul, mul-add, le-refl}
+use native.Mathlib.Nat.{add-le-add, lt-suc-self, le-step, le-trans, le-add-left, le-add-right, eq-or-lt-of-le, le-of-suc-le-suc}
 use native.Mathlib.Numerals.{add-one}
 use native.Mathlib.Omega.{arith}
 use lib.IntN.{ℤ, pos, _+ℤ_, +ℤ-assoc, +ℤ-idl, +ℤ-idr}

@@ -13,7 +13,8 @@ use lib.ListN.{length}
 use Rattle.base.specs.Tests.{le-both}
 use Rattle.refusals.specs.declared.Request.{Request}
 use Rattle.frame.specs.Pictures.{Pair, pairOf}
-use Rattle.refusals.specs.Refusals.{unless, firstRefusal, placeOk, requestRefusal, sizesOf, unless-zero, first-refusal-zero, first-refusal-none, Placed, Requested, requested}
+use Rattle.refusals.specs.Refusals.{unless, firstRefusal, placeOk, requestRefusal, sizesOf}
+use Rattle.refusals.specs.Refusals.{unless-zero, first-refusal-zero, first-refusal-none, Placed, Requested, requested}
 use Rattle.search.specs.declared.SearchResult.{SearchResult}
 use Rattle.search.specs.Target.{target}
 use Rattle.search.specs.SearchResult.{refusedSearch}

@@ -1,5 +1,5 @@
--- Cross over any target: each step probes a list of points, so it reports the distortion of its own vector; each pass and the last cross have four points, and there are
--- log2 w - 1 passes before the one at p = 1.
+-- Cross over any target: each step probes a list of points, so it reports the distortion of its own vector; each pass and the last cross have four points,
+-- and there are log2 w - 1 passes before the one at p = 1.
 use Prim.Native.Nat.{ℕ, zero, suc, _+_, _-_, _*_, _/_, _≤_}
 use mathlib.Core.Path.{_≡_, refl, ap}
 use mathlib.Core.Bool.{Bool, true, false, cond}

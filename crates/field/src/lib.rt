@@ -63,7 +63,8 @@ fn fill_list(
 ) -> Total
     requires { ⌜ Prepared (now older) (now newer) q (now table) × (now order ≡ flat preference) ⌝ }
     requires { ⌜ (listSize (sizesOf q) ≤ length (now list)) × (now votes ≡ replicate vectorCount 0) ⌝ }
-    ensures { λ r. ⌜ BlocksFilled (searchAt (pairOf (now (older .entry)) (now (newer .entry)) (sizesOf q)) q) (blocks (sizesOf q)) (now (list .entry)) (now (list .exit)) (now (votes .exit)) r ⌝ }
+    ensures { λ r. ⌜ BlocksFilled (searchAt (pairOf (now (older .entry)) (now (newer .entry)) (sizesOf q)) q) (blocks (sizesOf q)) (now (list .entry))
+        (now (list .exit)) (now (votes .exit)) r ⌝ }
 {
     let n = frame::block_count(refusals::sizes_of(q));
     let mut total = Total {
@@ -85,7 +86,8 @@ fn fill_list(
 // The field call behind its refusals.
 fn fill(older: &[u8], newer: &[u8], q: Request, list: &mut [i32], table: &mut [u32]) -> FieldAnswer
     requires { ⌜ HasRoom (length (now older)) (length (now newer)) q (length (now list)) (length (now table)) ⌝ }
-    ensures { λ r. ⌜ fieldResult r (now (list .exit)) (now (table .exit)) ≡ acceptedField (now (older .entry)) (now (newer .entry)) q (now (list .entry)) (now (table .entry)) ⌝ }
+    ensures { λ r. ⌜ fieldResult r (now (list .exit)) (now (table .exit))
+        ≡ acceptedField (now (older .entry)) (now (newer .entry)) q (now (list .entry)) (now (table .entry)) ⌝ }
 {
     let order = order::table();
     fill_table(older, q, table);
@@ -111,7 +113,8 @@ pub fn field(
     list: &mut [i32],
     table: &mut [u32],
 ) -> FieldAnswer
-    ensures { λ r. ⌜ fieldResult r (now (list .exit)) (now (table .exit)) ≡ field (now (older .entry)) (now (newer .entry)) q (now (list .entry)) (now (table .entry)) ⌝ }
+    ensures { λ r. ⌜ fieldResult r (now (list .exit)) (now (table .exit))
+        ≡ field (now (older .entry)) (now (newer .entry)) q (now (list .entry)) (now (table .entry)) ⌝ }
 {
     let refusal = field_rules::field_refusal(older.len(), newer.len(), q, list.len(), table.len());
     if refusal != 0 {

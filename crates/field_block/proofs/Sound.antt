@@ -42,7 +42,12 @@ Bytes l = (i : ℕ) → getD l i 0 ≤ 255
 
 -- an answer that counts at m = 1 alone
 sound-at-one : (v : Vector) (d n : ℕ) → Within 16 v → d ≤ largestDistortion → n ≤ vectorCount → Sound (searchResult v d (onlyAtOne n) 0)
-sound-at-one v d n near few h = record { within = near; distortion = few; count = append-most vectorCount (replicate lastCount 0) (n ∷ []) (zeros-most _ lastCount) (one-most _ n h); dropped = omega arith }
+sound-at-one v d n near few h = record {
+  within = near;
+  distortion = few;
+  count = append-most vectorCount (replicate lastCount 0) (n ∷ []) (zeros-most _ lastCount) (one-most _ n h);
+  dropped = omega arith;
+}
 
 places-few : (p : Pair) (w y x : ℕ) → length (places (p .sizes) w y x) ≤ vectorCount
 places-few p w y x = pick-few _ vectorCount

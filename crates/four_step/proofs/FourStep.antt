@@ -1,5 +1,5 @@
--- Four-step over any target: each step probes a list of points, so it reports the distortion of its own vector; wherever a pattern moves to, at most five of its nine points
--- are new; and three moves by 2 and one by 1 end in window 7.
+-- Four-step over any target: each step probes a list of points, so it reports the distortion of its own vector; wherever a pattern moves to, at most five
+-- of its nine points are new; and three moves by 2 and one by 1 end in window 7.
 use Prim.Native.Nat.{ℕ, _+_, _≤_}
 use mathlib.Core.Path.{_≡_, ap, ap₂, subst, _∙_}
 use mathlib.Core.Bool.{Bool, true, false, cond}

@@ -121,7 +121,8 @@ module _ (s : Sizes) (w y x : ℕ) (v : Vector) where
       }
 
   -- a vector whose older block stands at row r, column c inside the frame
-  pub candidate-at : (r c : ℕ) → Within w v → r + dn (v .dy) ≡ y + up (v .dy) → r + s .n ≤ s .height → c + dn (v .dx) ≡ x + up (v .dx) → c + s .n ≤ s .width → T (candidate s w y x v)
+  pub candidate-at : (r c : ℕ) → Within w v → r + dn (v .dy) ≡ y + up (v .dy) → r + s .n ≤ s .height → c + dn (v .dx) ≡ x + up (v .dx) → c + s .n ≤ s .width
+      → T (candidate s w y x v)
   unfolding candidate
   candidate-at r c near er hr ec hc =
       and-both (inWindow w v) (rowInside && columnInside) (within-true w v near)
@@ -155,7 +156,8 @@ joined (At r) Outside = Older·Outside
 joined Outside c = Older·Outside
 
 -- a candidate is one by its row and by its column
-pub older-parts : (s : Sizes) (w y x : ℕ) (v : Vector) → olderAt s w y x v ≡ joined (partAt y (v .dy) w (s .n) (s .height)) (partAt x (v .dx) w (s .n) (s .width))
+pub older-parts : (s : Sizes) (w y x : ℕ) (v : Vector) → olderAt s w y x v
+    ≡ joined (partAt y (v .dy) w (s .n) (s .height)) (partAt x (v .dx) w (s .n) (s .width))
 unfolding olderAt candidate partAt
 older-parts s w y x v =
     go (leb (natAbs (v .dy)) w) (leb (natAbs (v .dx)) w) (inside (pos y +ℤ v .dy) (s .n) (s .height)) (inside (pos x +ℤ v .dx) (s .n) (s .width))

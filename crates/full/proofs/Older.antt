@@ -29,7 +29,12 @@ module _ (older newer : List ℕ) (b : SearchBlock) (k : ℕ) where
     pub begins-low : beginsAt b k ≤ 1048576
     begins-low =
         let p = r .placed .paired in
-        omega (arith, begins older newer _ _ _ _ _ (comparable older newer b k r t) .1, p .older-whole, frame-small (b .sizes .height) (b .sizes .width) (p .fitting .high) (p .fitting .wide))
+        omega (
+          arith,
+          begins older newer _ _ _ _ _ (comparable older newer b k r t) .1,
+          p .older-whole,
+          frame-small (b .sizes .height) (b .sizes .width) (p .fitting .high) (p .fitting .wide),
+        )
 
     pub begins-inside : b .sizes .n ≡ 16 → beginsAt b k + 16 * b .sizes .width + 16 ≤ length older + b .sizes .width
     begins-inside e = rw e at (block-inside older newer _ _ _ _ _ (comparable older newer b k r t) .in-older)

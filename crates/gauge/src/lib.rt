@@ -91,7 +91,8 @@ pub extern "C" fn gauge_field(
     list: &mut [i32],
     table: &mut [u32],
 ) -> FieldAnswer
-    ensures { λ r. ⌜ fieldResult r (now (list .exit)) (now (table .exit)) ≡ field (now (older .entry)) (now (newer .entry)) request (now (list .entry)) (now (table .entry)) ⌝ }
+    ensures { λ r. ⌜ fieldResult r (now (list .exit)) (now (table .exit))
+        ≡ field (now (older .entry)) (now (newer .entry)) request (now (list .entry)) (now (table .entry)) ⌝ }
 {
     field::field(older, newer, request, list, table)
 }
@@ -122,7 +123,8 @@ pub extern "C" fn gauge_step(
     list: &mut [i32],
     table: &mut [u32],
 ) -> Stepped
-    ensures { λ r. ⌜ stepResult r (now (list .exit)) (now (table .exit)) ≡ trackStep track (now (older .entry)) (now (newer .entry)) request (now (list .entry)) (now (table .entry)) ⌝ }
+    ensures { λ r. ⌜ stepResult r (now (list .exit)) (now (table .exit))
+        ≡ trackStep track (now (older .entry)) (now (newer .entry)) request (now (list .entry)) (now (table .entry)) ⌝ }
 {
     track.step(older, newer, request, list, table)
 }
@@ -146,7 +148,8 @@ pub extern "C" fn gauge_read_log(log: &[u8], list: &mut [i32]) -> LogRead
 // Prints a log: the text that the program writes, over the front of a buffer as far as it fits. Answers with the whole text's length.
 #[no_mangle]
 pub extern "C" fn gauge_print_log(log: &[u8], buffer: &mut [u8]) -> usize
-    ensures { λ r. ⌜ (now (buffer .exit) ≡ overFront (printLog (now (log .entry))) (now (buffer .entry))) × (r ≡ length (printLog (now (log .entry)))) × (r ≤ longestText) ⌝ }
+    ensures { λ r. ⌜ (now (buffer .exit) ≡ overFront (printLog (now (log .entry))) (now (buffer .entry)))
+        × (r ≡ length (printLog (now (log .entry)))) × (r ≤ longestText) ⌝ }
 {
     log_text::print_log(log, buffer)
 }

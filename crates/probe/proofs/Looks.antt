@@ -131,7 +131,8 @@ module _ (c : ℕ) (d : ℤ) (h : c ≤ 32) where
   pub from-out : (y : ℕ) → y ≤ 32 → shiftedBy c d 32 ≡ Outside → false ≡ eqZ (unbias 16 y) (unbias 16 c +ℤ d)
   from-out y l e =
       rw (eqZ-is (unbias 16 y) (unbias 16 c +ℤ d))
-      (sym (ne-eqb (up (unbias 16 y) + dn (unbias 16 c +ℤ d)) (up (unbias 16 c +ℤ d) + dn (unbias 16 y)) (λ q. omega (arith, moved-out e, at-bias y l, parts (unbias 16 y), parts (unbias 16 c +ℤ d)))))
+      (sym (ne-eqb (up (unbias 16 y) + dn (unbias 16 c +ℤ d)) (up (unbias 16 c +ℤ d) + dn (unbias 16 y))
+      (λ q. omega (arith, moved-out e, at-bias y l, parts (unbias 16 y), parts (unbias 16 c +ℤ d)))))
 
 -- ---- p times an offset
 
@@ -220,7 +221,8 @@ module _ (t : Target) (before : List Vector) (cy cx p : ℕ) (offsets : List (Li
     going-near h = each-head (Within 2) _ _ (rw (pairs-more offsets i h) at (g .near))
 
     pub going-more : (r : BestSoFar) → i < length offsets
-        → Holds r (probeNew t before (seenOf best) (plus (point cy cx) (vec (pos p *ℤ offset (getD offsets i []) .dy) (pos p *ℤ offset (getD offsets i []) .dx)))) (best .count + 1)
+        → Holds r (probeNew t before (seenOf best) (plus (point cy cx)
+        (vec (pos p *ℤ offset (getD offsets i []) .dy) (pos p *ℤ offset (getD offsets i []) .dx)))) (best .count + 1)
         → Going t before cy cx p offsets at-origin r (i + 1)
     unfolding around widened
     going-more r h k =

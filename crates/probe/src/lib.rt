@@ -123,7 +123,8 @@ fn probe_new(
     before: &[[i32; 2]],
 ) -> BestSoFar
     requires { ⌜ Ongoing (now older) (now newer) b s 1 × (cy ≤ 32) × (cx ≤ 32) × (oy ≤ 32) × (ox ≤ 32) × (length (now before) ≤ 9) ⌝ }
-    ensures { λ r. ⌜ Holds r (probeNew (targetOf (now (older .entry)) (now (newer .entry)) b) (around (point oy ox) (pairs (now (before .entry)))) (seenOf s) (plus (point cy cx) (vec dy dx))) (s .count + 1) ⌝ }
+    ensures { λ r. ⌜ Holds r (probeNew (targetOf (now (older .entry)) (now (newer .entry)) b) (around (point oy ox) (pairs (now (before .entry)))) (seenOf s)
+        (plus (point cy cx) (vec dy dx))) (s .count + 1) ⌝ }
 {
     let Shifted::At(y) = signed::shift(cy, dy, 32) else {
         return s;
@@ -162,7 +163,9 @@ pub fn pattern_new(
     before: &[[i32; 2]],
 ) -> BestSoFar
     requires { ⌜ Ongoing (now older) (now newer) b s 9 × Pattern (now offsets) × (p ≤ 8) × (oy ≤ 32) × (ox ≤ 32) × (length (now before) ≤ 9) ⌝ }
-    ensures { λ r. ⌜ Holds r (probe (targetOf (now (older .entry)) (now (newer .entry)) b) (seenOf s) (fresh (around (point oy ox) (pairs (now (before .entry)))) (around (point (s .y) (s .x)) (widened p (pairs (now (offsets .entry))))))) (s .count + 9) ⌝ }
+    ensures { λ r. ⌜ Holds r (probe (targetOf (now (older .entry)) (now (newer .entry)) b) (seenOf s)
+        (fresh (around (point oy ox) (pairs (now (before .entry))))
+        (around (point (s .y) (s .x)) (widened p (pairs (now (offsets .entry))))))) (s .count + 9) ⌝ }
 {
     let cy = s.y;
     let cx = s.x;
@@ -187,7 +190,8 @@ pub fn pattern(
     p: u32,
 ) -> BestSoFar
     requires { ⌜ Ongoing (now older) (now newer) b s 9 × Pattern (now offsets) × (p ≤ 8) ⌝ }
-    ensures { λ r. ⌜ Holds r (probe (targetOf (now (older .entry)) (now (newer .entry)) b) (seenOf s) (around (point (s .y) (s .x)) (widened p (pairs (now (offsets .entry)))))) (s .count + 9) ⌝ }
+    ensures { λ r. ⌜ Holds r (probe (targetOf (now (older .entry)) (now (newer .entry)) b) (seenOf s)
+        (around (point (s .y) (s .x)) (widened p (pairs (now (offsets .entry)))))) (s .count + 9) ⌝ }
 {
     pattern_new(older, newer, b, s, offsets, p, 16, 16, &offsets[0..0])
 }

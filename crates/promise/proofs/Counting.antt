@@ -106,7 +106,8 @@ module _ (p : Pair) (w y x : ℕ) (allowed : T (blockSizeOk (p .sizes .n))) (sma
         go true e =
             let h = pruned-holds p w y x (block-size-power (p .sizes .n) allowed) small down across in
             let r = in-mem (preferred k) gone (true-T (isGone k) e) in
-            let same-place : r .0 ≡ k = once (r .0) k (picked passes vectorCount (h .dropped-from (r .1)) .0) (picked passes vectorCount (h .left-from m) .0) (r .2) in
+            let same-place : r .0 ≡ k = once (r .0) k (picked passes vectorCount (h .dropped-from (r .1)) .0) (picked passes vectorCount (h .left-from m) .0)
+            (r .2) in
             absurd (h .apart m (subst (λ (j : ℕ). j ∈ gone) same-place (r .1)))
 
     counted : (b : ℕ → Bool) → total (λ k. one (b k)) (pruning p w y x .left) + total (λ k. one (b k)) gone ≡ length (pick (λ k. passes k && b k) vectorCount)

@@ -39,7 +39,8 @@ block-size-power = block-size-elim PowerOfTwo (1, refl) (2, refl) (3, refl)
 
 -- with at most three resolutions after N
 pub few-rounds : (n : ℕ) → T (blockSizeOk n) → length (resolutions n) < lastCount
-few-rounds = block-size-elim (λ n. length (resolutions n) < lastCount) (rw (resolutions-many 1) (omega arith)) (rw (resolutions-many 2) (omega arith)) (rw (resolutions-many 3) (omega arith))
+few-rounds = block-size-elim (λ n. length (resolutions n) < lastCount) (rw (resolutions-many 1) (omega arith)) (rw (resolutions-many 2) (omega arith))
+    (rw (resolutions-many 3) (omega arith))
 
 pub two-least : (n : ℕ) → T (blockSizeOk n) → 2 ≤ n
 two-least = block-size-elim (λ n. 2 ≤ n) (omega arith) (omega arith) (omega arith)

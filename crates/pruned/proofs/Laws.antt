@@ -1,5 +1,6 @@
 -- What search 2's answer is worth. Whatever N is, dropped and finally measured are all candidates. Where N is a power of two, at a block that stands
--- wholly inside, the answer is the exhaustive best, because no test drops it, and what is dropped is strictly worse. That five counts are enough is said of 01's N.
+-- wholly inside, the answer is the exhaustive best, because no test drops it, and what is dropped is strictly worse. That five counts are enough is said
+-- of 01's N.
 use Prim.Native.Nat.{ℕ, _+_, _≤_, _<_}
 use mathlib.Core.Path.{_≡_, refl, ap, _∙_}
 use lib.Dec.{T}
@@ -52,7 +53,8 @@ module _ (p : Pair) (w y x : ℕ) where
   measured few = last-count _ _ _ _ _ _ _ few
 
 -- N a power of two, and the block wholly inside
-module _ (p : Pair) (w y x : ℕ) (power : PowerOfTwo (p .sizes .n)) (small : w ≤ 16) (down : y + p .sizes .n ≤ p .sizes .height) (across : x + p .sizes .n ≤ p .sizes .width) where
+module _ (p : Pair) (w y x : ℕ) (power : PowerOfTwo (p .sizes .n)) (small : w ≤ 16) (down : y + p .sizes .n ≤ p .sizes .height)
+    (across : x + p .sizes .n ≤ p .sizes .width) where
   -- E begins as the distortion of (0,0), the candidate at place 0
   still-is : placeDistortion p y x 0 ≡ stillDistortion p y x
   still-is = ap (distortion p y x) first-still
@@ -70,7 +72,8 @@ module _ (p : Pair) (w y x : ℕ) (power : PowerOfTwo (p .sizes .n)) (small : w 
   unfolding prunedSearch prunedPlace distortion
   pruned-best =
       best-below p w y x small (prunedPlace p w y x)
-      (search-best absolute absolute-lawful (p .sizes .n) (newerBlock p y x) (λ k. olderBlock p y x (preferred k)) (resolutions (p .sizes .n)) (stillDistortion p y x)
+      (search-best absolute absolute-lawful (p .sizes .n) (newerBlock p y x) (λ k. olderBlock p y x (preferred k)) (resolutions (p .sizes .n))
+      (stillDistortion p y x)
       (resolutions-divide (p .sizes .n) power) _ 1088 (still-passes p w y x small down across) still-is)
 
   -- which is one vector: what the full search answers with

@@ -59,7 +59,8 @@ module _ (e : ℕ) (D : ℕ → ℕ) (d : ℕ → ℕ → ℕ) (N : ℕ) (p : �
   abbrev pub answered : SearchResult
   answered = searchResult (preferred best) (D best) (counts ended) (length (ended .dropped))
 
-module _ {e : ℕ} {D : ℕ → ℕ} {d : ℕ → ℕ → ℕ} {N : ℕ} {p : ℕ → Bool} {m : ℕ} {remaining dist : List ℕ} {r : PruneState} (g : Going e D d N p m remaining dist r) where
+module _ {e : ℕ} {D : ℕ → ℕ} {d : ℕ → ℕ → ℕ} {N : ℕ} {p : ℕ → Bool} {m : ℕ} {remaining dist : List ℕ} {r : PruneState}
+    (g : Going e D d N p m remaining dist r) where
   -- at least one remains
   pub going-some : 0 < r .count
   going-some = rw (← g .held .many) (holds-some (g .holds))
@@ -89,10 +90,18 @@ module _ {e : ℕ} {D : ℕ → ℕ} {d : ℕ → ℕ → ℕ} {N : ℕ} {p : �
         state = sift d (absolute .limit) m (lower D d m (g .state));
         held = held;
         holds = holds;
-        testsCounted = sift-counted D d (absolute .limit) (pick p vectorCount) m _ (lower-counted D d (absolute .limit) (pick p vectorCount) m _ (g .testsCounted));
+        testsCounted = sift-counted D d (absolute .limit) (pick p vectorCount) m _
+            (lower-counted D d (absolute .limit) (pick p vectorCount) m _ (g .testsCounted));
         ahead = g .ahead ∙ rounds-more D d (absolute .limit) m (g .state) h;
         divides = λ i k. g .divides i (rw (halvings-more m h) (List·Memᴰ·tail k));
-        slots = omega (arith, g .slots, g .held .slot, held .slot, length-append (g .state .tested) (length (g .state .left) ∷ []), ap length (halvings-more m h));
+        slots = omega (
+          arith,
+          g .slots,
+          g .held .slot,
+          held .slot,
+          length-append (g .state .tested) (length (g .state .left) ∷ []),
+          ap length (halvings-more m h),
+        );
         wide = wide;
       }
 
@@ -111,7 +120,8 @@ module _ {e : ℕ} {D : ℕ → ℕ} {d : ℕ → ℕ → ℕ} {N : ℕ} {p : �
 pub going-listed : {e : ℕ} {D : ℕ → ℕ} {d : ℕ → ℕ → ℕ} {N : ℕ} {b : SearchBlock} {m : ℕ} {remaining dist : List ℕ} {r : PruneState}
     → Going e D d N (candidateAt b) m remaining dist r → ListedCandidates b remaining (r .count)
 going-listed {b = b} {remaining = remaining} {r = r} g =
-    listed-front b remaining (g .state .left) (r .count) (g .held .long) (g .held .many) (g .held .left) (omega (arith, going-few g, pick-few (candidateAt b) vectorCount)) (λ k i. g .holds .left-from i)
+    listed-front b remaining (g .state .left) (r .count) (g .held .long) (g .held .many) (g .held .left)
+    (omega (arith, going-few g, pick-few (candidateAt b) vectorCount)) (λ k i. g .holds .left-from i)
 
 -- ---- before the loop
 
@@ -138,7 +148,8 @@ module _ (e : ℕ) (D : ℕ → ℕ) (N : ℕ) (b : SearchBlock) {before remaini
 
     -- after the test at N the rounds from N / 2 on lead to the end
     pub going-first : (d : ℕ → ℕ → ℕ) {after dist : List ℕ} {q : PruneState}
-        → (InMemory (r .slot) (allRemaining e (pick (candidateAt b) vectorCount)) remaining r → r .bound ≡ allRemaining e (pick (candidateAt b) vectorCount) .bound
+        → (InMemory (r .slot) (allRemaining e (pick (candidateAt b) vectorCount)) remaining r
+        → r .bound ≡ allRemaining e (pick (candidateAt b) vectorCount) .bound
         → InMemory (r .slot) (sift d (absolute .limit) N (allRemaining e (pick (candidateAt b) vectorCount))) after q)
         → length dist ≡ vectorCount → Attained D (pick (candidateAt b) vectorCount) e → Safe D d (absolute .limit) N → ((i : ℕ) → i ∈ resolutions N → i ∣ N)
         → length (resolutions N) < lastCount
@@ -150,7 +161,8 @@ module _ (e : ℕ) (D : ℕ → ℕ) (N : ℕ) (b : SearchBlock) {before remaini
           unused = r .slot;
           state = sift d (absolute .limit) N (allRemaining e (pick (candidateAt b) vectorCount));
           held = held;
-          holds = sift-holds D d (pick (candidateAt b) vectorCount) (absolute .limit) N _ safe (all-remaining-holds e D (pick (candidateAt b) vectorCount) given);
+          holds = sift-holds D d (pick (candidateAt b) vectorCount) (absolute .limit) N _ safe
+              (all-remaining-holds e D (pick (candidateAt b) vectorCount) given);
           testsCounted = sift-counted D d (absolute .limit) (pick (candidateAt b) vectorCount) N _ (all-remaining-counted e (pick (candidateAt b) vectorCount));
           ahead = refl;
           divides = divides;

@@ -53,7 +53,8 @@ lower-done D d m {z} {s} {remaining} {dist} {r} h more few g =
 -- one count more stands there
 count-done : {z : ℕ} {s : Pruning} {remaining : List ℕ} {r : PruneState} → InMemory z s remaining r → r .slot < countNumber →
     let tested = s .tested ++ (length (s .left) ∷ []) in
-    (testsCounted r .slot ≡ z + length tested) × (length (testsCounted r .counts) ≡ 5) × (take (testsCounted r .slot) (testsCounted r .counts) ≡ replicate z 0 ++ tested)
+    (testsCounted r .slot ≡ z + length tested) × (length (testsCounted r .counts) ≡ countNumber)
+    × (take (testsCounted r .slot) (testsCounted r .counts) ≡ replicate z 0 ++ tested)
 count-done {z} {s} {remaining} {r} h l =
     let room : r .slot < length (r .counts) = omega (arith, h .five) in (
       omega (arith, h .slot, length-append (s .tested) (length (s .left) ∷ [])),

@@ -25,10 +25,12 @@ placeDistance p y x = distances absolute (p .sizes .n) (newerBlock p y x) (λ k.
 
 module _ (p : Pair) (w y x : ℕ) where
   unfoldable pub pruning : Pruning
-  pruning = prune (stillDistortion p y x) (placeDistortion p y x) (placeDistance p y x) (absolute .limit) (p .sizes .n) (resolutions (p .sizes .n)) (places (p .sizes) w y x)
+  pruning = prune (stillDistortion p y x) (placeDistortion p y x) (placeDistance p y x) (absolute .limit) (p .sizes .n) (resolutions (p .sizes .n))
+      (places (p .sizes) w y x)
 
   unfoldable pub prunedPlace : ℕ
-  prunedPlace = prunedBest (stillDistortion p y x) (placeDistortion p y x) (placeDistance p y x) (absolute .limit) (p .sizes .n) (resolutions (p .sizes .n)) (places (p .sizes) w y x)
+  prunedPlace = prunedBest (stillDistortion p y x) (placeDistortion p y x) (placeDistance p y x) (absolute .limit) (p .sizes .n) (resolutions (p .sizes .n))
+      (places (p .sizes) w y x)
 
   unfoldable pub prunedSearch : SearchResult
   prunedSearch = searchResult (preferred prunedPlace) (distortion p y x (preferred prunedPlace)) (counts pruning) (length (pruning .dropped))

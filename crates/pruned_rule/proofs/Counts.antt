@@ -33,7 +33,12 @@ module _ (D : ℕ → ℕ) (dist limit : ℕ → ℕ → ℕ) (ks : List ℕ) wh
   unfolding sift
   sift-counted m s c = record {
     parts = λ g.
-        omega (arith, c .parts g, parted-total g (parted (dist m) (limit m (s .bound)) (s .left)), total-append g (s .dropped) (exceeding (dist m) (limit m (s .bound)) (s .left)));
+        omega (
+          arith,
+          c .parts g,
+          parted-total g (parted (dist m) (limit m (s .bound)) (s .left)),
+          total-append g (s .dropped) (exceeding (dist m) (limit m (s .bound)) (s .left)),
+        );
     tested = append-most (length ks) (s .tested) _ (c .tested) (one-most (length ks) (length (s .left)) (omega (arith, counted-length c)));
   }
 

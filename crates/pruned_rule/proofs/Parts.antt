@@ -37,14 +37,16 @@ parted-total g (goes h r) = let ih = parted-total g r in omega arith
 pub parted-kept : {v : ℕ → ℕ} {l : ℕ} {ks ys ns : List ℕ} → Parted v l ks ys ns → {k : ℕ} → k ∈ ys → (k ∈ ks) × (v k ≤ l)
 parted-kept empty m = absurd (List·Memᴰ·not-nil m)
 parted-kept {v} {l} (stays h r) m =
-    ⊎-elim (λ q. (List·Memᴰ·head q, subst (λ (x : ℕ). v x ≤ l) (sym q) h)) (λ m′. let (i, le) = parted-kept r m′ in (List·Memᴰ·tail i, le)) (List·Memᴰ·cases-cons m)
+    ⊎-elim (λ q. (List·Memᴰ·head q, subst (λ (x : ℕ). v x ≤ l) (sym q) h)) (λ m′. let (i, le) = parted-kept r m′ in (List·Memᴰ·tail i, le))
+    (List·Memᴰ·cases-cons m)
 parted-kept (goes h r) m = let (i, le) = parted-kept r m in (List·Memᴰ·tail i, le)
 
 pub parted-over : {v : ℕ → ℕ} {l : ℕ} {ks ys ns : List ℕ} → Parted v l ks ys ns → {k : ℕ} → k ∈ ns → (k ∈ ks) × (l < v k)
 parted-over empty m = absurd (List·Memᴰ·not-nil m)
 parted-over (stays h r) m = let (i, lt) = parted-over r m in (List·Memᴰ·tail i, lt)
 parted-over {v} {l} (goes h r) m =
-    ⊎-elim (λ q. (List·Memᴰ·head q, subst (λ (x : ℕ). l < v x) (sym q) h)) (λ m′. let (i, lt) = parted-over r m′ in (List·Memᴰ·tail i, lt)) (List·Memᴰ·cases-cons m)
+    ⊎-elim (λ q. (List·Memᴰ·head q, subst (λ (x : ℕ). l < v x) (sym q) h)) (λ m′. let (i, lt) = parted-over r m′ in (List·Memᴰ·tail i, lt))
+    (List·Memᴰ·cases-cons m)
 
 -- a first least that is within the limit is still the first least of those within it
 pub parted-first : {v : ℕ → ℕ} {l : ℕ} {ks ys ns : List ℕ} {f : ℕ → ℕ} {a : ℕ} → v a ≤ l → Parted v l ks ys ns → FirstLeast f a ks → FirstLeast f a ys

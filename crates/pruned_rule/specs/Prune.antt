@@ -8,8 +8,8 @@
 --   prunedBest    "Measure the rest and choose as full does."
 --   counts        "Each count is how many were tested at that m. Measurements made only for E are not counted."
 --   resolutions   "For m = N/2, then halved each time, down to 2"
--- e is the distortion of (0,0), D k that of candidate k and dist m k its distance at m. limit m e is how far a distance at m may go for E = e: the measure says it
--- (`limit` of Measure in distortion/specs/Blocks.antt), and for absolute differences it is e.
+-- e is the distortion of (0,0), D k that of candidate k and dist m k its distance at m. limit m e is how far a distance at m may go for E = e: the measure
+-- says it (`limit` of Measure in distortion/specs/Blocks.antt), and for absolute differences it is e.
 use Prim.Native.Nat.{ℕ, zero, suc, _-_, _/_, min}
 use mathlib.Core.Bool.{cond}
 use mathlib.Core.List.{List, [], _∷_, _++_}

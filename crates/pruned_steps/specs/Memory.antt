@@ -1,5 +1,5 @@
--- 01, "The four searches", search 2: what code holds between its steps, the remaining candidates' places in front of an array `remaining`, E and the counts in a
--- struct `PruneState`.
+-- 01, "The four searches", search 2: what code holds between its steps, the remaining candidates' places in front of an array `remaining`, E and the
+-- counts in a struct `PruneState`.
 --   stillDistortion   the distortion of (0,0), with which E begins
 --   firstSlot     where the count at N stands among the five: they end with that, those at the resolutions after N and the one at m = 1
 --   Begun         before the first test: all candidates, E the distortion of (0,0), no count
@@ -50,9 +50,11 @@ bounded e r = record { count = r .count; bound = min (r .bound) e; slot = r .slo
 pub record Leveled (D f : ℕ → ℕ) (remaining dist : List ℕ) (r : PruneState) (after measured : List ℕ) (q : PruneState) : Type 0 where
   pub alone : r .count ≡ 1 → (after ≡ remaining) × (measured ≡ dist) × (q ≡ testsCounted r)
   pub more : 1 < r .count →
-      let low = bounded (D (nearestOf remaining (r .count) measured)) r in
-      let stay = keptWithin (low .bound) remaining measured (r .count) in
-      (measured ≡ fillTo dist 0 (λ i. f (getD remaining i 0)) (r .count)) × (after ≡ stay ++ drop (length stay) (swept (low .bound) remaining measured (r .count))) × (q ≡ recounted (length stay) low)
+      let lowered = bounded (D (nearestOf remaining (r .count) measured)) r in
+      let stay = keptWithin (lowered .bound) remaining measured (r .count) in
+      (measured ≡ fillTo dist 0 (λ i. f (getD remaining i 0)) (r .count))
+      × (after ≡ stay ++ drop (length stay) (swept (lowered .bound) remaining measured (r .count)))
+      × (q ≡ recounted (length stay) lowered)
 
 abbrev pub measureRemaining : (ℕ → ℕ) → List ℕ → ℕ → PruneState → SearchResult
 measureRemaining D remaining total r =

@@ -71,7 +71,8 @@ fn lowered(
 ) -> PruneState
     requires { ⌜ Ready (now older) (now newer) b × (now order ≡ flat preference) ⌝ }
     requires { ⌜ ListedCandidates b (now remaining) (r .count) × (1 < r .count) ⌝ }
-    ensures { λ q. ⌜ q ≡ bounded (distortionOf (now (older .entry)) (now (newer .entry)) b (nearestOf (now (remaining .entry)) (r .count) (now (dist .entry)))) r ⌝ }
+    ensures { λ q. ⌜ q ≡ bounded (distortionOf (now (older .entry)) (now (newer .entry)) b
+        (nearestOf (now (remaining .entry)) (r .count) (now (dist .entry)))) r ⌝ }
 {
     let count = r.count;
     let k = pruned_remaining::nearest(remaining, count, dist);
@@ -115,7 +116,8 @@ pub fn sifted(
     r: PruneState,
 ) -> PruneState
     requires { ⌜ (length (now remaining) ≡ vectorCount) × (r .count ≤ vectorCount) × (r .slot < countNumber) ⌝ }
-    ensures { λ q. ⌜ Front (keptWithin (r .bound) (now (remaining .entry)) (now (dist .entry)) (r .count)) (swept (r .bound) (now (remaining .entry)) (now (dist .entry)) (r .count)) (now (remaining .exit)) (q .count) × (q ≡ recounted (q .count) r) ⌝ }
+    ensures { λ q. ⌜ Front (keptWithin (r .bound) (now (remaining .entry)) (now (dist .entry)) (r .count))
+        (swept (r .bound) (now (remaining .entry)) (now (dist .entry)) (r .count)) (now (remaining .exit)) (q .count) × (q ≡ recounted (q .count) r) ⌝ }
 {
     let kept = pruned_remaining::keep_within(remaining, r.count, dist, r.bound);
     let q = count_tests(r);
@@ -144,7 +146,8 @@ pub fn level(
 ) -> PruneState
     requires { ⌜ (now order ≡ flat preference) × (length (now dist) ≡ vectorCount) × Tested (now older) (now newer) b (now sums) a m (now remaining) (r .count)
         × BlockSums (now newer) b (now blocksums) × (0 < r .count) × (r .slot < countNumber) ⌝ }
-    ensures { λ q. ⌜ Leveled (distortionOf (now (older .entry)) (now (newer .entry)) b) (distanceOf (now (older .entry)) (now (newer .entry)) b m) (now (remaining .entry)) (now (dist .entry)) r (now (remaining .exit)) (now (dist .exit)) q ⌝ }
+    ensures { λ q. ⌜ Leveled (distortionOf (now (older .entry)) (now (newer .entry)) b) (distanceOf (now (older .entry)) (now (newer .entry)) b m)
+        (now (remaining .entry)) (now (dist .entry)) r (now (remaining .exit)) (now (dist .exit)) q ⌝ }
 {
     let count = r.count;
     if count == 1 {

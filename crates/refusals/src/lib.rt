@@ -4,7 +4,8 @@ ghost use mathlib.Core.Path.{_≡_};
 ghost use Prim.Native.Nat.{_+_};
 ghost use lib.Dec.{leb};
 ghost use Rattle.refusals.specs.Cross.{crossWindow, log2};
-ghost use Rattle.refusals.specs.Refusals.{sideOk, blockSizeOk, blockOk, searchOk, windowOk, thresholdOk, placeOk, pairRefusal, placedRefusal, requestRefusal, sizesOf};
+ghost use Rattle.refusals.specs.Refusals.{sideOk, blockSizeOk, blockOk, searchOk, windowOk};
+ghost use Rattle.refusals.specs.Refusals.{thresholdOk, placeOk, pairRefusal, placedRefusal, requestRefusal, sizesOf};
 use frame::Sizes;
 
 // A request for a search: the sizes, the search 1 to 4, its window w, and the threshold T of search 4.

@@ -44,7 +44,8 @@ module _ (p : Pair) (w y x : ℕ) (small : w ≤ 16) where
     where
       is-passing : (u : Vector) (c : Candidate (p .sizes) w y x u) → passes (place-of u c .0) ≡ true
       is-passing u c =
-          T-true (passes (place-of u c .0)) (subst (λ (v : Vector). T (candidate (p .sizes) w y x v)) (sym (place-of u c .2)) (candidate-true (p .sizes) w y x u c))
+          T-true (passes (place-of u c .0)) (subst (λ (v : Vector). T (candidate (p .sizes) w y x v)) (sym (place-of u c .2))
+          (candidate-true (p .sizes) w y x u c))
 
   -- (0,0) stands at place 0
   pub still-passes : y + p .sizes .n ≤ p .sizes .height → x + p .sizes .n ≤ p .sizes .width → passes 0 ≡ true

@@ -122,7 +122,8 @@ impl Track {
         list: &mut [i32],
         table: &mut [u32],
     ) -> Stepped
-        ensures { λ r. ⌜ stepResult r (now (list .exit)) (now (table .exit)) ≡ trackStep self (now (older .entry)) (now (newer .entry)) q (now (list .entry)) (now (table .entry)) ⌝ }
+        ensures { λ r. ⌜ stepResult r (now (list .exit)) (now (table .exit))
+            ≡ trackStep self (now (older .entry)) (now (newer .entry)) q (now (list .entry)) (now (table .entry)) ⌝ }
     {
         let refusal = self.step_refusal(older.len(), newer.len(), q, list.len(), table.len());
         if refusal != 0 {

@@ -80,7 +80,8 @@ pub fn row_view<'a>(
     column: usize,
 ) -> &'a [u8]
     ensures { λ r. ⌜ (now r ≡ rowView (pairOf (now (older .entry)) (now (newer .entry)) s) side row column)
-        × (ptr r ≡ partStart (ptr (older .entry)) (ptr (newer .entry)) side (viewPlace (length (now (older .entry))) (length (now (newer .entry))) s side row column .place)) ⌝ }
+        × (ptr r ≡ partStart (ptr (older .entry)) (ptr (newer .entry)) side
+        (viewPlace (length (now (older .entry))) (length (now (newer .entry))) s side row column .place)) ⌝ }
 {
     let view = view_place(older.len(), newer.len(), s, side, row, column);
     let at = view.place;

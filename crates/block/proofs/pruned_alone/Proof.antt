@@ -34,8 +34,14 @@ search-requires : tie.Need-search-requires
 search-requires c κs =
     let f = c .before .before in
     let w = f .before .before in
-    let s = w .before .before .before .before in
-    (record { ready = s .pre .0; covers = rw (w .search-window .ensures) (covers-window _ (standing s)); table = sums-of _ _ _ _ _ (f .fill-sums .ensures) }, s .pre .1)
+    let s = w .before .before .before .before in (
+      record {
+        ready = s .pre .0;
+        covers = rw (w .search-window .ensures) (covers-window _ (standing s));
+        table = sums-of _ _ _ _ _ (f .fill-sums .ensures);
+      },
+      s .pre .1,
+    )
 
 returns : tie.Need-returns
 returns c = c .search .ensures

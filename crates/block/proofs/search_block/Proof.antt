@@ -7,7 +7,8 @@ use lib.ListN.{length}
 use Rattle.refusals.specs.Refusals.{windowOk, sizesOf, window-small}
 use Rattle.frame.specs.Pictures.{pairOf}
 use Rattle.search.specs.Target.{Ready}
-use Rattle.block.specs.Block.{searchRefusal, searchBlock, searchBy, searched-full, searched-pruned, searched-four-step, searched-cross, searchable, block-refused, block-accepted}
+use Rattle.block.specs.Block.{searchRefusal, searchBlock, searchBy, searched-full, searched-pruned}
+use Rattle.block.specs.Block.{searched-four-step, searched-cross, searchable, block-refused, block-accepted}
 use Rattle.block.proofs.search_block.Statement.{statement}
 use Rattle.block.proofs.search_block.Tie as tie
 
@@ -29,7 +30,8 @@ ready c =
 
 accepted : (c : tie.After-sizes-of) →
     let a = c .before .before .before .before .before .args in
-    searchBlock (now (a .older)) (now (a .newer)) (a .q) (a .y) (a .x) ≡ searchBy (pairOf (now (a .older)) (now (a .newer)) (sizesOf (a .q))) (a .q) (a .y) (a .x)
+    searchBlock (now (a .older)) (now (a .newer)) (a .q) (a .y) (a .x)
+    ≡ searchBy (pairOf (now (a .older)) (now (a .newer)) (sizesOf (a .q))) (a .q) (a .y) (a .x)
 accepted c = block-accepted _ _ _ _ _ (zero-is (c .before))
 
 search-refusal-requires : tie.Need-search-refusal-requires
@@ -84,7 +86,15 @@ returns-5 c =
     let d = c .before .before in
     let z = sized (d .before .before) in
     let a = searchable _ _ _ _ _ (zero-is (z .before)) .requested in
-    let one : z .before .before .before .before .before .args .q .search ≡ 1 = omega (arith, a .least, a .most, d .if4 .left, d .before .before .before .if3 .left, d .before .before .before .before .before .if2 .left) in
+    let q = z .before .before .before .before .before .args .q in
+    let one : q .search ≡ 1 = omega (
+      arith,
+      a .least,
+      a .most,
+      d .if4 .left,
+      d .before .before .before .if3 .left,
+      d .before .before .before .before .before .if2 .left,
+    ) in
     (rw (z .sizes-of .ensures) at (c .search3 .ensures)) ∙ sym (accepted z ∙ searched-full _ _ _ _ one)
 
 pub search-block-spec : {M : Type 1} → statement M

@@ -8,7 +8,8 @@ use Rattle.block.proofs.search_refusal.Statement.{statement}
 use Rattle.block.proofs.search_refusal.Tie as tie
 
 -- past the request's chain
-rest : (d : tie.Else1) → let a = d .before .before .args in searchRefusal (a .older) (a .newer) (a .q) (a .y) (a .x) ≡ unless (placeOk (sizesOf (a .q)) (a .y) (a .x)) 7 0
+rest : (d : tie.Else1) → let a = d .before .before .args in searchRefusal (a .older) (a .newer) (a .q) (a .y) (a .x)
+    ≡ unless (placeOk (sizesOf (a .q)) (a .y) (a .x)) 7 0
 unfolding searchRefusal
 rest d = rw (← (d .before .request-refusal .ensures)) (first-refusal-none _ _ (d .if1 .left))
 

@@ -53,7 +53,8 @@ loop-again c =
     let l = c .before .before .before .before .before in
     let d = c .before .copied-distortion-of .ensures in
     let turn =
-    choosing-more (start l .pre .1 .0) (l .loop .inv .0) (c .before .before .before .before .loop-test .taken) (l .loop .inv .2) (c .before .before .wide-u16 .ensures)
+    choosing-more (start l .pre .1 .0) (l .loop .inv .0) (c .before .before .before .before .loop-test .taken) (l .loop .inv .2)
+    (c .before .before .wide-u16 .ensures)
     (record { below = λ h. d; beyond = λ h. omega arith })
     in
     (omega arith, omega arith, rw (c .improved .ensures) turn)

@@ -96,4 +96,16 @@ returns-3 c =
     (sym (measured-at (pairIn s) (s .args .y) (s .args .x) (vectorIn s) (zero-is (k .before .before .before)) (T-true _ (h .0))))
 
 pub measure-spec : {M : Type 1} → statement M
-measure-spec = tie.close (tie.spec placed-refusal-requires refused-requires returns older-at-requires enum-known-r enum-told refused-requires-2 returns-2 block-distortion-requires returns-3)
+measure-spec =
+    tie.close
+    (tie.spec
+    placed-refusal-requires
+    refused-requires
+    returns
+    older-at-requires
+    enum-known-r
+    enum-told
+    refused-requires-2
+    returns-2
+    block-distortion-requires
+    returns-3)

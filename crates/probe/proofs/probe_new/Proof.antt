@@ -77,7 +77,8 @@ returns-2 c =
     let s = start (c .before .before .before .before) in
     let a = s .args in
     let q = s .pre in
-    holds-same (q .0) (far-across _ _ _ _ (q .0 .ready .window) _ _ _ (moved-out (a .cx) (a .dx) (q .2) (sym (column (c .before .before)) ∙ c .enum-told2 .given .1)))
+    holds-same (q .0)
+    (far-across _ _ _ _ (q .0 .ready .window) _ _ _ (moved-out (a .cx) (a .dx) (q .2) (sym (column (c .before .before)) ∙ c .enum-told2 .given .1)))
 
 is-in-requires : tie.Need-is-in-requires
 is-in-requires c κs = (placed c .0, placed c .1, omega arith, omega arith, omega arith)

@@ -50,7 +50,12 @@ returns-2 : tie.Need-returns-2
 returns-2 c =
     let d = c .before .before .before .before in
     let q = start (d .before .before) .pre in
-    record { is = probe-point-less _ _ _ _ (sym (answer (d .before .before)) ∙ d .d .given .1) (c .before .if1 .taken); down = q .1; across = q .2; few = omega arith }
+    record {
+      is = probe-point-less _ _ _ _ (sym (answer (d .before .before)) ∙ d .d .given .1) (c .before .if1 .taken);
+      down = q .1;
+      across = q .2;
+      few = omega arith;
+    }
 
 add-t13 : tie.Need-add-t13
 add-t13 c = search needs
@@ -59,7 +64,12 @@ returns-3 : tie.Need-returns-3
 returns-3 c =
     let d = c .before .before .before .before in
     let q = start (d .before .before) .pre .0 in
-    record { is = probe-point-more _ _ _ _ (sym (answer (d .before .before)) ∙ d .d .given .1) (c .before .if1 .left); down = q .down; across = q .across; few = omega arith }
+    record {
+      is = probe-point-more _ _ _ _ (sym (answer (d .before .before)) ∙ d .d .given .1) (c .before .if1 .left);
+      down = q .down;
+      across = q .across;
+      few = omega arith;
+    }
 
 pub probe-point-spec : {M : Type 1} → statement M
 probe-point-spec =

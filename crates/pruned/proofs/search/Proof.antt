@@ -32,7 +32,8 @@ use Rattle.pruned.proofs.search.Tie as tie
 
 abbrev Inv-loop : tie.InvT-loop
 Inv-loop older newer order b sums a remaining₀ dist₀ n blocksums total r₀ m₀ remaining dist r m =
-    Going (stillDistortion (pairOf older newer (b .sizes)) (b .y) (b .x)) (distortionOf older newer b) (distanceOf older newer b) (b .sizes .n) (candidateAt b) m remaining dist r × (length (pick (candidateAt b) vectorCount) ≡ total)
+    Going (stillDistortion (pairOf older newer (b .sizes)) (b .y) (b .x)) (distortionOf older newer b) (distanceOf older newer b) (b .sizes .n)
+    (candidateAt b) m remaining dist r × (length (pick (candidateAt b) vectorCount) ≡ total)
 
 abbrev μ-loop : tie.MeasureT-loop
 μ-loop older newer order b sums a remaining₀ dist₀ n blocksums total r₀ m₀ remaining dist r m = m
@@ -123,8 +124,10 @@ loop-holds c =
     let r = s .pre .0 .ready in
     let p = pairOf (now (s .args .older)) (now (s .args .newer)) (s .args .b .sizes) in (
       going-first _ _ _ _ refl a f _
-          (λ h e. rw (t .1) (sift-done _ _ h e (omega (arith, h .long, gathered-few _ a, f .count)) (omega (arith, f .slot)) (rw (f .count) d) (t .0))) (d .long)
-          (still-attained _ _ _ _ (still-passes p _ _ _ (r .window) (r .placed .down) (r .placed .across)) (ap (distortion p _ _) first-still)) (safe-at p _ _ _ (dvd-refl _))
+          (λ h e. rw (t .1) (sift-done _ _ h e (omega (arith, h .long, gathered-few _ a, f .count)) (omega (arith, f .slot)) (rw (f .count) d) (t .0)))
+          (d .long)
+          (still-attained _ _ _ _ (still-passes p _ _ _ (r .window) (r .placed .down) (r .placed .across)) (ap (distortion p _ _) first-still))
+          (safe-at p _ _ _ (dvd-refl _))
           (λ i k. resolutions-divide _ (block-size-power _ (r .placed .paired .allowed)) i (List·Memᴰ·tail k)) (few-rounds _ (r .placed .paired .allowed)),
       sym (a .many),
     )
@@ -164,7 +167,8 @@ loop-again c =
     let few = going-listed g .few in
     let s = start (tabled i) in (
       going-more g _ _ _ (safe-at (pairOf (now (s .args .older)) (now (s .args .newer)) (s .args .b .sizes)) _ _) h
-          (level-done _ (distanceOf (now (s .args .older)) (now (s .args .newer)) (s .args .b)) _ (c .level .ensures) (g .wide) (going-some g) few (omega (arith, going-room g h)))
+          (level-done _ (distanceOf (now (s .args .older)) (now (s .args .newer)) (s .args .b)) _ (c .level .ensures) (g .wide) (going-some g) few
+          (omega (arith, going-room g h)))
           (level-wide _ _ (c .level .ensures) (g .wide) (going-some g) few),
       l .1,
     )

@@ -14,8 +14,14 @@ use Rattle.pruned_steps.proofs.begin.Tie as tie
 distortion-of-requires : tie.Need-distortion-of-requires
 distortion-of-requires c κs =
     let s = c .before .before in
-    let r = s .pre .0 in
-    (s .pre, (omega arith, true-T (candidateAt (s .args .b) 0) (still-passes (pairOf (now (s .args .older)) (now (s .args .newer)) (s .args .b .sizes)) _ _ _ (r .window) (r .placed .down) (r .placed .across))))
+    let r = s .pre .0 in (
+      s .pre,
+      (
+        omega arith,
+        true-T (candidateAt (s .args .b) 0)
+            (still-passes (pairOf (now (s .args .older)) (now (s .args .newer)) (s .args .b .sizes)) _ _ _ (r .window) (r .placed .down) (r .placed .across)),
+      ),
+    )
 
 first-slot-requires : tie.Need-first-slot-requires
 first-slot-requires c κs = c .before .before .before .before .pre .0 .placed .paired .allowed
@@ -24,7 +30,13 @@ returns : tie.Need-returns
 returns c =
     let e = c .before .before .distortion-of .ensures in
     let a = c .before .before .before .before .before .args in
-    record { bound = e .0 .below (e .1) ∙ ap (distortion (pairOf (now (a .older)) (now (a .newer)) (a .b .sizes)) (a .b .y) (a .b .x)) first-still; count = refl; slot = c .first-slot .ensures; counts = refl }
+    record {
+      bound = e .0 .below (e .1)
+          ∙ ap (distortion (pairOf (now (a .older)) (now (a .newer)) (a .b .sizes)) (a .b .y) (a .b .x)) first-still;
+      count = refl;
+      slot = c .first-slot .ensures;
+      counts = refl;
+    }
 
 pub begin-spec : {M : Type 1} → statement M
 begin-spec = tie.close (tie.spec distortion-of-requires first-slot-requires returns)

@@ -23,7 +23,8 @@ distortion-of-requires c κs =
 -- the distortion of the nearest, as far as E goes
 near : (c : tie.After-distortion-of) →
     let a = c .before .before .before .before .args in
-    UpTo (a .r .bound) (distortionOf (now (a .older)) (now (a .newer)) (a .b) (nearestOf (now (a .remaining)) (a .r .count) (now (a .dist)))) (c .distortion-of .result)
+    UpTo (a .r .bound) (distortionOf (now (a .older)) (now (a .newer)) (a .b) (nearestOf (now (a .remaining)) (a .r .count) (now (a .dist))))
+    (c .distortion-of .result)
 near c = rw (← c .before .nearest .ensures) (c .distortion-of .ensures .0)
 
 returns : tie.Need-returns

@@ -81,4 +81,16 @@ returns-6 c =
     )
 
 pub pair-refusal-spec : {M : Type 1} → statement M
-pair-refusal-spec = tie.close (tie.spec side-ok-requires returns side-ok-requires-2 returns-2 mul-whole returns-3 returns-4 block-ok-requires returns-5 returns-6)
+pair-refusal-spec =
+    tie.close
+    (tie.spec
+    side-ok-requires
+    returns
+    side-ok-requires-2
+    returns-2
+    mul-whole
+    returns-3
+    returns-4
+    block-ok-requires
+    returns-5
+    returns-6)

@@ -72,4 +72,16 @@ returns-5 c =
     )
 
 pub request-refusal-spec : {M : Type 1} → statement M
-request-refusal-spec = tie.close (tie.spec sizes-of-requires pair-refusal-requires returns search-ok-requires window-ok-requires threshold-ok-requires returns-2 returns-3 returns-4 returns-5)
+request-refusal-spec =
+    tie.close
+    (tie.spec
+    sizes-of-requires
+    pair-refusal-requires
+    returns
+    search-ok-requires
+    window-ok-requires
+    threshold-ok-requires
+    returns-2
+    returns-3
+    returns-4
+    returns-5)

@@ -61,4 +61,16 @@ returns-2 c =
     )
 
 pub row-view-spec : {M : Type 1} → statement M
-row-view-spec = tie.close (tie.spec view-place-requires add-end sub-result part-result-start part-result-end returns sub-result-2 part-result-start-2 part-result-end-2 returns-2)
+row-view-spec =
+    tie.close
+    (tie.spec
+    view-place-requires
+    add-end
+    sub-result
+    part-result-start
+    part-result-end
+    returns
+    sub-result-2
+    part-result-start-2
+    part-result-end-2
+    returns-2)
