@@ -1,44 +1,26 @@
-/* gauge.h: the paper-travel gauge, from C.
+/* gauge.h: the paper-travel gauge, from C. docs/REFERENCE.md has its rules in full.
  *
  * Two grey pictures of the paper, an older and a newer one, are compared block by block. A picture (frame) is width x height
  * bytes, row by row, top row first. A block is N x N pels and stands at the row and column of its top left pel. A vector
- * (dy, dx) compares the newer frame's block at (row, column) with the older frame's block at (row + dy, column + dx).
+ * (dy, dx) compares the newer frame's block at (row, column) with the older frame's block at (row + dy, column + dx): + is down
+ * and right. The paper travelled the other way, by (-dy, -dx).
  *
  * Every call takes any input whatever. It keeps no pointer and holds no state, so it may be called from several threads. A frame
  * is lent as a pointer and its length in bytes, and only read; a list and a table are lent as a pointer and their length in
  * numbers, and filled; a log and a buffer as a pointer and their length in bytes. A pointer must not be null, not even where the length
- * is 0, and memory that is filled shares no byte with any other that is lent.
+ * is 0, and memory that is filled shares no byte with any other that is lent. A search, a field and a step need about 33 kB of stack,
+ * any other call less than 2 kB; nothing is taken from the heap.
  *
- * An answer is a struct by value that begins with `refusal`: 0 where the call is accepted, else the number of the first rule that
- * the input or the track breaks, in the order given at the call. All else in a refused answer is 0, but for a track, which is handed
- * back as it was.
+ * An answer is a struct by value whose first number is `refusal` (in gauge_stepped: answer.refusal): 0 where the call is accepted, else
+ * the number of the first rule that the input or the track breaks, in the order given at the call as "Tests ..". gauge_track_new and
+ * gauge_print_log refuse nothing and have none. In a refused answer everything else is 0, but for
+ *   - the track of gauge_homed and gauge_stepped, which is handed back as it was;
+ *   - the place of a refused log, in gauge_written, gauge_log_read and gauge_walked;
+ *   - `next` of gauge_walked, which keeps the cursor's `at` and has phase 3.
+ * Memory that is lent to a refused call keeps what it held, but for refusal 33 of a step.
  *
- *     1  width or height not 4 to 1,024
- *     2  a frame whose length is not width x height
- *     3  N not 4, 8 or 16, or larger than width or height
- *     4  the search not 1 to 4
- *     5  a window w that the search does not take
- *     6  a threshold t over 65,280, or not 0 with search 1, 2 or 3
- *     7  the block not wholly inside the newer frame; for a row view, the N pels not inside one row
- *     8  the vector no candidate of window 16: a part over 16 in size, or the older block not wholly inside its frame
- *     9  search 2: a table shorter than (width + 1) x (height + 1)
- *    10  a list shorter than three numbers a grid block
- *    11  a homing place outside -1,000,000 to 1,000,000
- *    12  side neither 0 nor 1
- *    13  log: the bytes end before the command is complete
- *    14  log: a command that is unknown or not due
- *    15  log: a head that 1, 3, 4 or 5 would turn away
- *    16  log: a block whose vector is no candidate, whose distortion is below 0 or over 255 x N x N, or a still block as command 2
- *    17  log: an end with another number of blocks
- *    18  log: bytes after the end
- *    19  writing a log: a buffer shorter than the log
- *    20  printing a log: more than 65,536 bytes
- *    31  a step of a track that is not homed
- *    32  a step of a track that has 1,000,000 steps or more
- *    33  the step would lead outside -1,000,000 to 1,000,000
- *    34  walking a log: a walk that is over, or a cursor that no walk of this log can have
- *
- * Link with libgauge.a (`rt staticlib gauge` writes it to target/staticlib/).
+ * Link with libgauge.a (`rt staticlib gauge` writes it to target/staticlib/), and with gauge_text.c beside this file for
+ * gauge_refusal_text.
  */
 #ifndef GAUGE_H
 #define GAUGE_H
@@ -50,6 +32,42 @@
 #ifdef __cplusplus
 extern "C" {
 #endif
+
+/* The refusals. */
+enum gauge_refusal {
+    GAUGE_ACCEPTED = 0,
+    GAUGE_BAD_SIZE = 1,       /* width or height not 4 to 1,024 */
+    GAUGE_BAD_FRAME = 2,      /* a frame whose length is not width x height */
+    GAUGE_BAD_N = 3,          /* N not 4, 8 or 16, or larger than width or height */
+    GAUGE_BAD_SEARCH = 4,     /* the search not 1 to 4 */
+    GAUGE_BAD_WINDOW = 5,     /* a window w that the search does not take */
+    GAUGE_BAD_THRESHOLD = 6,  /* a threshold t over 65,280, or not 0 with search 1, 2 or 3 */
+    GAUGE_BAD_PLACE = 7,      /* the block not wholly inside the newer frame; for a row view, the N pels not inside one row */
+    GAUGE_NO_CANDIDATE = 8,   /* the vector no candidate of window 16: a part over 16 in size, or the older block not inside its frame */
+    GAUGE_SHORT_TABLE = 9,    /* search 2: a table shorter than GAUGE_TABLE_LENGTH */
+    GAUGE_SHORT_LIST = 10,    /* a list shorter than GAUGE_LIST_LENGTH */
+    GAUGE_BAD_HOME = 11,      /* a homing place outside -1,000,000 to 1,000,000 */
+    GAUGE_BAD_SIDE = 12,      /* side neither 0 nor 1 */
+    GAUGE_LOG_CUT = 13,       /* log: the bytes end before the command is complete */
+    GAUGE_LOG_COMMAND = 14,   /* log: a command that is unknown or not due */
+    GAUGE_LOG_HEAD = 15,      /* log: a head that 1, 3, 4 or 5 would turn away */
+    GAUGE_LOG_BLOCK = 16,     /* log: a vector that is no candidate, a distortion below 0 or over 255 x N x N, or a still block as command 2 */
+    GAUGE_LOG_END = 17,       /* log: an end with another number of blocks */
+    GAUGE_LOG_AFTER_END = 18, /* log: bytes after the end */
+    GAUGE_SHORT_BUFFER = 19,  /* writing a log: a buffer shorter than the log */
+    GAUGE_LOG_TOO_LONG = 20,  /* printing a log: more than 65,536 bytes; in the printed text alone, never in an answer */
+    GAUGE_NOT_HOMED = 31,     /* a step of a track that is not homed */
+    GAUGE_STEPS_OVER = 32,    /* a step of a track that has 1,000,000 steps or more */
+    GAUGE_OUT_OF_RANGE = 33,  /* a step that would lead outside -1,000,000 to 1,000,000 */
+    GAUGE_WALK_OVER = 34      /* walking a log: a walk that is over, or a cursor that no walk of this log can have */
+};
+
+/* What a refusal means, in words; of any number, never null. In gauge_text.c. */
+const char *gauge_refusal_text(uint32_t refusal);
+
+/* How many numbers a field's list and table must have room for. n is not 0. */
+#define GAUGE_LIST_LENGTH(width, height, n) ((size_t)3 * ((size_t)(height) / (n)) * ((size_t)(width) / (n)))
+#define GAUGE_TABLE_LENGTH(width, height) (((size_t)(width) + 1) * ((size_t)(height) + 1))
 
 /* What measuring one vector answers. */
 typedef struct {
@@ -109,10 +127,11 @@ typedef struct {
 gauge_field_answer gauge_field(const uint8_t *older, size_t older_length, const uint8_t *newer, size_t newer_length,
                                gauge_request request, int32_t *list, size_t list_length, uint32_t *table, size_t table_length);
 
-/* Where the paper stands. A track is a plain value: a call takes the old one and hands the new one back. */
+/* Where the paper stands. A track is a plain value: a call takes the old one and hands the new one back. One built by hand is taken
+ * too, whatever its numbers. */
 typedef struct {
-    bool homed;
-    int32_t y, x;   /* the place */
+    bool homed;     /* true or false: any other byte in its place is no bool of C, and nothing is said of a call that gets it */
+    int32_t y, x;   /* the place: y down, x to the right */
     uint32_t steps; /* steps since it was homed */
 } gauge_track;
 
@@ -134,12 +153,27 @@ typedef struct {
     gauge_track track;
 } gauge_stepped;
 
-/* Adds the travel of a pair to the place, and 1 to the steps. Lent memory is as the field call leaves it, also where 33 refuses.
- * Tests 1 2 3 4 5 6 9 10 31 32 33. */
+/* Adds the travel of a pair to the place, and 1 to the steps. Lent memory is as the field call leaves it, also where 33 refuses; any
+ * other refusal leaves it as it was. Tests 1 2 3 4 5 6 9 10 31 32 33. */
 gauge_stepped gauge_step(gauge_track track, const uint8_t *older, size_t older_length, const uint8_t *newer, size_t newer_length,
                          gauge_request request, int32_t *list, size_t list_length, uint32_t *table, size_t table_length);
 
-/* ---- logs: a field, kept as bytes. A head command, a command for each grid block, an end command; see document 01. */
+/* ---- logs: a field, kept as bytes
+ *
+ * A log is one head, a command for each grid block, row by row, and one end. A command is a byte and its operands, numbers of one,
+ * two or four bytes, highest byte first:
+ *
+ *     1 head         width 2, height 2, N 1, w 1, search 1                     8 bytes in all
+ *     2 block        dy 1, dx 1 (two's complement: 255 is -1), distortion 2    5
+ *     3 still block  none: the vector (0,0) with distortion 0                  1
+ *     4 end          the number of blocks 4                                    5
+ *
+ * So the field of a pair 5 wide and 4 high, N 4, w 1, search 2, whose one block has (0,1) and distortion 0, is
+ * 01 00 05 00 04 04 01 02 | 02 00 01 00 00 | 04 00 00 00 01. (0,0) with distortion 0 is always command 3, never 2.
+ *
+ * Commands are judged from the first on: 14 where the byte is none of these or another command is due, then 13 where the bytes end,
+ * then 15, 16 or 17 by the operands. A refusal's place is the offset of its command: the log's length where no byte is left, the first
+ * extra byte for 18. */
 
 /* A head's numbers. */
 typedef struct {
@@ -150,9 +184,12 @@ typedef struct {
 /* What writing a log answers. */
 typedef struct {
     uint32_t refusal;
-    size_t place;  /* 16: the block's number, from 0 */
+    size_t place;  /* refusal 16: the block's number, from 0 */
     size_t length; /* the log's length in bytes */
 } gauge_written;
+
+/* The longest log of such a field, in bytes: a buffer of this length is never too short. n is not 0. */
+#define GAUGE_LOG_MOST(width, height, n) (8 + 5 * ((size_t)(height) / (n)) * ((size_t)(width) / (n)) + 5)
 
 /* Writes the log of a field into a buffer: head numbers, and a list of three numbers a block as the field call fills it. The buffer past the
  * log keeps what it held, as all of it does where the call is refused. Tests 1 3 4 5 10 16 19. */
@@ -161,16 +198,20 @@ gauge_written gauge_write_log(gauge_head head, const int32_t *list, size_t list_
 /* What reading a log answers. */
 typedef struct {
     uint32_t refusal;
-    size_t place; /* the byte offset of the command that is refused; 8 for refusal 10 */
+    size_t place; /* of a refusal; 8 for refusal 10 */
     gauge_head head;
 } gauge_log_read;
 
 /* Reads a whole log into a list, three numbers a block. Nothing is stored before the whole log is accepted; the list past the field keeps what
- * it held. Tests, command by command, 14 13 15 16 17, 10 right after the head, and 18. */
+ * it held. Tests, command by command, 14 13 15 16 17, 10 right after the head, and 18. How long the list must be stands in the log's
+ * head, so walk the head first: where gauge_walk(log, log_length, (gauge_cursor){0}) is accepted, its `head` has width, height and n for
+ * GAUGE_LIST_LENGTH. */
 gauge_log_read gauge_read_log(const uint8_t *log, size_t log_length, int32_t *list, size_t list_length);
 
-/* Prints a log as text, a line a command until a refusal; for more than 65,536 bytes the line of refusal 20 alone. Puts as much of the text into the
- * buffer as fits, with no zero byte after it, and answers with the length of the whole text, at most GAUGE_TEXT_MOST. */
+/* Prints a log as text, a line a command until a refusal: `5 4 4 1 2` for a head (width, height, N, w, search), `0 1 0` for a block (dy, dx,
+ * distortion), `end 1` for the end (blocks), `refused 14 at 8` for a refusal and its place; 34, the end of the walk, has no line. For more than
+ * 65,536 bytes the one line `refused 20 at 65536`. Each line ends in a newline. Puts as much of the text into the buffer as fits, with no
+ * zero byte after it, leaves the rest of the buffer as it was, and answers with the length of the whole text, at most GAUGE_TEXT_MOST. */
 #define GAUGE_TEXT_MOST 393236
 size_t gauge_print_log(const uint8_t *log, size_t log_length, uint8_t *buffer, size_t buffer_length);
 
@@ -178,8 +219,8 @@ size_t gauge_print_log(const uint8_t *log, size_t log_length, uint8_t *buffer, s
 typedef struct {
     size_t at;       /* the offset of the next command */
     uint32_t phase;  /* 0 before the head, 1 among the blocks, 2 after the end, any other number after a refusal */
-    gauge_head head; /* among the blocks: the head's numbers */
-    size_t blocks;   /* and how many blocks were read */
+    gauge_head head; /* among the blocks: the head's numbers. In any other phase not looked at, and 0 in `next` */
+    size_t blocks;   /* among the blocks: how many were read. In any other phase likewise */
 } gauge_cursor;
 
 /* What one call of a walk answers. */
@@ -191,10 +232,12 @@ typedef struct {
     int32_t dy, dx;      /* of a block */
     uint32_t distortion;
     size_t blocks;       /* of an end */
-    gauge_cursor next;   /* where the walk then stands */
+    gauge_cursor next;   /* where the walk then stands; after a refusal `at` as it was, phase 3, the rest 0 */
 } gauge_walked;
 
-/* Hands out the command at a cursor, and the cursor to go on with. Tests 34, then 14 13 15 16 17; after the end 18 or 34. */
+/* Hands out the command at a cursor, and the cursor to go on with. A log is accepted where a walk from its start ends with 34. Tests 34 (phase 3
+ * or more, `at` past the log, among the blocks a head that 15 would turn away or more blocks than the grid has), then 14 13 15 16 17; after
+ * the end 18, or 34 where no byte is left. The place of 34 is 0. */
 gauge_walked gauge_walk(const uint8_t *log, size_t log_length, gauge_cursor cursor);
 
 #ifdef __cplusplus
