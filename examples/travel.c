@@ -1,76 +1,176 @@
-/* What the gauge is for: a track is homed, and stepped through pictures of paper that travels. Then the first pair of pictures is read by each
- * of the four searches. */
+/* What a technician wants to know of two pictures: how far the paper travelled, and whether that can be trusted.
+ *
+ * travel OLDER.pgm NEWER.pgm reads a pair of grey pictures (binary PGM, one byte a pel). With no words it makes its own: a track is homed and
+ * stepped through pictures of travelling paper, one of which travels beyond the search window and one of which is blank; then the first pair
+ * is read by each of the four searches. */
 #include <stdio.h>
+#include <stdlib.h>
+#include <string.h>
 
 #include "gauge.h"
+#include "paper.h"
 
-enum { WIDTH = 64, HEIGHT = 48, N = 16, BLOCKS = (HEIGHT / N) * (WIDTH / N), PICTURES = 4 };
+enum { MOST = 1024, N = 16, W = 16 };
 
-/* Paper: soft spots of light and shade, at any row and column, also outside the picture. Between the corners of a CELL the shade changes evenly. */
-enum { CELL = 6 };
+static size_t width = PAPER_WIDTH, height = PAPER_HEIGHT;
+static uint8_t older[MOST * MOST], newer[MOST * MOST];
+static int32_t list[GAUGE_LIST_LENGTH(MOST, MOST, N)];
+static uint32_t table[GAUGE_TABLE_LENGTH(MOST, MOST)];
 
-static unsigned shade(unsigned row, unsigned column)
+static gauge_field_answer field(uint32_t search, size_t w)
 {
-    unsigned h = (row * 7919u + column * 104729u + 1u) * 2654435761u;
-    return (h ^ h >> 15) * 2246822519u >> 24;
+    gauge_request request = {width, height, N, search, w, 0};
+    return gauge_field(older, width * height, newer, width * height, request, list, sizeof list / sizeof *list, table,
+                       sizeof table / sizeof *table);
 }
 
-static uint8_t paper(int row, int column)
+/* Less than 8 grey levels from the darkest pel to the lightest. */
+static bool blank(const uint8_t *picture)
 {
-    unsigned r = (unsigned)(row + 60), c = (unsigned)(column + 60), i = r % CELL, j = c % CELL;
-    r /= CELL;
-    c /= CELL;
-    unsigned above = shade(r, c) * (CELL - j) + shade(r, c + 1) * j, below = shade(r + 1, c) * (CELL - j) + shade(r + 1, c + 1) * j;
-    return (uint8_t)((above * (CELL - i) + below * i) / (CELL * CELL));
-}
-
-static uint8_t pictures[PICTURES][WIDTH * HEIGHT];
-static int32_t list[3 * BLOCKS];
-static uint32_t table[(WIDTH + 1) * (HEIGHT + 1)];
-
-static gauge_stepped step(gauge_track track, int picture, size_t w)
-{
-    gauge_request request = {WIDTH, HEIGHT, N, 2, w, 0};
-    return gauge_step(track, pictures[picture - 1], sizeof pictures[0], pictures[picture], sizeof pictures[0], request, list,
-                      sizeof list / sizeof *list, table, sizeof table / sizeof *table);
-}
-
-int main(void)
-{
-    static const int travels[PICTURES][2] = {{0, 0}, {2, -3}, {-1, 4}, {0, 3}};
-    int down = 0, right = 0;
-    for (int p = 0; p < PICTURES; p++) {
-        down += travels[p][0];
-        right += travels[p][1];
-        for (int r = 0; r < HEIGHT; r++)
-            for (int c = 0; c < WIDTH; c++)
-                pictures[p][r * WIDTH + c] = paper(r - down, c - right);
+    uint8_t least = 255, most = 0;
+    for (size_t i = 0; i < width * height; i++) {
+        least = picture[i] < least ? picture[i] : least;
+        most = picture[i] > most ? picture[i] : most;
     }
+    return most - least < 8;
+}
 
-    gauge_track track = gauge_home(gauge_track_new(), 100, 200).track;
-    printf("homed at (%d,%d)\n", track.y, track.x);
-    for (int p = 1; p < PICTURES; p++) {
-        gauge_stepped s = step(track, p, 8);
-        track = s.track;
-        printf("picture %d: travelled (%d,%d) by %u of %d blocks, stands at (%d,%d)\n", p + 1, -s.answer.dy, -s.answer.dx, s.answer.votes, BLOCKS, track.y,
-               track.x);
+static unsigned share(gauge_field_answer f)
+{
+    return (unsigned)(100 * (size_t)f.votes / ((width / N) * (height / N)));
+}
+
+/* Why a reading is not to be trusted, or null. */
+static const char *doubt(gauge_field_answer f)
+{
+    if (blank(newer))
+        return "the picture is blank, so it cannot show a travel";
+    if (share(f) < 25)
+        return "less than a quarter of the blocks agree";
+    if (abs(f.dy) == W || abs(f.dx) == W)
+        return "the vector lies on the window's edge: the paper may have travelled further";
+    return NULL;
+}
+
+/* The travel in words, the share of the blocks that have it, and a warning where it is not to be trusted. */
+static bool report(gauge_field_answer f)
+{
+    int down = -f.dy, right = -f.dx;
+    printf("the paper %s", down == 0 && right == 0 ? "stood still" : "travelled");
+    if (down != 0)
+        printf(" %d %s", abs(down), down < 0 ? "up" : "down");
+    if (right != 0)
+        printf("%s %d %s", down != 0 ? " and" : "", abs(right), right < 0 ? "left" : "right");
+    printf(", by %u %% of the blocks\n", share(f));
+    const char *why = doubt(f);
+    if (why)
+        printf("    WARNING: %s\n", why);
+    return !why;
+}
+
+static int refused(uint32_t refusal)
+{
+    printf("refused %u: %s\n", refusal, gauge_refusal_text(refusal));
+    return 1;
+}
+
+/* ---- a pair of pictures from files */
+
+/* Reads a picture; false where the file is no such PGM or is too large. */
+static bool read_picture(const char *name, uint8_t *picture)
+{
+    unsigned w, h;
+    FILE *file = fopen(name, "rb");
+    bool good = file && fscanf(file, "P5 %u %u 255", &w, &h) == 2 && fgetc(file) != EOF && w <= MOST && h <= MOST &&
+                fread(picture, 1, (size_t)w * h, file) == (size_t)w * h;
+    if (file)
+        fclose(file);
+    if (!good) {
+        printf("%s: no binary PGM of at most %d x %d pels of one byte\n", name, MOST, MOST);
+        return false;
     }
-    printf("a window of 17: refused %u, still at (%d,%d) after %u steps\n", step(track, 1, 17).answer.refusal, track.y, track.x, track.steps);
+    width = w;
+    height = h;
+    return true;
+}
 
+static int from_files(char **names)
+{
+    if (!read_picture(names[0], older))
+        return 1;
+    size_t first_width = width, first_height = height;
+    if (!read_picture(names[1], newer))
+        return 1;
+    if (width != first_width || height != first_height) {
+        printf("the pictures have different sizes\n");
+        return 1;
+    }
+    gauge_field_answer f = field(2, W);
+    if (f.refusal != GAUGE_ACCEPTED)
+        return refused(f.refusal);
+    report(f);
+    return 0;
+}
+
+/* ---- made-up pictures */
+
+/* The newer picture becomes the older one, and paper that lies so far down and right the newer. */
+static void next_picture(int down, int right)
+{
+    memcpy(older, newer, sizeof older);
+    paper_photograph(newer, down, right);
+}
+
+/* A step is taken over only where it can be trusted: the old track is still at hand. */
+static int step(gauge_track *track)
+{
+    gauge_request request = {width, height, N, 2, W, 0};
+    gauge_stepped s = gauge_step(*track, older, width * height, newer, width * height, request, list, sizeof list / sizeof *list, table,
+                                 sizeof table / sizeof *table);
+    if (s.answer.refusal != GAUGE_ACCEPTED)
+        return refused(s.answer.refusal);
+    if (report(s.answer)) {
+        *track = s.track;
+        printf("    it stands at (%d,%d)\n", track->y, track->x);
+    } else
+        printf("    the track is left at (%d,%d): home it again\n", track->y, track->x);
+    return 0;
+}
+
+static void by_each_search(void)
+{
     static const struct {
         const char *name;
         uint32_t search;
         size_t w;
-    } searches[] = {{"full", 1, 8}, {"pruned", 2, 8}, {"four-step", 3, 7}, {"cross", 4, 8}};
-    printf("\n%-10s %8s %6s   tested at m = 16, 8, 4, 2; measured   dropped\n", "search", "reading", "votes");
+    } searches[] = {{"full", 1, W}, {"pruned", 2, W}, {"four-step", 3, 7}, {"cross", 4, W}};
+    printf("\nThe first pair by each search    ---- candidates tested at m = 16, 8, 4, 2 ---    measured    dropped\n");
     for (size_t i = 0; i < sizeof searches / sizeof *searches; i++) {
-        gauge_request request = {WIDTH, HEIGHT, N, searches[i].search, searches[i].w, 0};
-        gauge_field_answer f = gauge_field(pictures[0], sizeof pictures[0], pictures[1], sizeof pictures[0], request, list, sizeof list / sizeof *list,
-                                           table, sizeof table / sizeof *table);
-        char vector[16];
-        snprintf(vector, sizeof vector, "(%d,%d)", f.dy, f.dx);
-        printf("%-10s %8s %6u   %12u %5u %4u %4u; %8u %9u\n", searches[i].name, vector, f.votes, f.counts[0], f.counts[1], f.counts[2], f.counts[3],
-               f.counts[4], f.dropped);
+        gauge_field_answer f = field(searches[i].search, searches[i].w);
+        printf("%-10s vector (%2d,%2d) %3u %% %10u %10u %10u %10u %11u %10u\n", searches[i].name, f.dy, f.dx, share(f), f.counts[0], f.counts[1],
+               f.counts[2], f.counts[3], f.counts[4], f.dropped);
     }
+}
+
+int main(int argc, char **argv)
+{
+    if (argc == 3)
+        return from_files(argv + 1);
+    static const int lies[][2] = {{0, 0}, {5, -3}, {5, 1}, {-9, 0}, {-9, 0}, {8, 0}};
+    gauge_track track = gauge_home(gauge_track_new(), 100, 200).track;
+    printf("homed at (%d,%d)\n", track.y, track.x);
+    paper_photograph(newer, lies[0][0], lies[0][1]);
+    for (size_t i = 1; i < sizeof lies / sizeof *lies; i++) {
+        next_picture(lies[i][0], lies[i][1]);
+        if (step(&track))
+            return 1;
+    }
+    memset(older, 255, sizeof older);
+    memset(newer, 255, sizeof newer);
+    if (step(&track))
+        return 1;
+    paper_photograph(older, 0, 0);
+    paper_photograph(newer, 5, -3);
+    by_each_search();
     return 0;
 }
