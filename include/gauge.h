@@ -228,9 +228,9 @@ typedef struct {
     uint32_t refusal;
     size_t place;        /* a refusal's place */
     uint32_t command;    /* 1 head, 2 block, 3 still block, 4 end; 0 where refused */
-    gauge_head head;     /* of a head */
+    gauge_head head;     /* of a head; 0 with another command, as are those below */
     int32_t dy, dx;      /* of a block */
-    uint32_t distortion;
+    uint32_t distortion; /* of a block */
     size_t blocks;       /* of an end */
     gauge_cursor next;   /* where the walk then stands; after a refusal `at` as it was, phase 3, the rest 0 */
 } gauge_walked;
