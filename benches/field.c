@@ -4,12 +4,14 @@
  * Prints speeds as multiples of plain C: the larger, the faster. The two C searches, search 1 and search 2 must agree on every block. With the
  * word `check` it looks at that alone, in small pictures, and prints no speed.
  *
- * Paper is made here: smoothed noise with fibres. The newer picture is the older one moved by a known vector, and each has sensor noise of its own.
+ * Paper is made here: smoothed noise with fibres. The newer picture is the older one moved by a known vector, and each has sensor noise of its own:
+ * noise of 2 grey levels is noise whose standard deviation is 2. Noise raises the least distortion, so search 2's coarse tests drop fewer candidates,
+ * the fewer the less contrast the paper has. So fibres and plain paper stand here with noise of 2 and of 5 grey levels.
  *
- * The last column is document 003's measure (Table 2). A basic operation is one term of a distance's sum, so a test at m takes (N / m)^2 of them and
- * a final measurement N^2; the making of the sums and measurements only for E are not counted. The exhaustive search takes N^2 for each candidate.
- * So that paper's 0.0275, of a video sequence with p = 2, is (11,441,196 + 4 x 3,912,397 + 16 x 920,769 + 64 x 239,933 + 256 x 91,246) /
- * (256 x 11,441,196). */
+ * The last column is the measure of Mohammad Gharavi-Alkhansari, "A fast motion estimation algorithm equivalent to exhaustive search", Table 2. A
+ * basic operation is one term of a distance's sum, so a test at m takes (N / m)^2 of them and a final measurement N^2; the making of the sums and
+ * measurements only for E are not counted. The exhaustive search takes N^2 for each candidate. So that paper's 0.0275, of a video sequence with
+ * p = 2, is (11,441,196 + 4 x 3,912,397 + 16 x 920,769 + 64 x 239,933 + 256 x 91,246) / (256 x 11,441,196). */
 #include "common.h"
 #include "gauge.h"
 #include <emmintrin.h>
@@ -27,12 +29,22 @@ static int clip(int a)
     return a < 0 ? 0 : a > 255 ? 255 : a;
 }
 
-/* A kind of paper: the grey of the ground, its contrast in 1/16, the number of fibres and how much they darken or lighten it. */
+/* A kind of paper: the grey of the ground, its contrast in 1/16, the number of fibres and how much they darken or lighten it. The ground's standard
+ * deviation is 14 grey levels at contrast 16. Plain paper has 11, and few, faint fibres: it is made so that search 2 takes about as long beside
+ * search 1 as it was seen to take on real papers, 1.2 times search 1's time with noise of 2 grey levels and 2.3 times with noise of 5. */
 struct paper {
     int ground, contrast, fibres, shade;
 };
 
-static const struct paper FIBRES = {128, 16, 7700, 60}, TRACING = {210, 2, 400, 8};
+static const struct paper FIBRES = {128, 16, 7700, 60}, TRACING = {210, 2, 400, 8}, PLAIN_PAPER = {200, 13, 400, 12};
+
+/* A kind of sensor noise: the sum of so many random numbers, each of -most .. most. Its standard deviation is the root of
+ * terms x most x (most + 1) / 3: that is 2 of one number of -3 .. 3, and 2 and 4.9 of six, which are nearly normal. */
+struct noise {
+    int terms, most;
+};
+
+static const struct noise EVEN_2 = {1, 3}, NOISE_2 = {6, 1}, NOISE_5 = {6, 3};
 
 /* A sheet larger than any picture: noise smoothed three times, then fibres, each a line of one to two pels that bends a little. */
 static void make_sheet(struct paper p, int *sheet)
@@ -68,12 +80,20 @@ static void make_sheet(struct paper p, int *sheet)
     }
 }
 
-/* The sheet seen from (top, left), with sensor noise of -3 .. 3; columns from `blank` on are white. */
-static void photograph(const int *sheet, int top, int left, int width, int height, int blank, uint8_t *frame)
+static int sensor_noise(struct noise n)
+{
+    int sum = 0;
+    for (int i = 0; i < n.terms; i++)
+        sum += random_below((uint32_t)(2 * n.most + 1)) - n.most;
+    return sum;
+}
+
+/* The sheet seen from (top, left), with sensor noise; columns from `blank` on are white. */
+static void photograph(const int *sheet, struct noise n, int top, int left, int width, int height, int blank, uint8_t *frame)
 {
     for (int y = 0; y < height; y++)
         for (int x = 0; x < width; x++) {
-            int noise = random_below(7) - 3;
+            int noise = sensor_noise(n);
             frame[y * width + x] = (uint8_t)(x < blank ? clip(sheet[(top + y) * SHEET + left + x] + noise) : 255);
         }
 }
@@ -186,11 +206,11 @@ static double basic_operations(void)
 }
 
 /* A pair in which the paper has moved by (dy, dx): one line of the table, or none when checking. */
-static int pair(const char *name, const int *sheet, int dy, int dx, int blank, int turns)
+static int pair(const char *name, const int *sheet, struct noise n, int dy, int dx, int blank, int turns)
 {
     double seconds[RUNS];
-    photograph(sheet, MARGIN, MARGIN, width, height, blank, older);
-    photograph(sheet, MARGIN - dy, MARGIN - dx, width, height, blank, newer);
+    photograph(sheet, n, MARGIN, MARGIN, width, height, blank, older);
+    photograph(sheet, n, MARGIN - dy, MARGIN - dx, width, height, blank, newer);
     for (int turn = 0; turn < turns; turn++)
         for (int r = turn % 4 == 0 ? PLAIN : SSE2; r < RUNS; r++) {
             double begun = now();
@@ -212,31 +232,38 @@ static int pair(const char *name, const int *sheet, int dy, int dx, int blank, i
         }
     if (checking)
         return 0;
-    printf("%-21s %6.1f %6.1f %6.1f %6.1f %6.0f %6.0f %8.2f %8.2f %9.4f\n", name, seconds[PLAIN] / seconds[SSE2], seconds[PLAIN] / seconds[FULL],
+    printf("%-27s %6.1f %6.1f %6.1f %6.1f %6.0f %6.0f %8.2f %8.2f %9.4f\n", name, seconds[PLAIN] / seconds[SSE2], seconds[PLAIN] / seconds[FULL],
            seconds[PLAIN] / seconds[PRUNED], seconds[PLAIN] / seconds[SINGLE], seconds[PLAIN] / seconds[FOUR_STEP], seconds[PLAIN] / seconds[CROSS],
            seconds[SSE2] / seconds[FULL], seconds[FULL] / seconds[PRUNED], basic_operations());
     return 0;
 }
 
-/* All papers in pictures of one size. */
+/* All papers in pictures of one size. Plain paper is made last, so that the pictures before it do not hang on it. */
 static int papers(int w, int h, int turns)
 {
-    static int fibres[SHEET * SHEET], tracing[SHEET * SHEET];
+    static int fibres[SHEET * SHEET], tracing[SHEET * SHEET], plain_paper[SHEET * SHEET];
     static bool made;
     if (!made) {
         make_sheet(FIBRES, fibres);
         make_sheet(TRACING, tracing);
-        made = true;
     }
     width = w;
     height = h;
     if (!checking) {
-        printf("\n%4d x %-4d           psadbw      1      2  2 one      3      4     1 to     2 to     basic\n", width, height);
-        printf("                           C   full pruned by one 4-step  cross   psadbw        1       ops\n");
+        printf("\n%4d x %-4d                 psadbw      1      2  2 one      3      4     1 to     2 to     basic\n", width, height);
+        printf("                                 C   full pruned by one 4-step  cross   psadbw        1       ops\n");
     }
-    return pair("moved fibres (3,-4)", fibres, 3, -4, width, turns) || pair("moved fibres (9,-11)", fibres, 9, -11, width, turns) ||
-           pair("still fibres", fibres, 0, 0, width, turns) || pair("tracing paper (3,-4)", tracing, 3, -4, width, turns) ||
-           pair("half blank (3,-4)", fibres, 3, -4, width / 2, turns);
+    if (pair("moved fibres (3,-4)", fibres, EVEN_2, 3, -4, width, turns) || pair("moved fibres (9,-11)", fibres, EVEN_2, 9, -11, width, turns) ||
+        pair("still fibres", fibres, EVEN_2, 0, 0, width, turns) || pair("tracing paper (3,-4)", tracing, EVEN_2, 3, -4, width, turns) ||
+        pair("half blank (3,-4)", fibres, EVEN_2, 3, -4, width / 2, turns))
+        return 1;
+    if (!made)
+        make_sheet(PLAIN_PAPER, plain_paper);
+    made = true;
+    return pair("fibres, noise 2 (3,-4)", fibres, NOISE_2, 3, -4, width, turns) ||
+           pair("fibres, noise 5 (3,-4)", fibres, NOISE_5, 3, -4, width, turns) ||
+           pair("plain paper, noise 2 (3,-4)", plain_paper, NOISE_2, 3, -4, width, turns) ||
+           pair("plain paper, noise 5 (3,-4)", plain_paper, NOISE_5, 3, -4, width, turns);
 }
 
 int main(int argc, char **argv)
@@ -248,6 +275,7 @@ int main(int argc, char **argv)
         printf("benches/field: the searches agree\n");
         return 0;
     }
-    printf("Speed of fields, N 16, plain C full search = 1; basic operations of search 2, exhaustive search = 1 (document 003: 0.0275)\n");
+    printf("Speed of fields, N 16, plain C full search = 1; basic operations of search 2, exhaustive search = 1\n");
+    printf("(0.0275 in Gharavi-Alkhansari's paper, for a video)\n");
     return papers(640, 480, 21) || papers(1024, 1024, 9);
 }
