@@ -1,4 +1,4 @@
-// The single-block call of document 01: refusals 1 to 7, then the requested search, of a block at any pel row and column.
+// The single-block call: refusals 1 to 7, then the requested search, of a block at any pel row and column.
 
 ghost use mathlib.Core.Path.{_≡_};
 ghost use Rattle.order.specs.Preference.{preference, flat};

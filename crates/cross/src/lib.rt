@@ -1,4 +1,4 @@
-// Search 4 of document 01, cross: document 000's crosses (X) at halved step sizes, and a last cross (+) or (X).
+// Search 4, cross: Ghanbari's cross search, by crosses (X) at halved step sizes and a last cross (+) or (X). specs/Cross.antt has its steps 1 to 8.
 
 ghost use mathlib.Core.Path.{_≡_};
 ghost use Prim.Native.Nat.{_+_, _/_, _≤_};

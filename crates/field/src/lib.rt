@@ -1,5 +1,4 @@
-// The field of document 01: every grid block searched, its vector and distortion in a lent list, and the reading and the sums over the blocks
-// as the answer.
+// The field: every grid block searched, its vector and distortion in a lent list, and the reading and the sums over the blocks as the answer.
 
 ghost use mathlib.Core.Path.{_≡_};
 ghost use Prim.Native.Nat.{_≤_};

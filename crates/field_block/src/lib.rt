@@ -1,4 +1,4 @@
-// A grid block of document 01's field: what the requested search answers there, and the sums over the blocks so far.
+// A grid block of a field: what the requested search answers there, and the sums over the blocks so far.
 
 ghost use mathlib.Core.Path.{_≡_};
 ghost use Prim.Native.Nat.{_<_};

@@ -1,4 +1,4 @@
-// What document 01's field call tests before anything is filled: the request, and the lengths of list and table.
+// What the field call tests before anything is filled: the request, and the lengths of list and table.
 
 ghost use mathlib.Core.Path.{_≡_};
 ghost use Rattle.field_rules.specs.Rules.{fieldRefusal};

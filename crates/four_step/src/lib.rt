@@ -1,5 +1,5 @@
-// Search 3 of document 01, four-step: document 001's patterns of nine points, two apart, that move until their centre stays, then the eight
-// points next to it.
+// Search 3, four-step: Po and Ma's four-step search, by patterns of nine points, two apart, that move until their centre stays, then the eight
+// points next to it. specs/FourStep.antt has its steps.
 
 ghost use mathlib.Core.Path.{_≡_};
 ghost use Prim.Native.Nat.{_+_, _≤_};

@@ -1,4 +1,4 @@
-// Search 1 of document 01, full: the candidate of least distortion; equals go to the earlier in preference order.
+// Search 1, full: the candidate of least distortion; equals go to the earlier in preference order.
 
 ghost use mathlib.Core.Path.{_≡_};
 ghost use Prim.Native.Nat.{_<_};

@@ -1,5 +1,4 @@
-// The walker's step along a log of document 01: the command at a cursor, judged by the rules of 01, for a log of any bytes and a cursor
-// built in any way.
+// The walker's step along a log: the command at a cursor, or the refusal, for a log of any bytes and a cursor built in any way.
 
 ghost use mathlib.Core.Path.{_≡_};
 ghost use mathlib.Core.Bool.{true};

@@ -8,7 +8,7 @@ ghost use Rattle.log_command.specs.Commands.{commandNumber, commandSize,
 ghost use Rattle.log_command.specs.Operands.{headIn};
 use log_head::Head;
 
-// What a call of the walker hands out. `commandNumber` and `commandValues` of specs/Commands.antt are 01's number and values of each case.
+// What a call of the walker hands out. specs/Commands.antt has the number of each case, `commandNumber`, and its values, `commandValues`.
 pub enum Command {
     Head(Head),
     Block { dy: i32, dx: i32, distortion: u32 },

@@ -1,4 +1,4 @@
-// A log's head and blocks: the rules of document 01 for a head's numbers, and for what a block may be in a log with that head.
+// A log's head and blocks: the rules for a head's numbers, and for what a block may be in a log with that head.
 
 ghost use mathlib.Core.Path.{_≡_};
 ghost use Prim.Native.Nat.{_≤_, _<_};

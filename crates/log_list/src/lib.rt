@@ -1,4 +1,4 @@
-// Head numbers and a list of three numbers a block, as a field fills it: the tests 1 3 4 5 10 16 of document 01.
+// Head numbers and a list of three numbers a block, as a field fills it: what writing a log tests of them, 1 3 4 5 10 16.
 
 ghost use mathlib.Core.Path.{_≡_};
 ghost use Prim.Native.Nat.{_+_, _*_, _<_};

@@ -1,4 +1,4 @@
-// Reads a whole log of document 01 into a lent list, three numbers a block. Nothing is stored before the whole log is accepted.
+// Reads a whole log into a lent list, three numbers a block. Nothing is stored before the whole log is accepted.
 
 ghost use mathlib.Core.Path.{_≡_};
 ghost use mathlib.Core.List.{[], _∷_, _++_};

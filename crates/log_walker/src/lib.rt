@@ -1,4 +1,4 @@
-// The walker of document 01: a lent log and a cursor. One command a call.
+// The walker: a lent log and a cursor. One command a call.
 
 ghost use mathlib.Core.Path.{_≡_};
 ghost use Rattle.log.specs.Step.{startCursor};

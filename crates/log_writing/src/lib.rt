@@ -1,4 +1,4 @@
-// Writes a log of document 01: head numbers and a list of three numbers a block, as bytes in a lent buffer.
+// Writes a log: head numbers and a list of three numbers a block, as bytes in a lent buffer.
 
 ghost use mathlib.Core.Path.{_≡_};
 ghost use Prim.Native.Nat.{_+_, _*_, _≤_, _<_};

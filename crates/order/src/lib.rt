@@ -1,4 +1,4 @@
-// Vectors and the preference order of document 01: the table of all vectors of window 16, and the vector at a place of it.
+// Vectors and the preference order: the table of all vectors of window 16, and the vector at a place of it.
 // specs/ has the rule and the table; proofs/Order.antt shows that the table has each vector of window 16, once, in the rule's order.
 // A caller asks for the table once and lends it down: each use of the constant copies it.
 

@@ -1,4 +1,4 @@
-// The preference order of document 01: the 1,089 vectors of window 16 as signed pairs, dy then dx, the vector beside each pair.
+// The preference order: the 1,089 vectors of window 16 as signed pairs, dy then dx, the vector beside each pair.
 use crate::NUMBERS;
 
 pub const ORDER: [i32; NUMBERS] = [

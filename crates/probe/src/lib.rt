@@ -1,4 +1,4 @@
-// How searches 3 and 4 of document 01 probe points: the best so far, and the points of a pattern around it, in the table's order.
+// How searches 3 and 4 probe points: the best so far, and the points of a pattern around it, in the table's order.
 
 ghost use mathlib.Core.Path.{_≡_};
 ghost use Prim.Native.Nat.{_+_, _≤_};

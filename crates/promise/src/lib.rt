@@ -1,1 +1,1 @@
-// Demand 3 of document 01: no code. specs/Demand.antt says what is promised of every list of calls, proofs/Promise.antt proves it.
+// Demand 3, the one promise about every list of homings and steps: no code. specs/Demand.antt says what is promised, proofs/Promise.antt proves it.

@@ -1,4 +1,4 @@
-// Search 2, the pruned search, of one block: document 01's steps over the candidates' places in the preference table.
+// Search 2, Gharavi-Alkhansari's pruned search, of one block: its steps over the candidates' places in the preference table.
 
 ghost use mathlib.Core.Path.{_≡_};
 ghost use Rattle.order.specs.Preference.{preference, flat};

@@ -1,1 +1,1 @@
-// The mathematics of search 2, the pruned search: no code. specs/ has 01's steps, proofs/ that they never lose the winner.
+// The mathematics of search 2, Gharavi-Alkhansari's pruned search: no code. specs/ has its steps, proofs/ that they never lose the winner.

@@ -1,5 +1,5 @@
-// The steps of search 2, the pruned search, between its resolutions: document 01's, over the candidates' places in the preference table. The remaining
-// candidates stand in front of the array `remaining`, in preference order, and their distances at m in `dist`.
+// The steps of search 2, the pruned search, between its resolutions, over the candidates' places in the preference table. The remaining candidates
+// stand in front of the array `remaining`, in preference order, and their distances at m in `dist`.
 
 ghost use mathlib.Core.Path.{_≡_};
 ghost use Prim.Native.Nat.{_≤_, _<_};

@@ -1,4 +1,4 @@
-// The reading of document 01: the vector that most blocks have, with its votes, by one vote a block and one walk along the preference order.
+// The reading: the vector that most blocks have, with its votes, by one vote a block and one walk along the preference order.
 
 ghost use mathlib.Core.Path.{_≡_};
 ghost use Prim.Native.Nat.{_+_, _<_};

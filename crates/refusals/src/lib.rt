@@ -1,4 +1,4 @@
-// The refusals 1 to 7 of document 01: each rule as a test, and the chains of tests with which the calls begin.
+// The refusals 1 to 7: each rule as a test, and the chains of tests with which the calls begin.
 
 ghost use mathlib.Core.Path.{_≡_};
 ghost use Prim.Native.Nat.{_+_};

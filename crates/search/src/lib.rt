@@ -1,4 +1,4 @@
-// What the four searches of document 01 share: the distortion of a candidate, and the answer.
+// What the four searches share: the distortion of a candidate, and the answer.
 
 ghost use mathlib.Core.Path.{_≡_};
 ghost use Prim.Native.Nat.{_-_, _≤_};

@@ -1,5 +1,5 @@
-// Signed numbers: every signed operation of the gauge, each with its result as an equation. Where document 01 lets any number
-// come in, no function asks anything of it.
+// Signed numbers: every signed operation of the gauge, each with its result as an equation. Where a caller of the gauge may hand in any number,
+// no function asks anything of it.
 
 ghost use mathlib.Core.Path.{_≡_};
 ghost use Prim.Native.Nat.{_≤_, _<_};

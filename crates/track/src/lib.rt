@@ -1,5 +1,4 @@
-// The track of document 01, by value: where the paper stands. Home sets it, a step adds the travel of a pair of pictures; each hands the
-// track and an answer back.
+// The track, by value: where the paper stands. Home sets it, a step adds the travel of a pair of pictures; each hands the track and an answer back.
 
 ghost use mathlib.Core.Path.{_≡_};
 ghost use Prim.Native.Nat.{_<_};

@@ -1,4 +1,4 @@
-// The rules of document 01's track in plain numbers: where it may be homed, when it may step, and where a travel leads.
+// The track's rules in plain numbers: where it may be homed, when it may step, and where a travel leads.
 
 ghost use mathlib.Core.Path.{_≡_};
 ghost use Rattle.track_rules.specs.Rules.{homeRefusal, stateRefusal, refusedArrival, arrive};

@@ -1,4 +1,4 @@
-// The row view of document 01: N pels of one row as the very part of the older or the newer frame, and its companion.
+// The row view: N pels of one row as the very part of the older or the newer frame, and its companion.
 
 ghost use mathlib.Core.Path.{_≡_};
 ghost use lib.ListN.{length};
