@@ -1,6 +1,6 @@
 -- Numbers in rows, one row behind the other, and a list filled with them as a loop over rows leaves it.
---   inRows    p rows of k numbers each, as f says
---   Rowed   p rows of k numbers each are filled; behind them is what was there
+--   inRows   p rows of k numbers each, as f says
+--   Rowed    p rows of k numbers each are filled; behind them is what was there
 use Prim.Native.Nat.{ℕ, zero, suc, _+_, _*_, _≤_, _<_}
 use mathlib.Core.Path.{_≡_, refl, sym, ap, _∙_}
 use mathlib.Core.List.{List, _++_, append-nil, append-assoc}

@@ -1,6 +1,6 @@
 -- 01, "Field, reading, track": "A single-block search takes neither list nor table; its block stands at any pel row and column."
---   searchRefusal   1 2 3 4 5 6 7
---   searchBlock      the answer: the number and zeros, or what the requested search finds
+--   searchRefusal   1 2 3 4 5 6 7: a request, and the block's place
+--   searchBlock     the answer: the number and zeros, or what the requested search finds
 -- The counts of four-step where a block stands clear of every border: proofs/Unclipped.antt.
 use Prim.Native.Nat.{ℕ, _+_, _≤_}
 use mathlib.Core.Path.{_≡_, ap, sym, _∙_}

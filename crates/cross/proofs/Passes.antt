@@ -28,7 +28,7 @@ unfolding passesIn
 pass-more zero t p s h = absurd (omega arith)
 pass-more (suc n) t p s h = let e : suc n - 1 ≡ n = omega arith in rw e
 
--- of a window of cross: document 000's passes, p from w / 2 down to 2, are log2 w - 1
+-- of a window of cross: the passes of steps 3 to 5, p from w / 2 down to 2, are log2 w - 1
 pub passes-many : (t : Target) (s : Seen) (w : ℕ) → T (crossWindow w) → passesIn (log2 w - 1) t (w / 2) s ≡ allPasses w t (w / 2) s
 unfolding allPasses passesIn trailingZeros
 passes-many t s = cross-elim (λ w. passesIn (log2 w - 1) t (w / 2) s ≡ allPasses w t (w / 2) s) refl refl refl refl

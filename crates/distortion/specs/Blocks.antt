@@ -1,5 +1,5 @@
--- 01, "Pictures, blocks, vectors": "Distortion is the sum of absolute pel differences, the mean of document 000 (2) without its
--- division; at most 255 × N²." For every N and over a measure of the differences; `absolute` is the one in use.
+-- 01, "Pictures, blocks, vectors": "Distortion is the sum of absolute pel differences [...]; at most 255 × N²." It is the mean absolute error of
+-- Ghanbari's paper, its formula (2), without the division by N². For every N and over a measure of the differences; `absolute` is the one in use.
 --   Block         a block: the pel at a row and a column, counted from the block's corner
 --   blockAt       the block of a frame that stands at a row and a column
 --   Measure       how two pels differ, and how far a distance at m may go for a bound E (search 2)

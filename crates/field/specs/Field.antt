@@ -3,10 +3,10 @@
 -- holds the sum of older pels in rows before r and columns before c, r to height, c to width. Searches 1, 3 and 4 leave that table unchanged.
 -- Places past the used part of any lent memory keep what they held."
 --   entryOf, entriesOf   the three numbers of a block, and of all grid blocks in order
---   tableOf          the table of sums
---   countOver        a count, summed over the blocks
---   fieldAnswer      what an accepted call answers; refusedField: a refused one
---   FieldResult      what a field call answers, with what list and table then hold: field; acceptedField: of an accepted call
+--   tableOf              the table of sums
+--   countOver            a count, summed over the blocks
+--   fieldAnswer          what an accepted call answers; refusedField: a refused one
+--   FieldResult          what a field call answers, with what list and table then hold: field; acceptedField: of an accepted call
 use Prim.Native.Nat.{ℕ}
 use mathlib.Core.Path.{_≡_, ap, sym, _∙_}
 use mathlib.Core.Bool.{cond}

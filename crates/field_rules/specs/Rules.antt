@@ -1,8 +1,9 @@
--- 01, "What the input can be turned away for", 9 and 10, and a field's tests as one chain.
---   tableSize, listSize   places of the table and of the list that are used
+-- 01, "What the input can be turned away for": "9 search 2: table shorter than (width + 1) × (height + 1)", "10 list shorter than three a block"; and
+-- a field's tests as one chain.
+--   tableSize, listSize     places of the table and of the list that are used
 --   tableOk 9 · listOk 10   what each number asks for
---   fieldRefusal     1 2 3 4 5 6 9 10
---   HasRoom          what an accepted field call may go by: has-room
+--   fieldRefusal            1 2 3 4 5 6 9 10: a request, and the lengths of table and list
+--   HasRoom                 what an accepted field call may go by: has-room
 use Prim.Native.Nat.{ℕ, _+_, _*_, _≤_}
 use mathlib.Core.Path.{_≡_}
 use mathlib.Core.Bool.{Bool, not, _||_}

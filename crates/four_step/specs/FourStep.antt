@@ -1,11 +1,12 @@
--- 01, search 3 "four-step", "w exactly 7, document 001. Its patterns are constant tables of offsets: centre, then the eight around it, row by
+-- 01, "The four searches", search 3: "w exactly 7, document 001. Its patterns are constant tables of offsets: centre, then the eight around it, row by
 -- row, at distance 2. Only a strictly smaller distortion replaces. Steps 2 and 3 measure the pattern points that were not in the pattern just
--- before; a centre that stays leads to step 4, the eight at distance 1, again row by row. Step 3 always leads to step 4."
---   square     the nine offsets; ring: the eight at distance 1
---   moved      the pattern around the best by now, without the points that were in the pattern just before
+-- before; a centre that stays leads to step 4, the eight at distance 1, again row by row. Step 3 always leads to step 4." Document 001 is Po and Ma's
+-- paper on the four-step search; in its step 1 the pattern stands around (0,0), in steps 2 and 3 around the best by now.
+--   square                 the nine offsets; ring: the eight at distance 1
+--   moved                  the pattern around the best by now, without the points that were in the pattern just before
 --   step1, step23, step4   the steps: step23 after a pattern around a centre
 --   from2, from3           from step 2 or step 3 on, after a pattern around a centre
---   fourStep   the search
+--   fourStep               the search
 -- That it ends at a candidate with that vector's own distortion, its counts, and that it looks at nothing outside window 7 are proved:
 -- proofs/FourStep.antt, proofs/Unclipped.antt.
 use mathlib.Core.Bool.{cond}

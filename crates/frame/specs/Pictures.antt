@@ -1,8 +1,10 @@
--- 01, "Pictures, blocks, vectors": frames, and the sizes of frames and blocks.
+-- 01, "Pictures, blocks, vectors": "A pel is one byte. A frame is rows of pels, top row first. Width and height are 4 to 1,024; the lent slice has
+-- exactly width × height bytes. Block size N is 4, 8 or 16, at most width and height."
 --   Sizes (src)  width, height and N
 --   Pair         an older and a newer frame, with their sizes
---   pel          the pel at a row and a column of a frame: rows of pels, top row first
---   Fitting      sizes at which a block of N pels, whatever N is, fits a frame of 01's largest size
+--   pel          the pel at a row and a column of a frame
+--   Fitting      sizes at which a block of N pels, whatever N is, fits a frame of at most 1,024 × 1,024
+--   largestN     16; largestDistortion: 255 × N² of it; countNumber: how many counts a search has, the last at lastCount
 use Prim.Native.Nat.{ℕ, _+_, _-_, _*_, _≤_, _<_}
 use mathlib.Core.List.{List}
 use native.Mathlib.Omega.{arith}

@@ -1,7 +1,7 @@
 -- 01, "The four searches", search 1: "the least distortion; equals go to the earlier in preference order. The m = 1 count is the number of
 -- candidates."
---   CopyOf         a copy of the block, of N 16, row after row
---   fullSearch      the answer of search 1 for the block at row y, column x
+--   CopyOf       a copy of the block, of N 16, row after row
+--   fullSearch   the answer of search 1 for the block at row y, column x
 use Prim.Native.Nat.{ℕ, _+_, _*_}
 use mathlib.Core.Path.{_≡_}
 use mathlib.Core.List.{List}

@@ -1,9 +1,9 @@
 -- 01, "Log": the commands. "1 head, 2 block, 3 still block, 4 end". "Head: width and height (2 bytes each), N, w, search (1 each). Block: dy, dx as
 -- two's-complement bytes, distortion 2 bytes. Still block: no operand, for (0,0) with distortion 0 [...] End: number of blocks, 4 bytes."
---   commandNumber   01's number of each case: the command byte, or the refusal's number
---   commandValues   01's values of each case, in the order in which they are written and printed: of a refusal its place
+--   commandNumber   the number of each case: the command byte, or the refusal's number
+--   commandValues   the values of each case, in the order in which they are written and printed: of a refusal its place
 --   commandBytes    the bytes of a command, its number first; a refusal has none
---   commandSize          how many bytes a command takes
+--   commandSize     how many bytes a command takes
 --   isRefused       the command is a refusal; commandPlace: its place
 --   commandHead     the numbers of a head; other commands have none, that is zeros
 --   blockValues     the three numbers that a block of either kind has in a list; other commands have none

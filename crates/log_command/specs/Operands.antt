@@ -1,6 +1,6 @@
 -- 01, "Log": the operands of a command that stands at an offset. "Head: width and height (2 bytes each), N, w, search (1 each). Block: dy, dx as
 -- two's-complement bytes, distortion 2 bytes."
---   headIn                   a head's numbers
+--   headIn                     a head's numbers
 --   dyIn, dxIn, distortionIn   a block's numbers; blockIn: the block that they make
 use Prim.Native.Nat.{ℕ, _+_}
 use mathlib.Core.List.{List}

@@ -1,12 +1,13 @@
--- 01, "Log" and refusals 15 and 16: the rules for a head's numbers, and for what a block may be in a log with that head.
+-- The rules for a head's numbers, and for what a block may be in a log with that head. 01, "What the input can be turned away for": "15 head that 1,
+-- 3, 4 or 5 would turn away; 16 block vector no candidate, distortion below 0 or over 255 × N², or a still block as command 2".
 --   noHead        a head of zeros: what a refused call answers with
 --   sizesIn       the sizes of a head
---   headRefusal   1 3 4 5: what turns head numbers away
---   headOk        15 lets the head pass: "head that 1, 3, 4 or 5 would turn away"
+--   headRefusal   1 3 4 5: what turns head numbers away, be it width or height, N, the search or w
+--   headOk        15 lets the head pass
 --   headBlocks    how many blocks the head's grid has
 --   candidateOk   the vector is a candidate of window w for grid block k; distortionOk: 0 to 255 × N²
---   entryOk       both: 16, "block vector no candidate, distortion below 0 or over 255 × N²", of grid block k
---   isStill       "a still block": (0,0) with distortion 0
+--   entryOk       both: what 16 asks of the three numbers of grid block k
+--   isStill       a still block: (0,0) with distortion 0
 use Prim.Native.Nat.{ℕ, suc, _+_, _*_, _≤_, _<_}
 use mathlib.Core.Path.{_≡_, refl, sym}
 use mathlib.Core.Logic.{_⊎_, ⊎-elim}

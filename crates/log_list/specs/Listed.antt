@@ -1,5 +1,5 @@
--- 01: head numbers and a list of three numbers a block, tested as writing a log tests them:
--- "1, 3, 4, 5, 10, then 16 with the block's number, from 0, as place".
+-- Head numbers and a list of three numbers a block, tested as writing a log tests them. 01, "What the input can be turned away for": "Writing tests 1,
+-- 3, 4, 5, 10, then 16 with the block's number, from 0, as place": the head's numbers, the list's length, then each block.
 --   valueOf       the number at place i of block k's three
 --   listRefusal   1 3 4 5 10
 --   listedOk      16 lets block k pass: its three numbers are a candidate and its distortion

@@ -1,7 +1,7 @@
 -- A walk's cursor and commands as plain numbers, for callers that have no enums.
 --   phaseOf, cursorOf   the cursor that plain numbers stand for: phase 0 before the head, 1 among the blocks, 2 after the end, any other after a refusal
 --   plainIn, plainOf    a cursor as plain numbers; where a phase has no head and no blocks they are 0
---   answerOf            01's number and values of each case of a command, beside the cursor after it
+--   answerOf            the number and the values of each case of a command, beside the cursor after it
 --   walkFrom            one call of the walker
 --   answersFrom         the answers that a caller sees who hands `next` back until a refusal, in so many calls at most
 --   CommandsOf          answers that tell these commands, one each and in order, whatever place is beside each

@@ -1,4 +1,4 @@
--- 01, "Log": writing, reading and walking a log agree with each other. proofs/RoundTrip.antt has the theorem, round-trip : RoundTrip.
+-- Writing, reading and walking a log agree with each other. proofs/RoundTrip.antt has the theorem, round-trip : RoundTrip.
 -- From below come, as the contracts of the code cite them:
 --   writeLog      what writing answers, with the buffer afterwards (crates/log_writing)
 --                 logOf, logCommands: the log of a head and a list, as bytes and as commands

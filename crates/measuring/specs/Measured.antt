@@ -1,5 +1,6 @@
--- 01, "Field, reading, track": "The measuring call takes a pair, N, such a place and one vector, and answers with the distortion."
---   measureRefusal   1 2 3 7 8
+-- 01, "Field, reading, track": "The measuring call takes a pair, N, such a place and one vector, and answers with the distortion." Such a place is any
+-- pel row and column at which a block may stand.
+--   measureRefusal   1 2 3 7 8: a pair, N, the block's place, and the vector
 --   measure          the answer: the number and 0, or 0 and the distortion
 use Prim.Native.Nat.{ℕ}
 use mathlib.Core.Path.{_≡_}

@@ -3,10 +3,10 @@
 --   seenOf     what the search has seen
 --   offset     the vector of a pair [dy, dx]; pairs: those of a table of pairs
 --   Pattern    a table of at most nine offset pairs, each in window 2
---   probeNew  a point is probePoint at, where it is not among those of a list
+--   probeNew   a point is tried, where it is not among those of a list
 --   Ongoing    what a step asks: a block that can be searched, a best in window 16, and room in the count for so many more
 --   Holds      what a step promises: it holds what the definition says, the best in window 16, and at most so many measured
---   resultOf    the answer. 01: "Searches 3 and 4 count at m = 1."
+--   resultOf   the answer. 01: "Searches 3 and 4 count at m = 1."
 use Prim.Native.Nat.{ℕ, _+_, _≤_, _<_}
 use mathlib.Core.Path.{_≡_}
 use mathlib.Core.Bool.{cond}

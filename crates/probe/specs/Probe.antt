@@ -1,12 +1,12 @@
 -- 01, "The four searches": how searches 3 and 4 try points. "In 3 and 4 a point that is no candidate is neither measured nor counted.
 -- A point met again in a later step is measured and counted again; the centre is not." "Only a strictly smaller distortion replaces."
---   origin, plus   (0,0), and the sum of two vectors
---   Seen     the best vector by now, its distortion, the number measured
---   probePoint   one point is tried, and counted where it is a candidate; probe: points, in order; atOrigin: (0,0) alone
---   around   a pattern's points from a centre: its offsets, each added to the centre; widened: the offsets times a step size p
---   fresh    the points that are not among those of a list: isIn
+--   origin, plus    (0,0), and the sum of two vectors
+--   Seen            the best vector by now, its distortion, the number measured
+--   probePoint      one point is tried, and counted where it is a candidate; probe: points, in order; atOrigin: (0,0) alone
+--   around          a pattern's points from a centre: its offsets, each added to the centre; widened: the offsets times a step size p
+--   fresh           the points that are not among those of a list: isIn
 --   OwnDistortion   the best is a candidate, and the distortion is its own
---   Alike    two targets that a search cannot tell apart which looks at no point outside window n
+--   Alike           two targets that a search cannot tell apart which looks at no point outside window n
 use Prim.Native.Nat.{ℕ, _+_}
 use mathlib.Core.Path.{_≡_}
 use mathlib.Core.Bool.{Bool, false, cond, _&&_, _||_}

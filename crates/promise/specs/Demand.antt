@@ -1,5 +1,6 @@
--- Demand 3 of 01, whole: "one claim about the whole list of calls". To be read from top to bottom beside 01, "Field, reading, track", from the paragraph that
--- begins "Demand 3 is one claim" on; proofs/Promise.antt has the theorem, promise : (calls : List Call) → Promise calls.
+-- Demand 3, whole: "one claim about the whole list of calls". To be read from top to bottom beside docs/REFERENCE.md, "Field, reading, track", from
+-- where demand 3 begins; what stands in quotation marks is said there. proofs/Promise.antt has the theorem,
+-- promise : (calls : List Call) → Promise calls.
 --   Call                     the calls
 --   travel                   a pair's travel, by exhaustive bests
 --   refusalOf, accept        which refusal applies to a call, and what an accepted one does

@@ -33,7 +33,7 @@ block-fillable older newer b r =
       table = mul-le-mul {n₂ = largestN + 1} {m₂ = largestN + 1} (omega (arith, n)) (omega (arith, n));
     }
 
--- 01's N are powers of two
+-- the N that are allowed, 4, 8 and 16, are powers of two
 pub block-size-power : (n : ℕ) → T (blockSizeOk n) → PowerOfTwo n
 block-size-power = block-size-elim PowerOfTwo (1, refl) (2, refl) (3, refl)
 

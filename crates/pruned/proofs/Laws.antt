@@ -1,6 +1,6 @@
 -- What search 2's answer is worth. Whatever N is, dropped and finally measured are all candidates. Where N is a power of two, at a block that stands
 -- wholly inside, the answer is the exhaustive best, because no test drops it, and what is dropped is strictly worse. That five counts are enough is said
--- of 01's N.
+-- of N 4, 8 and 16.
 use Prim.Native.Nat.{ℕ, _+_, _≤_, _<_}
 use mathlib.Core.Path.{_≡_, refl, ap, _∙_}
 use lib.Dec.{T}
@@ -87,7 +87,7 @@ module _ (p : Pair) (w y x : ℕ) (power : PowerOfTwo (p .sizes .n)) (small : w 
       search-drops absolute absolute-lawful (p .sizes .n) (newerBlock p y x) (λ k. olderBlock p y x (preferred k)) (resolutions (p .sizes .n))
       (places (p .sizes) w y x) (stillDistortion p y x) given (resolutions-divide (p .sizes .n) power) i
 
--- 01's N
+-- the N that are allowed: 4, 8 and 16
 module _ (p : Pair) (w y x : ℕ) (allowed : T (blockSizeOk (p .sizes .n))) where
   pub pruned-probes : probes (prunedSearch p w y x) ≡ length (pruning p w y x .left)
   pruned-probes = measured p w y x (few-rounds (p .sizes .n) allowed)

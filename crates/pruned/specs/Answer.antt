@@ -1,10 +1,10 @@
--- 01, "The four searches", search 2, of the block at row y, column x of a pair, for window w: its steps (pruned_rule/specs/Prune.antt) over the block's
+-- What search 2 answers for the block at row y, column x of a pair, for window w: its steps (pruned_rule/specs/Prune.antt) over the block's
 -- candidates, each known by its place in the preference table.
---   placeDistortion  the distortion of the vector at place k of the preference table
---   placeDistance    its distance at m
---   pruning       where search 2's steps end: what they leave, and what they drop
---   prunedPlace        the place of the vector that they choose
---   prunedSearch   what search 2 answers
+--   placeDistortion   the distortion of the vector at place k of the preference table
+--   placeDistance     its distance at m
+--   pruning           where search 2's steps end: what they leave, and what they drop
+--   prunedPlace       the place of the vector that they choose
+--   prunedSearch      what search 2 answers
 use Prim.Native.Nat.{ℕ}
 use lib.ListN.{length}
 use Rattle.order.specs.Preference.{preferred}

@@ -86,7 +86,7 @@ module _ (older newer : List ℕ) (b : SearchBlock) (sums : List ℕ) (a : Regio
         across = o .across;
       }
 
-  -- cornerOrigin from any origin at or before all of them
+  -- counted from any origin at or before all of them
   pub reached : (i top left stride : ℕ) → At i → top ≤ olderRow (b .y) (vector i) → left ≤ olderColumn (b .x) (vector i) → stride ≤ 1025
       → Reached (record { y = b .y; x = b .x; top = top; left = left; stride = stride }) (vector i)
   reached i top left stride p ht hl hs = record {
@@ -220,7 +220,7 @@ module _ (older newer : List ℕ) (b : SearchBlock) (sums : List ℕ) (a : Regio
         pub place-corner-region : placeOf cornerOrigin (vector i) < vectorCount
         place-corner-region = let p = within in omega (arith, few, p .3, row-fits (R i h - w .top) (w .rows) (w .columns) (p .2))
 
-        -- the same place of the table, cornerOrigin from the part's corner
+        -- the same place of the table, counted from the part's corner
         same-place : corner + (R i h - w .top) * (a .columns + 1) + (C i h - w .left) ≡ placeOf origin (vector i)
         same-place =
             let p = within in

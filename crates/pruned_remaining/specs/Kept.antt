@@ -1,5 +1,5 @@
--- 01, "The four searches", search 2: "the remaining candidate of least distance", and "drop each whose distance exceeds E", in an array of places in the
--- preference table.
+-- 01, "The four searches", search 2: "find the remaining vector of least distance (equals: preference order)", and "drop each whose distance exceeds
+-- E", in an array of places in the preference table.
 --   nearestOf    of the first count of remaining, the first whose distance, at the same place of dist, is least
 --   keptWithin   of the first n of remaining, those whose distance, at the same place of dist, is at most the limit, in their order
 --   swept        the array after n turns: each of the first n was stored behind those before it that stay

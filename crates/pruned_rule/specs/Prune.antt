@@ -1,6 +1,7 @@
--- 01, "The four searches", search 2, step by step, over a list of candidates in preference order.
+-- 01, "The four searches", search 2, step by step, over a list of candidates in preference order. It is the search of Gharavi-Alkhansari's paper with
+-- exponent 1; where the paper's Table 1 has window ends exchanged, loses earlier removals or stops at E = 0 with ties unsettled, these steps hold.
 --   Pruning       where the search stands: E, the candidates that remain, those dropped, and how many were tested at each m so far
---   allRemaining         "Begin with all candidates and E = distortion of (0,0)": that distortion is e
+--   allRemaining  "Begin with all candidates and E = distortion of (0,0)": that distortion is e
 --   lower         "find the remaining vector of least distance (equals: preference order), lower E to its distortion if that is less"
 --   sift          "then drop each whose distance exceeds E"
 --   rounds        lower and sift at each of the resolutions ms

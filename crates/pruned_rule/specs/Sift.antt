@@ -1,7 +1,7 @@
 -- Lists of candidates parted by a limit: "drop each whose distance exceeds E" (01, search 2).
---   kept v l ks   the k of ks with v k at most l, in their order
+--   kept v l ks        the k of ks with v k at most l, in their order
 --   exceeding v l ks   the k of ks with v k exceeding l, in their order
---   total g ks    the sum of g over the list
+--   total g ks         the sum of g over the list
 use Prim.Native.Nat.{ℕ, _+_}
 use mathlib.Core.Bool.{cond}
 use mathlib.Core.List.{List, [], _∷_}

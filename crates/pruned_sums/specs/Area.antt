@@ -1,5 +1,5 @@
 -- 01, "Field, reading, track": "place r × (width + 1) + c holds the sum of older pels in rows before r and columns before c, r to height, c to
--- width." Of any part of a frame, its rows and columns counted from its own corner: of the whole frame, the part at row 0 and column 0 is 01's table.
+-- width." Of any part of a frame, its rows and columns counted from its own corner; that of the whole frame is the table that a field fills.
 --   area     the sum of the pels in rows before r and columns before c
 --   sumsTo   the first n rows of the table
 --   summed   the whole table

@@ -1,7 +1,7 @@
 -- How the summed-area table is filled: a first row of zeros, then row by row from the one above.
 --   blockTable   how long the table of a block of the largest N is; windowTable: that of its search window, 16 pels more on each side
---   Fillable   the part of the frame lies in it, and the table has room
---   nextRow    entry c of the row that is made from the one above and the pels of a row
+--   Fillable     the part of the frame lies in it, and the table has room
+--   nextRow      entry c of the row that is made from the one above and the pels of a row
 use Prim.Native.Nat.{ℕ, _+_, _*_, _≤_}
 use mathlib.Core.List.{List}
 use lib.ListN.{length, getD}

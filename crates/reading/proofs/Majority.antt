@@ -1,8 +1,8 @@
 -- The vector of most blocks is the one that the walk along the preference table keeps: every vector of window 16 stands there, in the order's order,
 -- and a vector outside it has no block.
---   same-no                         what the test of two vectors says
---   votes-none, votes-more, votes-few  how votes grow; votes-ext: blocks with the same vectors, the same votes
---   majority-most                      the majority has most blocks, ties by preference order; most-unique: no other has
+--   same-no                             what the test of two vectors says
+--   votes-none, votes-more, votes-few   how votes grow; votes-ext: blocks with the same vectors, the same votes
+--   majority-most                       the majority has most blocks, ties by preference order; most-unique: no other has
 use Prim.Native.Nat.{ℕ, zero, suc, _+_, _≤_, _<_}
 use mathlib.Core.Path.{_≡_, refl, sym, ap, _∙_, subst}
 use mathlib.Core.Logic.{_⊎_, inl, inr, ⊎-elim}

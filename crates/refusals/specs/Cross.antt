@@ -1,4 +1,4 @@
--- 01, search 4: "w 2, 4, 8 or 16, so w has just one bit set".
+-- 01, "The four searches", search 4: "w 2, 4, 8 or 16, so w has just one bit set".
 --   crossWindow   the four windows
 --   one-bit       in 2..16 they are the numbers with one bit set
 --   log2          of such a window: its trailing zeros

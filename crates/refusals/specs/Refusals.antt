@@ -1,6 +1,6 @@
--- 01, "What the input can be turned away for", 1 to 7: each rule as a test, and each call's tests as one chain, in 01's order.
+-- The refusals 1 to 7: each rule as a test, and each call's tests as one chain. 01, "What the input can be turned away for": "Checked in this order,
+-- as far as a call has the input." Each rule's own words stand at its test.
 --   sideOk 1 · frameOk 2 · blockOk 3 · searchOk 4 · windowOk 5 · thresholdOk 6 · placeOk 7   what each number asks for
---   largestN, largestDistortion   the largest N, and the largest distortion of a block
 --   pairRefusal     1 2 3: what every call with a pair tests first
 --   placedRefusal   1 2 3 7: a pair, N and a block's place
 --   requestRefusal  1 2 3 4 5 6: a pair and a search

@@ -1,10 +1,10 @@
 -- 01, "Field, reading, track": "A block's exhaustive best is its candidate of least distortion (equals: preference order)". From candidates,
 -- distortions and the order alone: no search, no table. There is one such vector, and one only: best-is and best-unique of proofs/Exhaustive.antt.
---   Best      v is the exhaustive best of the block at row y, column x, for window w
---   passing   the vectors of window 16 that pass a test, as places in the preference table, in preference order
---   places    the block's candidates, so
---   best      the first of least distortion among them
---   howOften  how often a vector stands at such places
+--   Best         v is the exhaustive best of the block at row y, column x, for window w
+--   passing      the vectors of window 16 that pass a test, as places in the preference table, in preference order
+--   places       the block's candidates, so
+--   best         the first of least distortion among them
+--   howOften     how often a vector stands at such places
 --   candidates   the number of candidates, counted without the table over the vectors of window 16, by rows and columns: gridVector
 -- That places has each candidate of a window up to 16 once and nothing else, and is as long as there are candidates: proofs/Counted.antt.
 use Prim.Native.Nat.{ℕ, _+_, _≤_}

@@ -1,8 +1,7 @@
--- 01, "The four searches": what a search may ask of a block at row y, column x, for window w: which vectors are candidates, and their
--- distortions.
---   Ready     the frames have the sizes that the block names, it stands wholly inside the newer one, and its window is at most 16
---   Past      a row or a column of a candidate's older block, at or behind some other
---   Target    the block as a search sees it: `target`
+-- What a search may ask of a block at row y, column x, for window w: which vectors are candidates, and their distortions.
+--   Ready              the frames have the sizes that the block names, it stands wholly inside the newer one, and its window is at most 16
+--   Past               a row or a column of a candidate's older block, at or behind some other
+--   Target             the block as a search sees it: `target`
 --   measureCandidate   the distortion of a vector, where it is a candidate
 use Prim.Native.Nat.{ℕ, _+_, _≤_}
 use mathlib.Core.Path.{_≡_, refl}

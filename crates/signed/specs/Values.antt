@@ -1,7 +1,7 @@
 -- What the functions of this crate answer, and what a caller reads of it in plain numbers.
 --   absDiff     |a - b| of two pels
 --   shiftedBy   a coordinate moved by an offset, inside 0 ..= last or outside
---   movedBy     a track's place moved by a travel, inside its range of 01 or out of it
+--   movedBy     a track's place moved by a travel, inside -1,000,000 ..= 1,000,000 or outside
 --   bias        d + b as a natural number, and back: unbias
 --   signedByte  the number whose two's complement is a byte, and back: byteOf
 use Prim.Native.Nat.{ℕ, suc, _+_, _-_, _≤_, _<_}

@@ -1,8 +1,8 @@
--- The track's rules of 01 in plain numbers. "Home (y, x), each in -1,000,000..1,000,000"; "Steps end at 1,000,000."; "Travel is the reading with both signs
--- turned."
+-- The track's rules in plain numbers. 01, "Field, reading, track": "Home (y, x), each in -1,000,000..1,000,000"; "Steps end at 1,000,000."; "Travel is
+-- the reading with both signs turned."
 --   inRange       -1,000,000..1,000,000
---   homeRefusal   11
---   stateRefusal  31 32
+--   homeRefusal   11, of a homing place
+--   stateRefusal  31 32, of a track that is to step
 --   arrive        the place after a travel, or 33
 use Prim.Native.Nat.{ℕ}
 use mathlib.Core.Bool.{Bool, cond, not, _&&_}

@@ -1,6 +1,6 @@
 -- 01, "Row view": "Asked for side 0 (older) or 1 (newer), a row, a column and N, the call hands back N pels as the very part of that
 -- frame, starting at that place. A refused call hands back an empty part".
---   viewRefusal   1 2 3 12 7, the companion's number
+--   viewRefusal   the companion's number: 1 2 3 12 7, of a pair and N, the side, the N pels' place
 --   viewPlace     where in its frame the part begins and how long it is
 --   rowView       the pels of the part; partStart: where in memory it begins, so that it is the very part and no copy
 use Prim.Native.Nat.{ℕ, _+_, _*_, _-_, _≤_, _<_}

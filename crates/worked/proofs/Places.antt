@@ -1,7 +1,7 @@
 -- A block's candidates are listed by one walk along the preference order: `pick` goes over the same places, each looked up from the table's beginning.
 --   walkPlaces   the places of the vectors of a list that pass a test
---   after     f of a list, worked out only after the whole list is
---   by-walk   whatever is made of a block's candidates is made of those that the walk lists
+--   after        f of a list, worked out only after the whole list is
+--   by-walk      whatever is made of a block's candidates is made of those that the walk lists
 use Prim.Native.Nat.{ℕ, suc, _+_}
 use mathlib.Core.Path.{_≡_, refl, sym, ap, ap₂, _∙_}
 use mathlib.Core.Bool.{Bool}

@@ -1,4 +1,4 @@
--- The table of 01's worked pairs holds: every answer is computed from the definitions, and is the one owed. The computing goes by the laws of
+-- The table of worked pairs holds: every answer is computed from the definitions, and is the one owed. The computing goes by the laws of
 -- Once.antt, which give the same answers in a form that is quick to compute.
 use mathlib.Core.Path.{_≡_, refl, ap, _∙_}
 use mathlib.Core.List.{List, [], _∷_, flatMap}

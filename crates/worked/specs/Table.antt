@@ -1,6 +1,5 @@
--- 01, "Worked pairs": "Marked * belong to the proved set", and "For the reviewer": "Starred pairs: one joint table, one proof over it." Here
--- stand A to I. A row has a query of a pair and the answer that 01 gives; it is right if the definitions that the
--- contracts cite give that answer.
+-- 01, "Worked pairs": "Marked * belong to the proved set." These, A to I, stand here in one table, with one proof over it. A row has a query of a pair
+-- and the answer that is owed, in 01's words above it; it is right if the definitions that the contracts cite give that answer.
 --   pairA, pairB, pairC, pairD   the frames with their sizes; E and F have C's, G and H have B's
 --   full, pruned, fourStep, cross   a request for a search of a pair
 --   headOf, logB, logC   a head by search 2 with w 1; the logs of B and C
@@ -8,7 +7,7 @@
 --   Query    a query: a search of one block, the measuring call, a distance, a field, a travel, calls on a track, or a log that is written, read,
 --            walked or printed
 --   answer   the answer by the definitions
---   Row      a query, and the answer that 01 gives; Right: they agree
+--   Row      a query, and the answer that is owed; Right: the definitions give it
 --   table    the rows; the proof over them: proofs/Worked.antt
 use Prim.Native.Nat.{ℕ, _+_, _*_}
 use mathlib.Core.Path.{_≡_}
@@ -134,7 +133,7 @@ answer (reading log list) = read (readLog log list)
 answer (walking log) = commands (walk log)
 answer (printing log) = text (printLog log)
 
--- as 01 gives them: a vector, its distortion, the five counts and the number dropped
+-- what a search owes: a vector, its distortion, the five counts and the number dropped
 abbrev pub finds : Vector → ℕ → List ℕ → ℕ → Answer
 finds v d counts dropped = found (searchResult v d counts dropped)
 

@@ -1,4 +1,4 @@
--- `fill_table`: the summed-area table of the whole older frame is 01's table.
+-- `fill_table`: the summed-area table of the whole older frame is the field's table of sums.
 use borrow.Author.Tests.{ne-eqb, eq-eqb}
 use native.Mathlib.Omega.{arith}
 use Rattle.field.specs.Field.{tableOf}
