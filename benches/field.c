@@ -6,7 +6,8 @@
  *
  * Paper is made here: smoothed noise with fibres. The newer picture is the older one moved by a known vector, and each has sensor noise of its own:
  * noise of 2 grey levels is noise whose standard deviation is 2. Noise raises the least distortion, so search 2's coarse tests drop fewer candidates,
- * the fewer the less contrast the paper has. So fibres and plain paper stand here with noise of 2 and of 5 grey levels.
+ * the fewer the less contrast the paper has. So fibres and plain paper stand here with noise of 2 and of 5 grey levels, nearly normal; the rows that
+ * name no noise have even noise of -3 .. 3, that is of 2 grey levels too.
  *
  * The last column is the measure of Mohammad Gharavi-Alkhansari, "A fast motion estimation algorithm equivalent to exhaustive search", Table 2. A
  * basic operation is one term of a distance's sum, so a test at m takes (N / m)^2 of them and a final measurement N^2; the making of the sums and
