@@ -1,5 +1,5 @@
-// The C boundary: the gauge's calls under their C names, as include/gauge.h declares them. Each takes any input, and answers with a
-// struct whose refusal comes first.
+// The C boundary: the gauge's calls under their C names, as include/gauge.h declares them. Each takes any input; one that may refuse says
+// so in its answer.
 
 ghost use mathlib.Core.Path.{_≡_};
 ghost use lib.ListN.{length};

@@ -1,6 +1,5 @@
--- Demand 3, whole: "one claim about the whole list of calls". To be read from top to bottom beside docs/REFERENCE.md, "Field, reading, track", from
--- where demand 3 begins; what stands in quotation marks is said there. proofs/Promise.antt has the theorem,
--- promise : (calls : List Call) → Promise calls.
+-- Demand 3, whole: "one claim about the whole list of calls". To be read from top to bottom beside docs/REFERENCE.md, "Field, reading, track",
+-- "Demand 3"; in quotation marks stand 01's own words. proofs/Promise.antt has the theorem, promise : (calls : List Call) → Promise calls.
 --   Call                     the calls
 --   travel                   a pair's travel, by exhaustive bests
 --   refusalOf, accept        which refusal applies to a call, and what an accepted one does
