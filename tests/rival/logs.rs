@@ -1,4 +1,4 @@
-//! The rival's log: document 01's section "Log" and its refusals, written down as directly as they read. The walker judges one
+//! The rival's log: the section "Log" of docs/REFERENCE.md and its refusals, written down as directly as they read. The walker judges one
 //! command; the reader and the printer go along with it from the start; the writer puts a log's bytes together.
 
 use crate::question::{Cursor, Head, LogRead, Walked, Written};
@@ -110,40 +110,38 @@ fn head_values(command: &[u8]) -> Head {
     }
 }
 
-/// A refused call of the walker, after which it is over.
-fn refused_walk(refusal: i64, place: i64) -> Walked {
-    Walked {
-        refusal,
-        place,
-        next: Cursor {
-            phase: 3,
-            ..Cursor::default()
-        },
-        ..Walked::default()
-    }
-}
-
 /// "A walker over a lent log hands out one command a call."
 pub fn walk(log: &[u8], cursor: Cursor) -> Walked {
     let (at, length) = (plain(cursor.at), plain(log.len()));
     let Cursor { head, blocks, .. } = cursor;
+    // After any refusal the walk is over, and the cursor keeps its place.
+    let refused = |refusal, place| Walked {
+        refusal,
+        place,
+        next: Cursor {
+            at: cursor.at,
+            phase: 3,
+            ..Cursor::default()
+        },
+        ..Walked::default()
+    };
 
     // "34 walker called after a refusal [...] or one built by hand whose place is past the log".
     if cursor.phase > 2 || at > length {
-        return refused_walk(34, 0);
+        return refused(34, 0);
     }
     // "The call after the end command answers 18 if bytes follow it, else 34."
     if cursor.phase == 2 {
         return if at < length {
-            refused_walk(18, at)
+            refused(18, at)
         } else {
-            refused_walk(34, 0)
+            refused(34, 0)
         };
     }
     // "Whose head numbers (once a head is read) 15 would turn away, or whose blocks exceed the grid."
     let head_read = cursor.phase == 1;
     if head_read && (refused_head(&head) != 0 || blocks > blocks_of(&head)) {
-        return refused_walk(34, 0);
+        return refused(34, 0);
     }
 
     // "Due are: a head first and only there, then blocks until the grid is full, then the end."
@@ -158,19 +156,21 @@ pub fn walk(log: &[u8], cursor: Cursor) -> Walked {
     // "14 command unknown or not due; 13 bytes end before the command is complete"; "at one command 14, then 13, then the rest.
     // The place is the command's offset (the log's length if none begins [...])."
     let rest = &log[cursor.at..];
-    let Some(&command) = rest.first() else {
-        return refused_walk(13, length);
+    let command = match rest.first() {
+        Some(&command) => command,
+        None => return refused(13, length),
     };
     if !due.contains(&command) {
-        return refused_walk(14, at);
+        return refused(14, at);
     }
     let size = match command {
         1 => 8,
         3 => 1,
         _ => 5,
     };
-    let Some(bytes) = rest.get(..size) else {
-        return refused_walk(13, at);
+    let bytes = match rest.get(..size) {
+        Some(bytes) => bytes,
+        None => return refused(13, at),
     };
 
     let mut handed_out = Walked {
@@ -188,7 +188,7 @@ pub fn walk(log: &[u8], cursor: Cursor) -> Walked {
             handed_out.next.head = handed_out.head;
             handed_out.next.blocks = 0;
             if refused_head(&handed_out.head) != 0 {
-                return refused_walk(15, at);
+                return refused(15, at);
             }
         }
         2 => {
@@ -196,15 +196,20 @@ pub fn walk(log: &[u8], cursor: Cursor) -> Walked {
             [handed_out.dy, handed_out.dx, handed_out.distortion] = values;
             handed_out.next.blocks += 1;
             if !faults(&head, blocks, values, true).is_empty() {
-                return refused_walk(16, at);
+                return refused(16, at);
             }
         }
         3 => handed_out.next.blocks += 1,
         _ => {
             handed_out.blocks = number(&bytes[1..]);
-            handed_out.next.phase = 2;
+            // Behind the end a cursor has a place alone.
+            handed_out.next = Cursor {
+                at: handed_out.next.at,
+                phase: 2,
+                ..Cursor::default()
+            };
             if handed_out.blocks != plain(blocks) {
-                return refused_walk(17, at);
+                return refused(17, at);
             }
         }
     }

@@ -12,8 +12,11 @@ mod calls;
 mod edges;
 mod fields;
 mod group;
-mod log_cases;
+mod log_calls;
+mod log_edges;
 mod logs;
+mod longest_logs;
+mod made_up_logs;
 mod measuring;
 mod pictures;
 mod program;
@@ -21,6 +24,7 @@ mod question;
 mod reckoning;
 mod rival;
 mod searching;
+mod walk_edges;
 mod worked;
 
 use std::process::ExitCode;
@@ -33,7 +37,14 @@ fn archive_cases() -> u64 {
         + searching::run()
         + fields::run()
         + calls::run()
-        + log_cases::run()
+        + log_cases()
+}
+
+/// All groups of logs, and whether they met every refusal.
+fn log_cases() -> u64 {
+    let mut logs = log_calls::Logs::new();
+    let edges = walk_edges::run() + log_edges::run() + longest_logs::run(&mut logs);
+    edges + made_up_logs::run(&mut logs) + logs.end()
 }
 
 fn main() -> ExitCode {

@@ -7,11 +7,13 @@
 
 use crate::archive;
 use crate::group::Group;
-use crate::log_cases::{damaged_log, good_log, log_of_65536, still_log, TEXT_MOST};
+use crate::log_calls::TEXT_MOST;
+use crate::longest_logs::{log_of_65536, still_log};
+use crate::made_up_logs::{damaged_log, good_log};
 use crate::pictures::Chance;
 use std::fs::{File, OpenOptions};
 use std::io::{Read, Write};
-use std::os::fd::OwnedFd;
+use std::os::unix::io::OwnedFd;
 use std::os::unix::net::UnixStream;
 use std::process::{Child, ChildStdin, Command, Stdio};
 use std::thread;
@@ -57,7 +59,10 @@ fn end_of(child: &mut Child) -> End {
 
 /// Feeds the pieces one after the other, with a pause before each, and closes the input. The program may stop reading before.
 fn feed(input: Option<ChildStdin>, pieces: Vec<Vec<u8>>, pause: Duration) {
-    let Some(mut input) = input else { return };
+    let mut input = match input {
+        Some(input) => input,
+        None => return,
+    };
     for piece in pieces {
         if !pause.is_zero() {
             thread::sleep(pause);

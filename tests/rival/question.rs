@@ -131,20 +131,6 @@ pub struct Cursor {
     pub blocks: usize,
 }
 
-impl Cursor {
-    /// What the header says that a cursor means, and zeros for the rest: the head's numbers and the blocks count among the blocks
-    /// alone, and after a refusal it does not matter where it stands.
-    pub fn meaning(self) -> Cursor {
-        let none = Cursor::default();
-        let Cursor { at, phase, .. } = self;
-        match phase {
-            0 | 2 => Cursor { at, phase, ..none },
-            1 => self,
-            _ => Cursor { phase: 3, ..none },
-        }
-    }
-}
-
 /// "A walker over a lent log hands out one command a call": 1 head, 2 block, 3 still block, 4 end, with its values; 0 with a
 /// refusal.
 #[derive(Clone, Copy, PartialEq, Eq, Debug, Default)]

@@ -5,8 +5,8 @@ use crate::archive;
 use crate::group::Group;
 use crate::logs;
 use crate::question::{
-    Answer, Cursor, FieldAnswer, FieldRequest, Head, Lent, LogRead, Measured, Measuring, Pair,
-    Request, Track, Walked, Written,
+    Answer, FieldAnswer, FieldRequest, Head, Lent, LogRead, Measured, Measuring, Pair, Request,
+    Track, Written,
 };
 use crate::reckoning;
 use crate::rival;
@@ -267,24 +267,31 @@ fn logged(group: &mut Group, what: &str, log: &[u8], text: &str, wanted: LogRead
     group.same(&inputs, &logs::print_log(log)[..], text);
 }
 
+/// The heads of B and C, and their logs by search 2.
+pub const HEAD_OF_B: Head = Head {
+    width: 5,
+    height: 4,
+    n: 4,
+    w: 1,
+    search: 2,
+};
+pub const HEAD_OF_C: Head = Head {
+    width: 8,
+    height: 8,
+    ..HEAD_OF_B
+};
+pub const LOG_OF_B: &[u8] = &[1, 0, 5, 0, 4, 4, 1, 2, 2, 0, 1, 0, 0, 4, 0, 0, 0, 1];
+pub const LOG_OF_C: &[u8] = &[1, 0, 8, 0, 8, 4, 1, 2, 3, 3, 3, 3, 4, 0, 0, 0, 4];
+
 /// "B [...] search 2's log above" with its text, "C [...] log `01 00 08 00 08 04 01 02 03 03 03 03 04 00 00 00 04`" and "I* empty
 /// log: 13 at 0".
 fn logs_of_b_c_and_i(group: &mut Group) {
-    let head = |width, height| Head {
-        width,
-        height,
-        n: 4,
-        w: 1,
-        search: 2,
-    };
-    let b = b"\x01\x00\x05\x00\x04\x04\x01\x02\x02\x00\x01\x00\x00\x04\x00\x00\x00\x01";
-    let c = b"\x01\x00\x08\x00\x08\x04\x01\x02\x03\x03\x03\x03\x04\x00\x00\x00\x04";
     let still = [0, 0, 0].repeat(4);
     let text_of_b = "5 4 4 1 2\n0 1 0\nend 1\n";
     let text_of_c = "8 8 4 1 2\n0 0 0\n0 0 0\n0 0 0\n0 0 0\nend 4\n";
     for (what, head, log, text, list) in [
-        ("B", head(5, 4), &b[..], text_of_b, &[0, 1, 0][..]),
-        ("C", head(8, 8), &c[..], text_of_c, &still[..]),
+        ("B", HEAD_OF_B, LOG_OF_B, text_of_b, &[0, 1, 0][..]),
+        ("C", HEAD_OF_C, LOG_OF_C, text_of_c, &still[..]),
     ] {
         let read = LogRead {
             head,
@@ -308,38 +315,13 @@ fn logs_of_b_c_and_i(group: &mut Group) {
     };
     logged(group, "I", b"", "refused 13 at 0\n", read, &[]);
 
-    // B, walked: the commands, then 34 for ever.
-    let (mut here, mut there) = (Cursor::default(), Cursor::default());
-    let none = Walked::default();
-    let over = Walked {
-        refusal: 34,
-        ..none
-    };
-    for wanted in [
-        Walked {
-            command: 1,
-            head: head(5, 4),
-            ..none
-        },
-        Walked {
-            command: 2,
-            dx: 1,
-            ..none
-        },
-        Walked {
-            command: 4,
-            blocks: 1,
-            ..none
-        },
-        over,
-        over,
-    ] {
-        let (answer, own) = (archive::walk(b, here), logs::walk(b, there));
-        (here, there) = (answer.next, own.next);
-        let next = Cursor::default();
-        group.same("B, walked", Walked { next, ..answer }, wanted);
-        group.same("B, walked", Walked { next, ..own }, wanted);
-    }
+    // B's log once more, of the list that the field call fills.
+    let mut of_field = lent(3, 30);
+    let answer = archive::field(&frames_of_b(), &field_of_4(2), &mut of_field);
+    group.same("B, its field", answer.refusal, 0);
+    let mut log = vec![b'*'; LOG_OF_B.len()];
+    archive::write_log(&HEAD_OF_B, &of_field.list, &mut log, LOG_OF_B.len());
+    group.same("B, written from its field", &log[..], LOG_OF_B);
 }
 
 /// "J 16×16, 0 against 255: 65,280".
