@@ -1,6 +1,6 @@
-//! The edges of document 01's ranges, each from both sides and with the expected number written down here, the order in which the
-//! refusals are tested, and a table of small combinations, most of them invalid. Values near the top of their type must be
-//! refused and must never end the program.
+//! The edges of measuring, row view and single-block search (field_edges.rs has those of fields): every range of docs/REFERENCE.md from
+//! both sides, with the expected number written down here, the order in which the refusals are tested, and a table of small
+//! combinations, most of them invalid. Values near the top of their type must be refused and must never end the program.
 
 use crate::archive;
 use crate::group::Group;
@@ -8,13 +8,13 @@ use crate::question::{Measuring, Pair, Request, Viewing};
 use crate::rival;
 
 /// Bits above the lower 32, which a careless narrowing would lose.
-const ABOVE_32: usize = 1 << 32;
+pub const ABOVE_32: usize = 1 << 32;
 
 /// The top bit, which a careless change of sign would turn into a negative number.
-const TOP_BIT: usize = 1 << 63;
+pub const TOP_BIT: usize = 1 << 63;
 
 /// A pair of these sizes whose frames have these lengths; the pels differ from frame to frame.
-fn pair_with_lengths(width: usize, height: usize, older: usize, newer: usize) -> Pair {
+pub fn pair_with_lengths(width: usize, height: usize, older: usize, newer: usize) -> Pair {
     Pair {
         older: (0..older).map(|k| (k * 7 % 251) as u8).collect(),
         newer: (0..newer).map(|k| (k * 11 % 241) as u8).collect(),
@@ -24,7 +24,7 @@ fn pair_with_lengths(width: usize, height: usize, older: usize, newer: usize) ->
 }
 
 /// A pair of these sizes with frames that fit.
-fn pair_of(width: usize, height: usize) -> Pair {
+pub fn pair_of(width: usize, height: usize) -> Pair {
     pair_with_lengths(width, height, width * height, width * height)
 }
 
@@ -143,14 +143,14 @@ fn block_sizes() -> u64 {
         0, 1, 2, 3, 4, 5, 7, 8, 9, 12, 15, 16, 17, 32, 64, 256, 260, 264,
     ];
     let far = [ABOVE_32 + 4, TOP_BIT + 8, usize::MAX - 3, usize::MAX];
-    for width in 4..=18 {
-        for height in 4..=18 {
-            let pair = pair_of(width, height);
-            for n in sizes.into_iter().chain(far) {
-                let allowed = (n == 4 || n == 8 || n == 16) && n <= width && n <= height;
-                let refusal = if allowed { 0 } else { 3 };
-                all_calls(&mut group, &pair, n, 0, 0, refusal);
-            }
+    // Frames that each N fits into or not quite, and two that N over 16 would fit into.
+    let small = (4..=18).flat_map(|width| (4..=18).map(move |height| (width, height)));
+    for (width, height) in small.chain([(64, 64), (300, 270)]) {
+        let pair = pair_of(width, height);
+        for n in sizes.into_iter().chain(far) {
+            let allowed = (n == 4 || n == 8 || n == 16) && n <= width && n <= height;
+            let refusal = if allowed { 0 } else { 3 };
+            all_calls(&mut group, &pair, n, 0, 0, refusal);
         }
     }
     group.end()
@@ -211,9 +211,12 @@ fn places(last: usize, n: usize, step: usize) -> Vec<usize> {
     ]);
     all.extend([TOP_BIT - n, TOP_BIT - 1, TOP_BIT, TOP_BIT + 1]);
     all.extend([usize::MAX / step, usize::MAX / step + 1]);
-    for below in [0, 1, n - 2, n - 1, n, n + 1, step - 1, step, last, last + n] {
-        all.push(usize::MAX - below);
-    }
+    let below = [0, 1, 3, n - 2, n - 1, n, n + 1].into_iter();
+    all.extend(
+        below
+            .chain([step - 1, step, last, last + n])
+            .map(|below| usize::MAX - below),
+    );
     all
 }
 

@@ -10,6 +10,7 @@
 mod archive;
 mod calls;
 mod edges;
+mod field_edges;
 mod fields;
 mod group;
 mod log_calls;
@@ -33,6 +34,7 @@ use std::process::ExitCode;
 fn archive_cases() -> u64 {
     worked::run()
         + edges::run()
+        + field_edges::run()
         + measuring::run()
         + searching::run()
         + fields::run()

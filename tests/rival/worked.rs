@@ -55,7 +55,7 @@ fn found(vector: (i64, i64), distortion: i64, counts: [i64; 5], dropped: i64) ->
     }
 }
 
-fn flat(width: usize, height: usize, older: u8, newer: u8) -> Pair {
+pub fn flat(width: usize, height: usize, older: u8, newer: u8) -> Pair {
     Pair {
         older: vec![older; width * height],
         newer: vec![newer; width * height],
@@ -84,7 +84,7 @@ fn pair_a(group: &mut Group) {
     measured(group, "A", &pair, at_zero(4), 32);
 }
 
-fn frames_of_b() -> Pair {
+pub fn frames_of_b() -> Pair {
     Pair {
         older: [0, 10, 20, 30, 40].repeat(4),
         newer: [10, 20, 30, 40, 99].repeat(4),
@@ -106,6 +106,16 @@ fn pair_b(group: &mut Group) {
         ..at_zero(4)
     };
     measured(group, "B", &pair, right, 0);
+    measured(group, "B", &pair, at_zero(4), 160);
+    let left = Measuring {
+        dx: -1,
+        ..at_zero(4)
+    };
+    let refused = Measured {
+        refusal: 8,
+        distortion: 0,
+    };
+    group.same("B at (0,-1)", archive::measure(&pair, &left), refused);
 }
 
 /// "C* 8×8, all 7, N 4, w 1: four still blocks, full 4 each; pruned sums 0,0,16,16,16".
@@ -138,8 +148,10 @@ fn pair_d(group: &mut Group) {
     };
     let full = found((0, 0), 160, [0, 0, 0, 0, 1], 0);
     let pruned = found((0, 0), 160, [0, 0, 1, 1, 1], 0);
-    searched(group, "D", &pair, block_of_4(1, 16, 0, 0, 0), full);
-    searched(group, "D", &pair, block_of_4(2, 16, 0, 0, 0), pruned);
+    for w in [0, 16] {
+        searched(group, "D", &pair, block_of_4(1, w, 0, 0, 0), full);
+        searched(group, "D", &pair, block_of_4(2, w, 0, 0, 0), pruned);
+    }
     measured(group, "D", &pair, at_zero(4), 160);
     let block = rival::Block::new(&pair, 4, 0, 0);
     let distances = [4, 2, 1].map(|m| block.distance(m, (0, 0)));

@@ -1,0 +1,410 @@
+//! The edges of fields and of the track, with the expected numbers written down here: every refusal of a field and of a step from
+//! both sides, their order, homings, steps of tracks built by hand, and what list and table hold after each.
+
+use crate::archive;
+use crate::edges::{choices, pair_of, pair_with_lengths, ABOVE_32, TOP_BIT};
+use crate::fields::BEHIND;
+use crate::group::Group;
+use crate::question::{FieldAnswer, FieldRequest, Lent, Pair, Track};
+use crate::reckoning::{self, NEW};
+use crate::worked::{flat, frames_of_b};
+
+/// What list and table hold before a call.
+const NUMBER: i32 = -77_777_777;
+const SUM: u32 = 3_141_592_653;
+
+/// The ends of the track's range.
+const END: i32 = 1_000_000;
+
+/// Lent memory of these lengths.
+fn lent(list_length: usize, table_length: usize) -> Lent {
+    Lent {
+        list: vec![NUMBER; list_length + BEHIND],
+        list_length,
+        table: vec![SUM; table_length + BEHIND],
+        table_length,
+    }
+}
+
+/// What a field of this pair needs of list and table.
+fn needed(pair: &Pair, n: usize) -> (usize, usize) {
+    let blocks = (pair.height / n) * (pair.width / n);
+    (3 * blocks, (pair.width + 1) * (pair.height + 1))
+}
+
+fn asks(n: usize, search: u32, w: usize, t: u32) -> FieldRequest {
+    FieldRequest { n, search, w, t }
+}
+
+fn stands(homed: bool, y: i32, x: i32, steps: u32) -> Track {
+    Track { homed, y, x, steps }
+}
+
+/// An accepted answer.
+fn read(vector: (i64, i64), votes: i64, counts: [i64; 5], dropped: i64) -> FieldAnswer {
+    FieldAnswer {
+        refusal: 0,
+        dy: vector.0,
+        dx: vector.1,
+        votes,
+        counts,
+        dropped,
+    }
+}
+
+/// A refused one.
+fn refused(refusal: i64) -> FieldAnswer {
+    FieldAnswer {
+        refusal,
+        ..FieldAnswer::default()
+    }
+}
+
+/// A field, and the same as a step of a homed track and of a new one, with so much of list and table. All must answer with this
+/// refusal, the new track's step with 31 instead of 0; a refused call is all zeros and leaves track and lent memory as they were.
+/// An accepted one is the rival's.
+fn asked(
+    group: &mut Group,
+    pair: &Pair,
+    request: FieldRequest,
+    lengths: (usize, usize),
+    refusal: i64,
+) {
+    let before = lent(lengths.0, lengths.1);
+    let inputs = format!("{pair}, {request}, {before}");
+    let (mut here, mut there) = (before.clone(), before.clone());
+    let answer = archive::field(pair, &request, &mut here);
+    let own = reckoning::field(pair, &request, &mut there);
+    group.same(&inputs, answer.refusal, refusal);
+    group.same(&inputs, answer, own);
+    group.same(&inputs, &here, &there);
+    if refusal != 0 {
+        group.same(&inputs, answer, refused(refusal));
+        group.same(&inputs, &here, &before);
+    }
+    let not_homed = if refusal == 0 { 31 } else { refusal };
+    for (track, refusal) in [(stands(true, 5, -6, 7), refusal), (NEW, not_homed)] {
+        let inputs = format!("{track:?}, {inputs}");
+        let (mut here, mut there) = (before.clone(), before.clone());
+        let stepped = archive::step(track, pair, &request, &mut here);
+        let own = reckoning::step(track, pair, &request, &mut there);
+        group.same(&inputs, stepped.0.refusal, refusal);
+        group.same(&inputs, stepped, own);
+        group.same(&inputs, &here, &there);
+        if refusal != 0 {
+            group.same(&inputs, stepped, (refused(refusal), track));
+            group.same(&inputs, &here, &before);
+        }
+    }
+}
+
+/// Refusals 1, 2 and 3.
+fn pairs() -> u64 {
+    let mut group = Group::new("fields and steps, edges of sizes, frames and N");
+    let plain = |n| asks(n, 1, 0, 0);
+    for (width, height, n, refusal) in [
+        (4, 4, 4, 0),
+        (3, 4, 4, 1),
+        (4, 3, 4, 1),
+        (1024, 4, 4, 0),
+        (1025, 4, 4, 1),
+        (4, 1024, 4, 0),
+        (4, 1025, 4, 1),
+        (1024, 1024, 16, 0),
+        (8, 8, 8, 0),
+        (7, 8, 8, 3),
+        (8, 7, 8, 3),
+        (16, 16, 16, 0),
+        (15, 16, 16, 3),
+        (16, 15, 16, 3),
+    ] {
+        let pair = pair_of(width, height);
+        let lengths = needed(&pair, n);
+        asked(&mut group, &pair, plain(n), lengths, refusal);
+    }
+    // Frames of no pel, as many as are left of a product that wraps.
+    for size in [0, ABOVE_32 + 8, TOP_BIT, usize::MAX] {
+        for (width, height) in [(size, 4), (4, size), (size, size)] {
+            let pair = pair_with_lengths(width, height, 0, 0);
+            asked(&mut group, &pair, plain(4), (60, 60), 1);
+        }
+    }
+    for (older, newer) in [(47, 48), (49, 48), (48, 47), (48, 49), (0, 48), (48, 0)] {
+        let pair = pair_with_lengths(8, 6, older, newer);
+        asked(&mut group, &pair, plain(4), (60, 63), 2);
+    }
+    let pair = pair_of(64, 64);
+    for n in [0, 1, 2, 3, 5, 7, 9, 12, 15, 17, 32, 64, usize::MAX] {
+        asked(&mut group, &pair, plain(n), (768, 4225), 3);
+    }
+    group.end()
+}
+
+/// Refusals 4, 5 and 6.
+fn requests() -> u64 {
+    let mut group = Group::new("fields and steps, edges of search, w and T");
+    let pair = pair_of(64, 48);
+    for (search, w, t, refusal) in [
+        (0, 1, 0, 4),
+        (5, 1, 0, 4),
+        (u32::MAX, 1, 0, 4),
+        (1, 0, 0, 0),
+        (1, 16, 0, 0),
+        (1, 17, 0, 5),
+        (2, 0, 0, 0),
+        (2, 16, 0, 0),
+        (2, 17, 0, 5),
+        (2, usize::MAX, 0, 5),
+        (3, 6, 0, 5),
+        (3, 7, 0, 0),
+        (3, 8, 0, 5),
+        (4, 2, 0, 0),
+        (4, 3, 0, 5),
+        (4, 16, 0, 0),
+        (4, 32, 0, 5),
+        (4, 4, 65_280, 0),
+        (4, 4, 65_281, 6),
+        (4, 4, u32::MAX, 6),
+        (1, 7, 1, 6),
+        (2, 7, 1, 6),
+        (3, 7, 1, 6),
+    ] {
+        let request = asks(16, search, w, t);
+        asked(&mut group, &pair, request, (36, 3185), refusal);
+    }
+    group.end()
+}
+
+/// Refusals 9 and 10: three numbers a block, and for search 2 (width + 1) × (height + 1) sums. The other searches need no table.
+fn lengths() -> u64 {
+    let mut group = Group::new("fields and steps, edges of list and table");
+    let pair = pair_of(64, 48);
+    for (search, w) in [(1, 7), (2, 7), (3, 7), (4, 8)] {
+        let no_table = if search == 2 { 9 } else { 0 };
+        for (list, table, refusal) in [
+            (36, 3185, 0),
+            (99, 4000, 0),
+            (36, 3184, no_table),
+            (36, 0, no_table),
+            (35, 3185, 10),
+            (0, 3185, 10),
+        ] {
+            let request = asks(16, search, w, 0);
+            asked(&mut group, &pair, request, (list, table), refusal);
+        }
+    }
+    group.end()
+}
+
+/// The table of B's older frame, whose rows are 0 10 20 30 40.
+fn table_of_b() -> Vec<u32> {
+    let rows = (0..=4).map(|r| [0, 0, 10, 30, 60, 100].map(|sum| r * sum));
+    rows.flatten().collect()
+}
+
+/// A step of B by search 2 whose lent memory is longer than it need be: refused so, or with 0 taken one to the left. With 0 and 33 the
+/// list has B's block and the table its sums, else both are as they were.
+fn step_of_b(group: &mut Group, track: Track, refusal: i64) {
+    let wanted = match refusal {
+        0 => {
+            let there = stands(true, track.y, track.x - 1, track.steps + 1);
+            (read((0, 1), 1, [0, 0, 2, 2, 1], 1), there)
+        }
+        _ => (refused(refusal), track),
+    };
+    let mut kept = lent(14, 100);
+    if refusal == 0 || refusal == 33 {
+        kept.list[..3].copy_from_slice(&[0, 1, 0]);
+        kept.table[..30].copy_from_slice(&table_of_b());
+    }
+    let request = asks(4, 2, 1, 0);
+    let (mut here, mut there) = (lent(14, 100), lent(14, 100));
+    let stepped = archive::step(track, &frames_of_b(), &request, &mut here);
+    let own = reckoning::step(track, &frames_of_b(), &request, &mut there);
+    let inputs = format!("{track:?}, step of B");
+    group.same(&inputs, (stepped, own), (wanted, wanted));
+    group.same(&inputs, (&here, &there), (&kept, &kept));
+}
+
+/// B asked so that any choice of rules is broken: the first of them answers, the track's rules last.
+fn order() -> u64 {
+    let mut group = Group::new("fields and steps, order of refusals");
+    for rules in choices(&[1, 2, 3, 4, 5, 6, 9, 10, 31, 32, 33]) {
+        let first = rules.first().copied().unwrap_or(0);
+        let broken = |rule| rules.contains(&rule);
+        let mut pair = frames_of_b();
+        if broken(1) {
+            pair.width = 3;
+        }
+        if broken(2) {
+            pair.newer.pop();
+        }
+        let n = if broken(3) { 5 } else { 4 };
+        let search = if broken(4) { 0 } else { 2 };
+        let w = if broken(5) { 17 } else { 1 };
+        let request = asks(n, search, w, u32::from(broken(6)));
+        let x = if broken(33) { -END } else { 20 };
+        let steps = if broken(32) { 1_000_000 } else { 0 };
+        let track = stands(!broken(31), 10, x, steps);
+        let table_length = if broken(9) { 29 } else { 30 };
+        let before = lent(if broken(10) { 2 } else { 3 }, table_length);
+
+        let mut here = before.clone();
+        let answer = archive::field(&pair, &request, &mut here);
+        let wanted = if first < 31 { first } else { 0 };
+        let inputs = format!("{rules:?}, {pair}, {request}, {before}");
+        group.same(&inputs, answer.refusal, wanted);
+        group.same(&inputs, here != before, wanted == 0);
+
+        let mut here = before.clone();
+        let (answer, after) = archive::step(track, &pair, &request, &mut here);
+        let inputs = format!("{inputs}, {track:?}");
+        group.same(&inputs, answer.refusal, first);
+        group.same(&inputs, after != track, first == 0);
+        group.same(&inputs, here != before, first == 0 || first == 33);
+    }
+    group.end()
+}
+
+/// A field by this search with these answers, the first numbers of its list, and its table the rival's.
+fn field_of(
+    group: &mut Group,
+    pair: &Pair,
+    request: FieldRequest,
+    wanted: FieldAnswer,
+    list: &[i32],
+) {
+    let inputs = format!("{pair}, {request}");
+    let (list_length, table_length) = needed(pair, request.n);
+    let mut here = lent(list_length + 8, table_length + 8);
+    let mut there = here.clone();
+    let answer = archive::field(pair, &request, &mut here);
+    let own = reckoning::field(pair, &request, &mut there);
+    group.same(&inputs, (answer, own), (wanted, wanted));
+    let kept = [list, &vec![NUMBER; here.list.len() - list.len()]].concat();
+    group.same(&inputs, (&here.list, &there.list), (&kept, &kept));
+    group.same(&inputs, &here.table, &there.table);
+    let sums = if request.search == 2 { table_length } else { 0 };
+    let behind = here.table[sums..].iter().all(|&sum| sum == SUM);
+    group.holds(&inputs, behind, &"the table behind its sums", &SUM);
+}
+
+/// Pels that no grid block has, the greatest sums there are, and the searches that fill no table.
+fn whole_fields() -> u64 {
+    let mut group = Group::new("fields, answers written down");
+    let odd: Vec<u8> = (0..77).map(|i| (i * i % 255) as u8).collect();
+    let pair = Pair {
+        older: odd.clone(),
+        newer: odd,
+        width: 11,
+        height: 7,
+    };
+    let wanted = read((0, 0), 2, [0, 0, 2, 2, 2], 0);
+    field_of(&mut group, &pair, asks(4, 2, 0, 0), wanted, &[0; 6]);
+
+    let pair = flat(1024, 1024, 255, 0);
+    let wanted = read((0, 0), 4096, [4096; 5], 0);
+    let list = [0, 0, 65_280].repeat(4096);
+    field_of(&mut group, &pair, asks(16, 2, 0, 0), wanted, &list);
+    let mut lent = lent(3 * 4096, 1025 * 1025);
+    archive::field(&pair, &asks(16, 2, 0, 0), &mut lent);
+    let last = lent.table[1025 * 1025 - 1];
+    group.same("the greatest sum", last, 267_386_880);
+
+    let pair = flat(8, 8, 7, 7);
+    for (search, w, t, count) in [(3, 7, 0, 28), (4, 2, 0, 16), (4, 2, 1, 4)] {
+        let wanted = read((0, 0), 4, [0, 0, 0, 0, count], 0);
+        field_of(&mut group, &pair, asks(4, search, w, t), wanted, &[0; 12]);
+    }
+    group.end()
+}
+
+/// Refusal 11: homings of tracks that are new, far on, or built by hand.
+fn homing() -> u64 {
+    let mut group = Group::new("homings");
+    group.same("a new track", archive::new_track(), NEW);
+    for track in [
+        NEW,
+        stands(true, 3, -4, 999_999),
+        stands(false, i32::MIN, i32::MAX, u32::MAX),
+    ] {
+        for (y, x, refusal) in [
+            (0, 0, 0),
+            (-END, -END, 0),
+            (END, END, 0),
+            (12, -34, 0),
+            (END + 1, 0, 11),
+            (-END - 1, 0, 11),
+            (0, END + 1, 11),
+            (0, -END - 1, 11),
+            (i32::MIN, 0, 11),
+            (0, i32::MAX, 11),
+        ] {
+            let wanted = match refusal {
+                0 => (0, stands(true, y, x, 0)),
+                _ => (11, track),
+            };
+            let inputs = format!("{track:?}, home ({y},{x})");
+            group.same(&inputs, archive::home(track, y, x), wanted);
+            group.same(&inputs, reckoning::home(track, y, x), wanted);
+        }
+    }
+    group.end()
+}
+
+/// Refusals 31, 32 and 33, and steps by every search.
+fn stepping() -> u64 {
+    let mut group = Group::new("steps");
+    for (track, refusal) in [
+        (stands(true, 10, 20, 0), 0),
+        (stands(true, 0, -END, 0), 33),
+        (stands(true, 0, 1 - END, 0), 0),
+        (NEW, 31),
+        (stands(false, 0, 0, 1_000_000), 31),
+        (stands(false, 0, -END, 0), 31),
+        (stands(true, 0, 0, 999_999), 0),
+        (stands(true, 0, 0, 1_000_000), 32),
+        (stands(true, 0, 0, u32::MAX), 32),
+        (stands(true, 0, -END, 1_000_000), 32),
+        // 33 looks at the new place alone: back into the range, and not back.
+        (stands(true, 0, END + 1, 0), 0),
+        (stands(true, 0, END + 2, 0), 33),
+        (stands(true, END + 1, 0, 0), 33),
+        (stands(true, -END - 1, 0, 0), 33),
+        (stands(true, 0, i32::MIN, 0), 33),
+        (stands(true, i32::MAX, 0, 0), 33),
+    ] {
+        step_of_b(&mut group, track, refusal);
+    }
+    // B turned by a right angle travels up.
+    let turned = Pair {
+        older: [[0; 4], [10; 4], [20; 4], [30; 4], [40; 4]].concat(),
+        newer: [[10; 4], [20; 4], [30; 4], [40; 4], [99; 4]].concat(),
+        width: 4,
+        height: 5,
+    };
+    let (b, c) = (frames_of_b(), flat(8, 8, 7, 7));
+    let full = read((0, 1), 1, [0, 0, 0, 0, 2], 0);
+    let up = read((1, 0), 1, [0, 0, 2, 2, 1], 1);
+    let still = |count| read((0, 0), 4, [0, 0, 0, 0, count], 0);
+    for (pair, request, answer, y, x) in [
+        (&b, asks(4, 1, 1, 0), full, 10, 19),
+        (&turned, asks(4, 2, 1, 0), up, 9, 20),
+        (&c, asks(4, 3, 7, 0), still(28), 10, 20),
+        (&c, asks(4, 4, 2, 9), still(4), 10, 20),
+    ] {
+        let (list, table) = needed(pair, 4);
+        let track = stands(true, 10, 20, 0);
+        let stepped = archive::step(track, pair, &request, &mut lent(list, table));
+        let own = reckoning::step(track, pair, &request, &mut lent(list, table));
+        let wanted = (answer, stands(true, y, x, 1));
+        let inputs = format!("{track:?}, {pair}, {request}");
+        group.same(&inputs, (stepped, own), (wanted, wanted));
+    }
+    group.end()
+}
+
+/// All edges of fields and of the track; answers with the number of mismatches.
+pub fn run() -> u64 {
+    pairs() + requests() + lengths() + order() + whole_fields() + homing() + stepping()
+}
