@@ -1,4 +1,4 @@
-//! Lists of calls, as document 01's promise on them has it: homings and steps of search 2, refused ones among them, each with the
+//! Lists of calls, as the rules' promise on them has it: homings and steps of search 2, refused ones among them, each with the
 //! track that the call before handed back. After every call the archive's track must be the reckoning's own, refusals must be the
 //! same, and answer, list and table must be what the rival's step leaves, to the last place. Four-step and cross run beside
 //! accepted steps.

@@ -20,7 +20,7 @@ impl Group {
         }
     }
 
-    /// One case: the archive's answer must be the rival's (or one that 01 names), in every field.
+    /// One case: the archive's answer must be the rival's (or one that is typed in), in every field.
     pub fn same<A: PartialEq + Debug>(&mut self, inputs: impl Display, archive: A, rival: A) {
         self.cases += 1;
         if archive != rival {

@@ -1,11 +1,22 @@
 //! Holds the archive's calls against a rival of the project's own.
 //!
-//! rival.rs, reckoning.rs and logs.rs are document 01 once more, written from its words alone and as simply as they read; nothing
-//! of the archive's source is used. Worked pairs, the edges of every range, some thousands of made-up pairs, lists of calls and logs
-//! with fixed seeds are put to both, and every field of every answer must agree, and every place of lent memory. One line is printed
-//! a group, and the inputs and both answers of a mismatch. The exit status is 0 only if all agree. Compiled and started by the
-//! script `run` beside it, with the path of the program that prints logs; with the word `program` behind it that program's cases
-//! are run alone.
+//! rival.rs, reckoning.rs and logs.rs are the gauge's rules (docs/REFERENCE.md) once more, written from their words alone and as
+//! simply as they read; nothing of the archive's source is used. Sentences in quotation marks are the rules' words, as the gauge's
+//! scope has them. Worked pairs, the edges of every range, some thousands of made-up pairs, lists of calls and logs with fixed seeds
+//! are put to both, and every field of every answer must agree, and every place of lent memory. One line is printed a group, and the
+//! inputs and both answers of a mismatch. The exit status is 0 only if all agree. Compiled and started by the script `run` beside it,
+//! with the path of the program that prints logs; with the word `program` behind it that program's cases are run alone.
+//!
+//! | files | hold |
+//! |---|---|
+//! | rival, reckoning, logs | the rival: one block, fields and the track, logs |
+//! | archive, question | the calls as include/gauge.h declares them; what both sides are asked and answer |
+//! | group, pictures | a group of cases; made-up pairs |
+//! | worked | the worked pairs |
+//! | edges, field_edges, walk_edges, log_edges, longest_logs | the ends of every range, with the expected numbers typed in |
+//! | measuring, searching, fields, calls | made-up pairs, and lists of calls |
+//! | log_calls, made_up_logs | a log through every call; made-up logs, whole and damaged |
+//! | program | the program that prints logs |
 
 mod archive;
 mod calls;

@@ -1,5 +1,5 @@
 //! What both sides are asked and what they answer: the pair of frames, the request for one block or for a field, lent memory, the
-//! track, and answers with every field that document 01 gives them. Numbers are plain i64 in the answers, so that no type hides a
+//! track, and answers with every field that the rules give them. Numbers are plain i64 in the answers, so that no type hides a
 //! wrong value.
 
 use std::fmt;

@@ -1,4 +1,4 @@
-//! The rival's field, track and reckoning: document 01's words on them, written down as directly as they read. Fields are made of
+//! The rival's field, track and reckoning: the rules' words on them, written down as directly as they read. Fields are made of
 //! the rival's own single-block searches; the reckoning knows no search, only candidates and distortions.
 
 use crate::question::{FieldAnswer, FieldRequest, Lent, Pair, Request, Track};

@@ -1,12 +1,12 @@
-//! The rival: document 01's rules for one block, written down as directly as they read and with no thought of speed. Every
-//! function names the sentence that it stands for. No table, no sums kept from one place to the next, i64 throughout.
+//! The rival: the rules of docs/REFERENCE.md for one block, written down as directly as they read and with no thought of speed.
+//! Every function names the rules' sentence that it stands for. No table, no sums kept from one place to the next, i64 throughout.
 
 use crate::question::{Answer, Measured, Measuring, Pair, Request, Viewed, Viewing};
 
 /// A vector (dy, dx).
 pub type Vector = (i64, i64);
 
-/// A size, row or column as i64. What i64 cannot hold is far beyond every limit of 01 and stays so.
+/// A size, row or column as i64. What i64 cannot hold is far beyond every limit of the rules and stays so.
 pub fn plain(value: usize) -> i64 {
     i64::try_from(value).unwrap_or(i64::MAX)
 }
@@ -244,7 +244,7 @@ fn eight_around((dy, dx): Vector, d: i64) -> Vec<Vector> {
     points
 }
 
-/// "3 four-step, w exactly 7, document 001."
+/// "3 four-step, w exactly 7", after Po and Ma's paper on the four-step search.
 fn four_step(block: &Block) -> Answer {
     // Step 1: "centre, then the eight around it, row by row, at distance 2".
     let mut walk = Walk::begin(block, 7);
@@ -275,7 +275,7 @@ fn four_step(block: &Block) -> Answer {
     walk.answer()
 }
 
-/// The end points of a St. Andrew's cross, in document 000's order.
+/// The end points of a St. Andrew's cross, in the order of Ghanbari's paper on the cross search.
 fn x_cross((i, j): Vector, p: i64) -> [Vector; 4] {
     [
         (i - p, j - p),
@@ -285,12 +285,12 @@ fn x_cross((i, j): Vector, p: i64) -> [Vector; 4] {
     ]
 }
 
-/// The end points of a Greek cross, in document 000's order: up, left, down, right.
+/// The end points of a Greek cross, in that paper's order: up, left, down, right.
 fn greek_cross((m, n): Vector) -> [Vector; 4] {
     [(m - 1, n), (m, n - 1), (m + 1, n), (m, n + 1)]
 }
 
-/// "4 cross [...] document 000, steps 1 to 8, its i and m for dy, its j and n for dx."
+/// "4 cross [...] steps 1 to 8, its i and m for dy, its j and n for dx", of the same paper.
 fn cross(block: &Block, w: i64, t: i64) -> Answer {
     // Step 1. "The threshold T is on the sum: distortion of (0,0) below T ends the search."
     let mut walk = Walk::begin(block, w);

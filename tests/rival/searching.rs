@@ -1,4 +1,4 @@
-//! The four searches over made-up pairs: every answer against the rival's, and what document 01 says of the searches among
+//! The four searches over made-up pairs: every answer against the rival's, and what the rules say of the searches among
 //! themselves. Blocks stand in corners, at borders and inside, on the grid and off it.
 
 use crate::archive;
@@ -85,7 +85,7 @@ fn case_of(seed: u64, kind: Kind, n: usize, w: usize, room: usize) -> (Case, Cha
     (Case { seed, pair, n }, chance)
 }
 
-/// What 01 says of the searches among themselves, over all kinds of pairs.
+/// What the rules say of the searches among themselves, over all kinds of pairs.
 struct Relations {
     /// Pruned finds what full finds; dropped and finally measured are the candidates.
     pruned: Group,

@@ -1,5 +1,5 @@
-//! Document 01's worked pairs A to J, with its numbers typed in, against the archive and against the rival; and what 01 writes
-//! down of the preference order, against the rival.
+//! The worked pairs A to J of docs/REFERENCE.md, with their numbers typed in, against the archive and against the rival; and what
+//! the rules write down of the preference order, against the rival.
 
 use crate::archive;
 use crate::group::Group;
@@ -11,7 +11,7 @@ use crate::question::{
 use crate::reckoning;
 use crate::rival;
 
-/// Both sides must give the answer that 01 names.
+/// Both sides must give the answer that the rules name.
 fn searched(group: &mut Group, what: &str, pair: &Pair, request: Request, wanted: Answer) {
     let inputs = format!("pair {what}: {pair}, {request}");
     group.same(&inputs, archive::search_block(pair, &request), wanted);
@@ -362,7 +362,7 @@ fn pair_j(group: &mut Group) {
     }
 }
 
-/// "It begins (0,0), (-1,0), [...] (2,0) and ends with (16,16)": the rival's order is the one that 01 means.
+/// "It begins (0,0), (-1,0), [...] (2,0) and ends with (16,16)": the rival's order is the one that the rules mean.
 fn preference_order(group: &mut Group) {
     let order = rival::preference_order(16);
     let begins = [
