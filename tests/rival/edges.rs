@@ -145,7 +145,7 @@ fn block_sizes() -> u64 {
     let far = [ABOVE_32 + 4, TOP_BIT + 8, usize::MAX - 3, usize::MAX];
     // Frames that each N fits into or not quite, and two that N over 16 would fit into.
     let small = (4..=18).flat_map(|width| (4..=18).map(move |height| (width, height)));
-    for (width, height) in small.chain([(64, 64), (300, 270)]) {
+    for (width, height) in small.chain([(64, 64), (1024, 1024)]) {
         let pair = pair_of(width, height);
         for n in sizes.into_iter().chain(far) {
             let allowed = (n == 4 || n == 8 || n == 16) && n <= width && n <= height;

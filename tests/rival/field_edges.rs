@@ -122,11 +122,13 @@ fn pairs() -> u64 {
         let lengths = needed(&pair, n);
         asked(&mut group, &pair, plain(n), lengths, refusal);
     }
-    // Frames of no pel, as many as are left of a product that wraps.
+    // Frames of a few pels, and of none, as many as are left of a product that wraps.
     for size in [0, ABOVE_32 + 8, TOP_BIT, usize::MAX] {
         for (width, height) in [(size, 4), (4, size), (size, size)] {
-            let pair = pair_with_lengths(width, height, 0, 0);
-            asked(&mut group, &pair, plain(4), (60, 60), 1);
+            for length in [0, 16] {
+                let pair = pair_with_lengths(width, height, length, length);
+                asked(&mut group, &pair, plain(4), (60, 60), 1);
+            }
         }
     }
     for (older, newer) in [(47, 48), (49, 48), (48, 47), (48, 49), (0, 48), (48, 0)] {
