@@ -5,17 +5,17 @@
  * (dy, dx) compares the newer frame's block at (row, column) with the older frame's block at (row + dy, column + dx): + is down
  * and right. The paper travelled the other way, by (-dy, -dx).
  *
- * Every call takes any input whatever. It keeps no pointer and holds no state, so it may be called from several threads. A frame
- * is lent as a pointer and its length in bytes, and only read; a list and a table are lent as a pointer and their length in
- * numbers, and filled; a log and a buffer as a pointer and their length in bytes. A pointer must not be null, not even where the length
- * is 0, and memory that is filled shares no byte with any other that is lent. A search, a field and a step need about 33 kB of stack,
- * any other call less than 2 kB; nothing is taken from the heap.
+ * Every call takes any numbers and any bytes whatever. It keeps no pointer and holds no state, so it may be called from several threads.
+ * A frame is lent as a pointer and its length in bytes, and only read; a list and a table are lent as a pointer and their length in
+ * numbers, and filled; a log and a buffer as a pointer and their length in bytes. A pointer must lead to as much memory as is said, must
+ * not be null, not even where the length is 0, and memory that is filled shares no byte with any other that is lent; the two frames may be the
+ * same memory. A search, a field and a step need about 33 kB of stack, any other call less than 2 kB; nothing is taken from the heap.
  *
  * An answer is a struct by value whose first number is `refusal` (in gauge_stepped: answer.refusal): 0 where the call is accepted, else
- * the number of the first rule that the input or the track breaks, in the order given at the call as "Tests ..". gauge_track_new and
- * gauge_print_log refuse nothing and have none. In a refused answer everything else is 0, but for
+ * the number of the first rule that the input, the track or the cursor breaks, in the order given at the call as "Tests ..".
+ * gauge_track_new and gauge_print_log refuse nothing and have none. In a refused answer everything else is 0, but for
  *   - the track of gauge_homed and gauge_stepped, which is handed back as it was;
- *   - the place of a refused log, in gauge_written, gauge_log_read and gauge_walked;
+ *   - the place of the refusal, in gauge_written, gauge_log_read and gauge_walked;
  *   - `next` of gauge_walked, which keeps the cursor's `at` and has phase 3.
  * Memory that is lent to a refused call keeps what it held, but for refusal 33 of a step.
  *
@@ -103,8 +103,8 @@ typedef struct {
     uint32_t refusal;
     int32_t dy, dx;      /* the vector found */
     uint32_t distortion; /* and its distortion */
-    uint32_t counts[5];  /* pruned: how many candidates were tested at m = 16, 8, 4, 2, 1; the others count what they measured at m = 1 */
-    uint32_t dropped;    /* pruned: how many were dropped unmeasured */
+    uint32_t counts[5];  /* pruned: how many candidates were tested at m = 16, 8, 4, 2, 1; others: 0, and at m = 1 how many were measured */
+    uint32_t dropped;    /* pruned: how many candidates were dropped */
 } gauge_found;
 
 /* Searches the block that stands at (row, column), on the grid or off it. Tests 1 2 3 4 5 6 7. */
@@ -163,10 +163,10 @@ gauge_stepped gauge_step(gauge_track track, const uint8_t *older, size_t older_l
  * A log is one head, a command for each grid block, row by row, and one end. A command is a byte and its operands, numbers of one,
  * two or four bytes, highest byte first:
  *
- *     1 head         width 2, height 2, N 1, w 1, search 1                     8 bytes in all
- *     2 block        dy 1, dx 1 (two's complement: 255 is -1), distortion 2    5
- *     3 still block  none: the vector (0,0) with distortion 0                  1
- *     4 end          the number of blocks 4                                    5
+ *     1 head         width (2 bytes), height (2), N (1), w (1), search (1)           8 bytes in all
+ *     2 block        dy (1), dx (1), in two's complement: 255 is -1; distortion (2)  5
+ *     3 still block  none: the vector (0,0) with distortion 0                        1
+ *     4 end          the number of blocks (4)                                        5
  *
  * So the field of a pair 5 wide and 4 high, N 4, w 1, search 2, whose one block has (0,1) and distortion 0, is
  * 01 00 05 00 04 04 01 02 | 02 00 01 00 00 | 04 00 00 00 01. (0,0) with distortion 0 is always command 3, never 2.
@@ -188,7 +188,7 @@ typedef struct {
     size_t length; /* the log's length in bytes */
 } gauge_written;
 
-/* The longest log of such a field, in bytes: a buffer of this length is never too short. n is not 0. */
+/* The longest log of a field of this size and N, in bytes: a buffer of this length is never too short. n is not 0. */
 #define GAUGE_LOG_MOST(width, height, n) (8 + 5 * ((size_t)(height) / (n)) * ((size_t)(width) / (n)) + 5)
 
 /* Writes the log of a field into a buffer: head numbers, and a list of three numbers a block as the field call fills it. The buffer past the
@@ -204,7 +204,7 @@ typedef struct {
 
 /* Reads a whole log into a list, three numbers a block. Nothing is stored before the whole log is accepted; the list past the field keeps what
  * it held. Tests, command by command, 14 13 15 16 17, 10 right after the head, and 18. How long the list must be stands in the log's
- * head, so walk the head first: where gauge_walk(log, log_length, (gauge_cursor){0}) is accepted, its `head` has width, height and n for
+ * head, so walk the head first: where gauge_walk from a cursor of all zeros is accepted, its `head` has width, height and n for
  * GAUGE_LIST_LENGTH. */
 gauge_log_read gauge_read_log(const uint8_t *log, size_t log_length, int32_t *list, size_t list_length);
 
@@ -228,16 +228,16 @@ typedef struct {
     uint32_t refusal;
     size_t place;        /* a refusal's place */
     uint32_t command;    /* 1 head, 2 block, 3 still block, 4 end; 0 where refused */
-    gauge_head head;     /* of a head; 0 with another command, as are those below */
+    gauge_head head;     /* of a head; this and the numbers down to `blocks` are 0 with any other command */
     int32_t dy, dx;      /* of a block */
     uint32_t distortion; /* of a block */
     size_t blocks;       /* of an end */
     gauge_cursor next;   /* where the walk then stands; after a refusal `at` as it was, phase 3, the rest 0 */
 } gauge_walked;
 
-/* Hands out the command at a cursor, and the cursor to go on with. A log is accepted where a walk from its start ends with 34. Tests 34 (phase 3
- * or more, `at` past the log, among the blocks a head that 15 would turn away or more blocks than the grid has), then 14 13 15 16 17; after
- * the end 18, or 34 where no byte is left. The place of 34 is 0. */
+/* Hands out the command at a cursor, and the cursor to go on with. A log is accepted if the first refusal of a walk from its start is 34. Tests
+ * 34 (phase 3 or more, `at` past the log, among the blocks a head that 15 would turn away or more blocks than the grid has), then 14 13 15
+ * 16 17; after the end 18, or 34 where no byte is left. The place of 34 is 0. */
 gauge_walked gauge_walk(const uint8_t *log, size_t log_length, gauge_cursor cursor);
 
 #ifdef __cplusplus

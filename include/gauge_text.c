@@ -37,7 +37,7 @@ const char *gauge_refusal_text(uint32_t refusal)
     case GAUGE_LOG_HEAD:
         return "the log's head has a size, N, search or window that is not allowed";
     case GAUGE_LOG_BLOCK:
-        return "a block has a vector or a distortion that it cannot have, or is a still block written as another";
+        return "a block has a vector or a distortion that it cannot have, or is (0,0) with distortion 0 as command 2";
     case GAUGE_LOG_END:
         return "the log's end has another number of blocks";
     case GAUGE_LOG_AFTER_END:
@@ -49,7 +49,7 @@ const char *gauge_refusal_text(uint32_t refusal)
     case GAUGE_NOT_HOMED:
         return "the track is not homed";
     case GAUGE_STEPS_OVER:
-        return "the track has made 1,000,000 steps: home it";
+        return "the track has made 1,000,000 steps or more: home it";
     case GAUGE_OUT_OF_RANGE:
         return "the step would lead outside -1,000,000 to 1,000,000";
     case GAUGE_WALK_OVER:
