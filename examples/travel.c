@@ -1,8 +1,10 @@
 /* What a technician wants to know of two pictures: how far the paper travelled, and whether that can be trusted.
  *
- * travel OLDER.pgm NEWER.pgm reads a pair of grey pictures (binary PGM, one byte a pel). With no words it makes its own: a track is homed and
- * stepped through pictures of travelling paper, one of which travels beyond the search window and one of which is blank; then the first pair
- * is read by each of the four searches. */
+ * travel OLDER.pgm NEWER.pgm reads a pair of grey pictures (binary PGM, 255 the lightest). It ends with status 0 where the travel can be trusted,
+ * 1 where it cannot, 2 where the words or pictures will not do. With no words it makes its own pictures: a track is homed and stepped
+ * through travelling paper that travels beyond the search window at last, and through blank pictures; then the first pair is read by each of the
+ * four searches. */
+#include <ctype.h>
 #include <stdio.h>
 #include <stdlib.h>
 #include <string.h>
@@ -43,8 +45,8 @@ static unsigned share(gauge_field_answer f)
 /* Why a reading is not to be trusted, or null. */
 static const char *doubt(gauge_field_answer f)
 {
-    if (blank(newer))
-        return "the picture is blank, so it cannot show a travel";
+    if (blank(older) || blank(newer))
+        return "a picture is blank, so no travel can be seen";
     if (share(f) < 25)
         return "less than a quarter of the blocks agree";
     if (abs(f.dy) == W || abs(f.dx) == W)
@@ -70,46 +72,66 @@ static bool report(gauge_field_answer f)
 
 static int refused(uint32_t refusal)
 {
-    printf("refused %u: %s\n", refusal, gauge_refusal_text(refusal));
-    return 1;
+    printf("refused %u: %s\n", (unsigned)refusal, gauge_refusal_text(refusal));
+    return 2;
 }
 
 /* ---- a pair of pictures from files */
 
-/* Reads a picture; false where the file is no such PGM or is too large. */
+/* The next number of a PGM's head, with the white byte behind it; before it stand white bytes and comments. 0 if there is none. */
+static unsigned next_number(FILE *file)
+{
+    int c = fgetc(file);
+    for (bool comment = false; isspace(c) || c == '#' || (comment && c != EOF); c = fgetc(file))
+        comment = c == '#' || (comment && c != '\n');
+    unsigned number = 0;
+    for (; isdigit(c) && number <= 65535; c = fgetc(file))
+        number = 10 * number + (unsigned)(c - '0');
+    return isspace(c) ? number : 0;
+}
+
+/* Reads a picture, and sets width and height. Answers with what is wrong, or null. */
+static const char *read_open(FILE *file, uint8_t *picture)
+{
+    if (fgetc(file) != 'P' || fgetc(file) != '5')
+        return "is no binary PGM (P5)";
+    width = next_number(file);
+    height = next_number(file);
+    if (width < N || width > MOST || height < N || height > MOST)
+        return "is not 16 to 1,024 pels wide and high";
+    if (next_number(file) != 255)
+        return "does not have one byte a pel with 255 for the lightest";
+    if (fread(picture, 1, width * height, file) != width * height)
+        return "is cut short";
+    return NULL;
+}
+
 static bool read_picture(const char *name, uint8_t *picture)
 {
-    unsigned w, h;
     FILE *file = fopen(name, "rb");
-    bool good = file && fscanf(file, "P5 %u %u 255", &w, &h) == 2 && fgetc(file) != EOF && w <= MOST && h <= MOST &&
-                fread(picture, 1, (size_t)w * h, file) == (size_t)w * h;
+    const char *wrong = file ? read_open(file, picture) : "cannot be opened";
     if (file)
         fclose(file);
-    if (!good) {
-        printf("%s: no binary PGM of at most %d x %d pels of one byte\n", name, MOST, MOST);
-        return false;
-    }
-    width = w;
-    height = h;
-    return true;
+    if (wrong)
+        printf("%s %s\n", name, wrong);
+    return !wrong;
 }
 
 static int from_files(char **names)
 {
     if (!read_picture(names[0], older))
-        return 1;
+        return 2;
     size_t first_width = width, first_height = height;
     if (!read_picture(names[1], newer))
-        return 1;
+        return 2;
     if (width != first_width || height != first_height) {
-        printf("the pictures have different sizes\n");
-        return 1;
+        printf("the pictures differ in size: %zu x %zu and %zu x %zu\n", first_width, first_height, width, height);
+        return 2;
     }
     gauge_field_answer f = field(2, W);
     if (f.refusal != GAUGE_ACCEPTED)
         return refused(f.refusal);
-    report(f);
-    return 0;
+    return report(f) ? 0 : 1;
 }
 
 /* ---- made-up pictures */
@@ -156,6 +178,10 @@ int main(int argc, char **argv)
 {
     if (argc == 3)
         return from_files(argv + 1);
+    if (argc != 1) {
+        printf("travel [OLDER.pgm NEWER.pgm]\n");
+        return 2;
+    }
     static const int lies[][2] = {{0, 0}, {5, -3}, {5, 1}, {-9, 0}, {-9, 0}, {8, 0}};
     gauge_track track = gauge_home(gauge_track_new(), 100, 200).track;
     printf("homed at (%d,%d)\n", track.y, track.x);

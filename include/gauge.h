@@ -122,8 +122,8 @@ typedef struct {
 
 /* Searches every block of the grid: (height / N) x (width / N) blocks, row by row. Fills the list with three numbers a block: dy,
  * dx, distortion. Search 2 also fills the table with sums of older pels: place r x (width + 1) + c has the sum of the pels in rows
- * before r and columns before c; the other searches leave it as it is. Numbers past the used part keep what they held, as
- * all do where the call is refused. Tests 1 2 3 4 5 6 9 10. */
+ * before r and columns before c; the other searches leave it as it is, and it may have any length, 0 too. Numbers past the used part keep
+ * what they held, as all do where the call is refused. Tests 1 2 3 4 5 6 9 10. */
 gauge_field_answer gauge_field(const uint8_t *older, size_t older_length, const uint8_t *newer, size_t newer_length,
                                gauge_request request, int32_t *list, size_t list_length, uint32_t *table, size_t table_length);
 
@@ -210,7 +210,8 @@ gauge_log_read gauge_read_log(const uint8_t *log, size_t log_length, int32_t *li
 
 /* Prints a log as text, a line a command until a refusal: `5 4 4 1 2` for a head (width, height, N, w, search), `0 1 0` for a block (dy, dx,
  * distortion), `end 1` for the end (blocks), `refused 14 at 8` for a refusal and its place; 34, the end of the walk, has no line. For more than
- * 65,536 bytes the one line `refused 20 at 65536`. Each line ends in a newline. Puts as much of the text into the buffer as fits, with no
+ * 65,536 bytes the one line `refused 20 at 65536`, though the log may be read and walked: fields of up to 13,104 blocks never have a log as
+ * long. Each line ends in a newline. Puts as much of the text into the buffer as fits, with no
  * zero byte after it, leaves the rest of the buffer as it was, and answers with the length of the whole text, at most GAUGE_TEXT_MOST. */
 #define GAUGE_TEXT_MOST 393236
 size_t gauge_print_log(const uint8_t *log, size_t log_length, uint8_t *buffer, size_t buffer_length);

@@ -2,7 +2,7 @@
 -- the grid's blocks and the end, at the offsets at which the log has them.
 --   AcceptedFrom   an accepted log from block k at an offset on, with the walk's commands from there
 --   Accepted       an accepted log with its walk
---   accepted       a walk that ends with 34 is one
+--   acceptedLog    a walk that ends with 34 is one
 use Prim.Native.Nat.{ℕ, zero, suc, _+_, _*_, _≤_, _<_}
 use mathlib.Core.Path.{_≡_, refl, sym, ap, _∙_}
 use mathlib.Core.List.{List, [], _∷_, flatMap}

@@ -150,9 +150,9 @@ pairs-more : (l : List (List ℤ)) (i : ℕ) → i < length l → pairs (drop i 
 unfolding pairs
 pairs-more l i h = rw (drop-cons l i [] h, add-one)
 
-pairs-last : (l : List (List ℤ)) (i : ℕ) → length l ≤ i → pairs (drop i l) ≡ []
+pairs-none : (l : List (List ℤ)) (i : ℕ) → length l ≤ i → pairs (drop i l) ≡ []
 unfolding pairs
-pairs-last l i h = rw (drop-of-length-le l h)
+pairs-none l i h = rw (drop-of-length-le l h)
 
 -- a table that is a pattern, by a test that antt computes
 unfoldable pub pattern? : List (List ℤ) → Bool
@@ -193,7 +193,7 @@ module _ (y x cy cx : ℕ) (offsets : List (List ℤ)) where
 
     pub missing-last : length offsets ≤ i → false ≡ isIn (point y x) (around (point cy cx) (pairs offsets))
     unfolding isIn around
-    missing-last h = rw (pairs-last offsets i h) at (m .left)
+    missing-last h = rw (pairs-none offsets i h) at (m .left)
 
 -- ---- a pattern, one point after another: what is left leads from the best by now to where all leads from the first
 
@@ -237,4 +237,4 @@ module _ (t : Target) (before : List Vector) (cy cx p : ℕ) (offsets : List (Li
 
     pub going-last : length offsets ≤ i → seenOf best ≡ probe t (seenOf at-origin) (fresh before (around (point cy cx) (widened p (pairs offsets))))
     unfolding probe around widened fresh
-    going-last h = rw (pairs-last offsets i h) at (g .left)
+    going-last h = rw (pairs-none offsets i h) at (g .left)

@@ -3,7 +3,7 @@
 --   stillDistortion    the distortion of (0,0), with which E begins
 --   firstSlot          where the count at N stands among the five: they end with that, those at the resolutions after N and the one at m = 1
 --   Begun              before the first test: all candidates, E the distortion of (0,0), no count
---   recounted          after counting the tests at a resolution, k candidates remaining; counted: all of them
+--   recounted          after counting the tests at a resolution, k candidates remaining; testsCounted: all of them
 --   bounded            E lowered to e, if that is less
 --   Leveled            a resolution later: a candidate alone stays as it is; of more, the distances at m are worked out, E is lowered to the nearest's
 --                      distortion and those within it stay, in front of what sweeping leaves

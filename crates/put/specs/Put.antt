@@ -1,7 +1,7 @@
 -- Elements put into a lent list, one text after another, bytes into a buffer above all. What lies past the list's end is counted and not put.
 --   Put before at text after next   text put from place `at` on: what the buffer then holds, and the next place
 --   StillToPut out at text before from whole   what is still to be put: put from here on, it makes the whole text, from place `from` on, over `before`
---   over text buffer                a text over the front of a buffer, as far as it fits; the rest is kept
+--   overFront text buffer           a text over the front of a buffer, as far as it fits; the rest is kept
 use Prim.Native.Nat.{ℕ, suc, _+_, _≤_}
 use mathlib.Core.Path.{_≡_, refl, _∙_, ap, sym}
 use mathlib.Core.List.{List, [], _∷_, _++_}
