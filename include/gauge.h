@@ -211,8 +211,8 @@ gauge_log_read gauge_read_log(const uint8_t *log, size_t log_length, int32_t *li
 /* Prints a log as text, a line a command until a refusal: `5 4 4 1 2` for a head (width, height, N, w, search), `0 1 0` for a block (dy, dx,
  * distortion), `end 1` for the end (blocks), `refused 14 at 8` for a refusal and its place; 34, the end of the walk, has no line. For more than
  * 65,536 bytes the one line `refused 20 at 65536`, though the log may be read and walked: fields of up to 13,104 blocks never have a log as
- * long. Each line ends in a newline. Puts as much of the text into the buffer as fits, with no
- * zero byte after it, leaves the rest of the buffer as it was, and answers with the length of the whole text, at most GAUGE_TEXT_MOST. */
+ * long. Each line ends in a newline. Puts as much of the text into the buffer as fits, with no zero byte after it, leaves the rest of the
+ * buffer as it was, and answers with the length of the whole text, at most GAUGE_TEXT_MOST. */
 #define GAUGE_TEXT_MOST 393236
 size_t gauge_print_log(const uint8_t *log, size_t log_length, uint8_t *buffer, size_t buffer_length);
 
@@ -229,7 +229,7 @@ typedef struct {
     uint32_t refusal;
     size_t place;        /* a refusal's place */
     uint32_t command;    /* 1 head, 2 block, 3 still block, 4 end; 0 where refused */
-    gauge_head head;     /* of a head; this and the numbers down to `blocks` are 0 with any other command */
+    gauge_head head;     /* of a head; what a command does not have, here and in the numbers below, is 0 */
     int32_t dy, dx;      /* of a block */
     uint32_t distortion; /* of a block */
     size_t blocks;       /* of an end */
