@@ -40,19 +40,7 @@ fn stands(homed: bool, y: i32, x: i32, steps: u32) -> Track {
     Track { homed, y, x, steps }
 }
 
-/// An accepted answer.
-fn read(vector: (i64, i64), votes: i64, counts: [i64; 5], dropped: i64) -> FieldAnswer {
-    FieldAnswer {
-        refusal: 0,
-        dy: vector.0,
-        dx: vector.1,
-        votes,
-        counts,
-        dropped,
-    }
-}
-
-/// A refused one.
+/// A refused answer.
 fn refused(refusal: i64) -> FieldAnswer {
     FieldAnswer {
         refusal,
@@ -210,7 +198,7 @@ fn step_of_b(group: &mut Group, track: Track, refusal: i64) {
     let wanted = match refusal {
         0 => {
             let there = stands(true, track.y, track.x - 1, track.steps + 1);
-            (read((0, 1), 1, [0, 0, 2, 2, 1], 1), there)
+            (FieldAnswer::accepted((0, 1), 1, [0, 0, 2, 2, 1], 1), there)
         }
         _ => (refused(refusal), track),
     };
@@ -301,11 +289,11 @@ fn whole_fields() -> u64 {
         width: 11,
         height: 7,
     };
-    let wanted = read((0, 0), 2, [0, 0, 2, 2, 2], 0);
+    let wanted = FieldAnswer::accepted((0, 0), 2, [0, 0, 2, 2, 2], 0);
     field_of(&mut group, &pair, asks(4, 2, 0, 0), wanted, &[0; 6]);
 
     let pair = flat(1024, 1024, 255, 0);
-    let wanted = read((0, 0), 4096, [4096; 5], 0);
+    let wanted = FieldAnswer::accepted((0, 0), 4096, [4096; 5], 0);
     let list = [0, 0, 65_280].repeat(4096);
     field_of(&mut group, &pair, asks(16, 2, 0, 0), wanted, &list);
     let mut lent = lent(3 * 4096, 1025 * 1025);
@@ -315,7 +303,7 @@ fn whole_fields() -> u64 {
 
     let pair = flat(8, 8, 7, 7);
     for (search, w, t, count) in [(3, 7, 0, 28), (4, 2, 0, 16), (4, 2, 1, 4)] {
-        let wanted = read((0, 0), 4, [0, 0, 0, 0, count], 0);
+        let wanted = FieldAnswer::accepted((0, 0), 4, [0, 0, 0, 0, count], 0);
         field_of(&mut group, &pair, asks(4, search, w, t), wanted, &[0; 12]);
     }
     group.end()
@@ -386,9 +374,9 @@ fn stepping() -> u64 {
         height: 5,
     };
     let (b, c) = (frames_of_b(), flat(8, 8, 7, 7));
-    let full = read((0, 1), 1, [0, 0, 0, 0, 2], 0);
-    let up = read((1, 0), 1, [0, 0, 2, 2, 1], 1);
-    let still = |count| read((0, 0), 4, [0, 0, 0, 0, count], 0);
+    let full = FieldAnswer::accepted((0, 1), 1, [0, 0, 0, 0, 2], 0);
+    let up = FieldAnswer::accepted((1, 0), 1, [0, 0, 2, 2, 1], 1);
+    let still = |count| FieldAnswer::accepted((0, 0), 4, [0, 0, 0, 0, count], 0);
     for (pair, request, answer, y, x) in [
         (&b, asks(4, 1, 1, 0), full, 10, 19),
         (&turned, asks(4, 2, 1, 0), up, 9, 20),

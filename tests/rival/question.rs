@@ -83,6 +83,25 @@ pub struct FieldAnswer {
     pub dropped: i64,
 }
 
+impl FieldAnswer {
+    /// An accepted answer.
+    pub fn accepted(
+        (dy, dx): (i64, i64),
+        votes: i64,
+        counts: [i64; 5],
+        dropped: i64,
+    ) -> FieldAnswer {
+        FieldAnswer {
+            refusal: 0,
+            dy,
+            dx,
+            votes,
+            counts,
+            dropped,
+        }
+    }
+}
+
 /// "The track holds homed or not, y, x and steps." Laid out as the header's gauge_track.
 #[derive(Clone, Copy, PartialEq, Eq, Debug)]
 #[repr(C)]

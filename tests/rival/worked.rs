@@ -196,22 +196,14 @@ fn lent(list_length: usize, table_length: usize) -> Lent {
 /// The fields of B and C: "(0,1), 0; full 2; pruned 0,0,2,2,1, dropped 1" and "four still blocks, full 4 each; pruned sums
 /// 0,0,16,16,16". The list and the table are lent longer than they need be.
 fn fields_of_b_and_c(group: &mut Group) {
-    let answer = |vector: (i64, i64), votes, counts, dropped| FieldAnswer {
-        refusal: 0,
-        dy: vector.0,
-        dx: vector.1,
-        votes,
-        counts,
-        dropped,
-    };
     let (b, c) = (frames_of_b(), flat(8, 8, 7, 7));
     let still = [0, 0, 0].repeat(4);
     let of_b = |search, counts, dropped| {
-        let wanted = answer((0, 1), 1, counts, dropped);
+        let wanted = FieldAnswer::accepted((0, 1), 1, counts, dropped);
         (&b, search, vec![0, 1, 0], wanted)
     };
     let of_c = |search, counts| {
-        let wanted = answer((0, 0), 4, counts, 0);
+        let wanted = FieldAnswer::accepted((0, 0), 4, counts, 0);
         (&c, search, still.clone(), wanted)
     };
     for (pair, search, list, wanted) in [
