@@ -9,11 +9,11 @@ use lib.ListN.{length}
 use Rattle.signed.specs.Int.{up, dn, parts}
 use Rattle.order.specs.declared.Vector.{Vector}
 use Rattle.order.specs.Vectors.{Within}
-use Rattle.frame.specs.declared.Sizes.{Sizes}
+use Rattle.frame.specs.declared.Setting.{Setting}
 use Rattle.refusals.specs.declared.Request.{Request}
 use Rattle.frame.specs.Pictures.{pairOf}
 use Rattle.frame.specs.Candidates.{candidate, candidate-at}
-use Rattle.refusals.specs.Refusals.{windowOk, sizesOf}
+use Rattle.refusals.specs.Refusals.{windowOk, settingOf}
 use Rattle.search.specs.Target.{target}
 use Rattle.search.specs.SearchResult.{probes}
 use Rattle.probe.specs.BestSoFar.{resultOf}
@@ -25,7 +25,7 @@ pub record Clear (y n side : ℕ) : Type 0 where
   pub before : 7 ≤ y
   pub behind : y + n + 7 ≤ side
 
-all-candidates : (s : Sizes) (y x : ℕ) (v : Vector) → Clear y (s .n) (s .height) → Clear x (s .n) (s .width) → Within 7 v → T (candidate s 7 y x v)
+all-candidates : (s : Setting) (y x : ℕ) (v : Vector) → Clear y (s .n) (s .height) → Clear x (s .n) (s .width) → Within 7 v → T (candidate s 7 y x v)
 all-candidates s y x v down across near =
     candidate-at s 7 y x v (y + up (v .dy) - dn (v .dy)) (x + up (v .dx) - dn (v .dx)) near
     (omega (arith, parts (v .dy))) (omega (arith, parts (v .dy))) (omega (arith, parts (v .dx))) (omega (arith, parts (v .dx)))
@@ -37,6 +37,6 @@ unfolding windowOk resultOf
 block-unclipped older newer q y x three accepted down across =
     let zero = block-unrefused older newer q y x accepted in
     let seven : q .w ≡ 7 = eqb→eq (q .w) 7 (rw three at (searchable _ _ q y x zero .requested .window)) in
-    let p = pairOf older newer (sizesOf q) in
+    let p = pairOf older newer (settingOf q) in
     rw (block-accepted older newer q y x zero ∙ searched-four-step p q y x three, seven)
-    (four-step-unclipped (target p 7 y x) (λ v near. all-candidates (sizesOf q) y x v down across near))
+    (four-step-unclipped (target p 7 y x) (λ v near. all-candidates (settingOf q) y x v down across near))

@@ -13,7 +13,7 @@ use lib.ListN.{length}
 use Rattle.base.specs.Tests.{le-both}
 use Rattle.refusals.specs.declared.Request.{Request}
 use Rattle.frame.specs.Pictures.{Pair, pairOf}
-use Rattle.refusals.specs.Refusals.{unless, firstRefusal, placeOk, requestRefusal, sizesOf}
+use Rattle.refusals.specs.Refusals.{unless, firstRefusal, placeOk, requestRefusal, settingOf}
 use Rattle.refusals.specs.Refusals.{unless-zero, first-refusal-zero, first-refusal-none, Placed, Requested, requested}
 use Rattle.search.specs.declared.SearchResult.{SearchResult}
 use Rattle.search.specs.Target.{target}
@@ -25,7 +25,7 @@ use Rattle.full.specs.Full.{fullSearch}
 use Rattle.pruned.specs.Answer.{prunedSearch}
 
 unfoldable pub searchRefusal : ℕ → ℕ → Request → ℕ → ℕ → ℕ
-searchRefusal older newer q y x = firstRefusal (requestRefusal older newer q) (unless (placeOk (sizesOf q) y x) 7 0)
+searchRefusal older newer q y x = firstRefusal (requestRefusal older newer q) (unless (placeOk (settingOf q) y x) 7 0)
 
 -- 1 full, 2 pruned, 3 four-step, 4 cross
 unfoldable pub searchBy : Pair → Request → ℕ → ℕ → SearchResult
@@ -38,20 +38,20 @@ searchBy p q y x =
 unfoldable pub searchBlock : List ℕ → List ℕ → Request → ℕ → ℕ → SearchResult
 searchBlock older newer q y x =
     let refusal = searchRefusal (length older) (length newer) q y x in
-    cond (eqb refusal 0) (searchBy (pairOf older newer (sizesOf q)) q y x) (refusedSearch refusal)
+    cond (eqb refusal 0) (searchBy (pairOf older newer (settingOf q)) q y x) (refusedSearch refusal)
 
 -- ---- what an accepted call may go by
 
 -- 1 2 3 4 5 6 7: the request is one that its search takes, and the block lies in the newer frame
 pub record Searchable (older newer : ℕ) (q : Request) (y x : ℕ) : Type 0 where
   pub requested : Requested older newer q
-  pub placed : Placed older newer (sizesOf q) y x
+  pub placed : Placed older newer (settingOf q) y x
 
 pub searchable : (older newer : ℕ) (q : Request) (y x : ℕ) → searchRefusal older newer q y x ≡ 0 → Searchable older newer q y x
 unfolding searchRefusal
 searchable older newer q y x e =
     let a = first-refusal-zero (requestRefusal older newer q) _ e in
-    let b = le-both (y + q .n) (q .height) (x + q .n) (q .width) (unless-zero (placeOk (sizesOf q) y x) 6 0 (a .1) .0) in
+    let b = le-both (y + q .n) (q .height) (x + q .n) (q .width) (unless-zero (placeOk (settingOf q) y x) 6 0 (a .1) .0) in
     let r = requested older newer q (a .0) in
     record { requested = r; placed = record { paired = r .paired; down = b .0; across = b .1 } }
 
@@ -75,7 +75,7 @@ module _ (older newer : List ℕ) (q : Request) (y x : ℕ) where
       go (yes h) = h
       go (no h) = sym (ap (λ (f : SearchResult). f .refusal) (block-refused h)) ∙ e
 
-  pub block-accepted : searchRefusal (length older) (length newer) q y x ≡ 0 → searchBlock older newer q y x ≡ searchBy (pairOf older newer (sizesOf q)) q y x
+  pub block-accepted : searchRefusal (length older) (length newer) q y x ≡ 0 → searchBlock older newer q y x ≡ searchBy (pairOf older newer (settingOf q)) q y x
   unfolding searchBlock
   block-accepted h = rw h
 

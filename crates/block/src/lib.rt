@@ -19,7 +19,7 @@ pub fn search_refusal(older: usize, newer: usize, q: Request, y: usize, x: usize
     if refusal != 0 {
         return refusal;
     }
-    if !refusals::place_ok(refusals::sizes_of(q), y, x) {
+    if !refusals::place_ok(refusals::setting_of(q), y, x) {
         return 7;
     }
     0
@@ -46,9 +46,9 @@ fn pruned_alone(
     b: SearchBlock,
 ) -> SearchResult
     requires { ⌜ Ready (now older) (now newer) b × (now order ≡ flat preference) ⌝ }
-    ensures { λ r. ⌜ r ≡ prunedSearch (pairOf (now (older .entry)) (now (newer .entry)) (b .sizes)) (b .w) (b .y) (b .x) ⌝ }
+    ensures { λ r. ⌜ r ≡ prunedSearch (pairOf (now (older .entry)) (now (newer .entry)) (b .setting)) (b .w) (b .y) (b .x) ⌝ }
 {
-    let s = b.sizes;
+    let s = b.setting;
     let a = pruned_region::search_window(b);
     let mut table = [0u32; pruned_sums::WINDOW_TABLE];
     pruned_sums::fill_sums(older, s.width, a, &mut table);
@@ -64,7 +64,7 @@ pub fn search_block(older: &[u8], newer: &[u8], q: Request, y: usize, x: usize) 
         return refused_search(refusal);
     }
     let b = SearchBlock {
-        sizes: refusals::sizes_of(q),
+        setting: refusals::setting_of(q),
         w: q.w,
         y,
         x,

@@ -11,7 +11,7 @@ use Rattle.order.specs.declared.Vector.{Vector}
 use Rattle.order.specs.Vectors.{Within, vectorCount}
 use Rattle.order.specs.Preference.{preferred}
 use Rattle.order.proofs.Order.{inside}
-use Rattle.frame.specs.declared.Sizes.{Sizes}
+use Rattle.frame.specs.declared.Setting.{Setting}
 use Rattle.frame.specs.Candidates.{candidate, candidate-at}
 use Rattle.frame.specs.declared.SearchBlock.{SearchBlock}
 use Rattle.candidates.specs.Gathered.{candidateAt, hasMargin, isInterior}
@@ -20,8 +20,8 @@ use Rattle.candidates.specs.Gathered.{candidateAt, hasMargin, isInterior
 pub interior-passes : (b : SearchBlock) → T (isInterior b) → (k : ℕ) → k < vectorCount → candidateAt b k ≡ true
 interior-passes b t k h = T-true (candidateAt b k) (inner (preferred k) (inside k h))
   where
-    s : Sizes
-    s = b .sizes
+    s : Setting
+    s = b .setting
 
     rows : Bool
     rows = hasMargin (b .y) (s .n) (s .height)

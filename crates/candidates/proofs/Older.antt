@@ -17,12 +17,12 @@ module _ (older newer : List ℕ) (b : SearchBlock) (k : ℕ) where
   stands r t = let p = candidate-past older newer b (preferred k) r t in record { row = p .0; column = p .1; wide = r .placed .paired .fitting .wide }
 
   pub comparable : Ready older newer b → T (candidateAt b k)
-      → Comparable older newer (b .sizes) (b .y) (b .x) (olderRow (b .y) (preferred k)) (olderColumn (b .x) (preferred k))
+      → Comparable older newer (b .setting) (b .y) (b .x) (olderRow (b .y) (preferred k)) (olderColumn (b .x) (preferred k))
   comparable r t =
-      let o = candidate-older (b .sizes) (b .w) (b .y) (b .x) (preferred k) t in
+      let o = candidate-older (b .setting) (b .w) (b .y) (b .x) (preferred k) t in
       record { placed = r .placed; down = o .down; across = o .across }
 
   pub by-rows : distortionOf older newer b k ≡
-      rowsFrom absolute older newer (b .sizes .width) (b .y * b .sizes .width + b .x) (beginsAt b k) (b .sizes .n) (b .sizes .n)
+      rowsFrom absolute older newer (b .setting .width) (b .y * b .setting .width + b .x) (beginsAt b k) (b .setting .n) (b .setting .n)
   unfolding distortion
-  by-rows = block-rows absolute older newer (b .sizes .width) (b .y) (b .x) (olderRow (b .y) (preferred k)) (olderColumn (b .x) (preferred k)) (b .sizes .n)
+  by-rows = block-rows absolute older newer (b .setting .width) (b .y) (b .x) (olderRow (b .y) (preferred k)) (olderColumn (b .x) (preferred k)) (b .setting .n)

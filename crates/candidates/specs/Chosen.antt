@@ -20,20 +20,20 @@ use Rattle.search.specs.Target.{Past}
 use Rattle.candidates.specs.declared.Chosen.{Chosen}
 
 abbrev pub beginsAt : SearchBlock → ℕ → ℕ
-beginsAt b k = olderRow (b .y) (preferred k) * b .sizes .width + olderColumn (b .x) (preferred k)
+beginsAt b k = olderRow (b .y) (preferred k) * b .setting .width + olderColumn (b .x) (preferred k)
 
 pub record Stands (b : SearchBlock) (k : ℕ) : Type 0 where
   pub row : Past (preferred k .dy) (b .y) 0
   pub column : Past (preferred k .dx) (b .x) 0
-  pub wide : b .sizes .width ≤ 1024
+  pub wide : b .setting .width ≤ 1024
 
 abbrev pub distortionOf : List ℕ → List ℕ → SearchBlock → ℕ → ℕ
-distortionOf older newer b k = distortion (pairOf older newer (b .sizes)) (b .y) (b .x) (preferred k)
+distortionOf older newer b k = distortion (pairOf older newer (b .setting)) (b .y) (b .x) (preferred k)
 
 -- its rows are added four at a time until the sum has reached the ceiling
 abbrev pub distortionUpTo : List ℕ → List ℕ → SearchBlock → ℕ → ℕ → ℕ
 distortionUpTo older newer b k ceiling =
-    let s = b .sizes in
+    let s = b .setting in
     rowsUpTo absolute ceiling older newer (s .width) (b .y * s .width + b .x) (beginsAt b k) (s .n) (s .n / 4)
 
 unfoldable pub improved : Chosen → ℕ → ℕ → Chosen

@@ -15,13 +15,13 @@ use Rattle.frame.specs.Candidates.{candidate}
 use Rattle.frame.specs.declared.SearchBlock.{SearchBlock}
 
 abbrev pub candidateAt : SearchBlock → ℕ → Bool
-candidateAt b k = candidate (b .sizes) (b .w) (b .y) (b .x) (preferred k)
+candidateAt b k = candidate (b .setting) (b .w) (b .y) (b .x) (preferred k)
 
 abbrev pub hasMargin : ℕ → ℕ → ℕ → Bool
 hasMargin at n side = leb 16 at && leb (at + n + 16) side
 
 abbrev pub isInterior : SearchBlock → Bool
-isInterior b = leb 16 (b .w) && (hasMargin (b .y) (b .sizes .n) (b .sizes .height) && hasMargin (b .x) (b .sizes .n) (b .sizes .width))
+isInterior b = leb 16 (b .w) && (hasMargin (b .y) (b .setting .n) (b .setting .height) && hasMargin (b .x) (b .setting .n) (b .setting .width))
 
 pub record Front (ks before after : List ℕ) (r : ℕ) : Type 0 where
   pub many : r ≡ length ks

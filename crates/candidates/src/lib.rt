@@ -28,7 +28,7 @@ fn candidate_at(order: &[i32; order::NUMBERS], b: SearchBlock, k: usize) -> bool
     ensures { λ r. ⌜ r ≡ candidateAt b k ⌝ }
 {
     let v = order::vector_at(order, k);
-    frame::is_candidate(b.sizes, b.w, b.y, b.x, v.dy, v.dx)
+    frame::is_candidate(b.setting, b.w, b.y, b.x, v.dy, v.dx)
 }
 
 // n pels from `at` on have 16 more on either side.
@@ -52,7 +52,7 @@ fn has_margin(at: usize, n: usize, side: usize) -> bool
 fn is_interior(b: SearchBlock) -> bool
     ensures { λ r. ⌜ r ≡ isInterior b ⌝ }
 {
-    let s = b.sizes;
+    let s = b.setting;
     if b.w < 16 {
         return false;
     }
@@ -118,7 +118,7 @@ pub fn begins_at(order: &[i32; order::NUMBERS], b: SearchBlock, k: usize) -> usi
     requires { ⌜ Stands b k × (now order ≡ flat preference) × (k < vectorCount) ⌝ }
     ensures { λ r. ⌜ r ≡ beginsAt b k ⌝ }
 {
-    let s = b.sizes;
+    let s = b.setting;
     let v = order::vector_at(order, k);
     let r = search::past(v.dy, b.y, 0);
     let c = search::past(v.dx, b.x, 0);
@@ -139,7 +139,7 @@ pub fn distortion_of(
     ensures { λ d. ⌜ UpTo ceiling (distortionOf (now (older .entry)) (now (newer .entry)) b k) d × (d < 4294967295)
         × (d ≡ distortionUpTo (now (older .entry)) (now (newer .entry)) b k ceiling) ⌝ }
 {
-    let s = b.sizes;
+    let s = b.setting;
     let width = s.width;
     let here = b.y * width + b.x;
     let there = begins_at(order, b, k);

@@ -50,9 +50,9 @@ module _ (t : Target) where
       go false = finished-own-distortion (allPasses w t (w / 2) (atOrigin t)) (passes-own-distortion w (w / 2) (atOrigin t) (at-origin-own-distortion t c))
 
 -- a block that stands wholly inside the newer frame
-module _ (p : Pair) (limit w y x : ℕ) (down : y + p .sizes .n ≤ p .sizes .height) (across : x + p .sizes .n ≤ p .sizes .width) where
+module _ (p : Pair) (limit w y x : ℕ) (down : y + p .setting .n ≤ p .setting .height) (across : x + p .setting .n ≤ p .setting .width) where
   pub cross-own-distortion-at : OwnDistortion (target p w y x) (cross (target p w y x) limit w)
-  cross-own-distortion-at = cross-own-distortion (target p w y x) limit w (still-candidate (p .sizes) w y x down across)
+  cross-own-distortion-at = cross-own-distortion (target p w y x) limit w (still-candidate (p .setting) w y x down across)
 
   -- cross is never lower than the exhaustive best of a window that is no smaller
   pub cross-never-lower : (wide : ℕ) (v : Vector) → w ≤ wide → Best p wide y x v → distortion p y x v ≤ cross (target p w y x) limit w .least

@@ -8,7 +8,8 @@ use native.Mathlib.Omega.{arith}
 use lib.Dec.{T}
 use Rattle.base.specs.Sum.{sumTo, sumTo-none, sumTo-ext, sumTo-four, sumTo-cut, sumTo-group, sumOver-ext}
 use Rattle.refusals.specs.Refusals.{blockSizeOk, block-size-elim}
-use Rattle.distortion.specs.Blocks.{Measure, rowFrom, rowsApart, rowsFrom, rowsUpTo, sumUpTo-is, Rows, BlockRows, UpTo}
+use Rattle.measures.specs.Measures.{Measure}
+use Rattle.distortion.specs.Blocks.{rowFrom, rowsApart, rowsFrom, rowsUpTo, sumUpTo-is, Rows, BlockRows, UpTo}
 
 module _ (μ : Measure) (older newer : List ℕ) (across width a b n : ℕ) where
   pub rows-four :
@@ -48,7 +49,7 @@ rows-up-to μ ceiling older newer width a b n groups d e = rw (e, mul-comm 4 gro
         ∙ sumOver-ext groups 4 _ _ (λ g i hg hi. ap₂ (λ (p q : ℕ). rowFrom μ older newer p q n) (place a g i) (place b g i))
 
 -- N rows are N / 4 groups of four
-pub by-four : (older newer : List ℕ) (width n a b m groups : ℕ) → BlockRows older newer width n a b → n ≡ m → m ≡ 4 * groups → groups ≤ 256
+pub by-four : (older newer : List ℕ) (width n a b m groups : ℕ) → BlockRows older newer width n a b → n ≡ m → m ≡ 4 * groups → groups ≤ 16
     → Rows older newer width a b m groups
 by-four older newer width n a b m groups k e four few =
     let rows : n * width ≡ 4 * groups * width = rw (e, four) in

@@ -1,9 +1,10 @@
 -- 01, "Pictures, blocks, vectors": "Distortion is the sum of absolute pel differences [...]; at most 255 × N²." It is the mean absolute error of
--- Ghanbari's paper, its formula (2), without the division by N². For every N and over a measure of the differences; `absolute` is the one in use.
+-- Ghanbari's paper, its formula (2), without the division by N². 02, request 1: "the sum of squared differences beside the absolute sum", at most
+-- "65,025 × N²". Both are one definition, for every N and over every measure of the differences.
 --   Block         a block: the pel at a row and a column, counted from the block's corner
 --   blockAt       the block of a frame that stands at a row and a column
---   Measure       how two pels differ, and how far a distance at m may go for a bound E (search 2)
 --   distortionBy  the distortion of two N × N blocks by a measure
+--   measureIn     the measure of a pair
 --   distortion    of a pair: the newer block at (y, x) against the older block at (y + dy, x + dx)
 --   rowFrom       a row's share of it, rowsFrom: of several rows, rowsApart: of rows that begin otherwise far apart in the two frames
 --   rowsUpTo      a distortion as far as a ceiling goes: sumUpTo of its rows, four at a time
@@ -20,12 +21,12 @@ use borrow.Author.Tests.{leb-true, leb-false, le-leb, lt-leb}
 use lib.ListN.{length, getD}
 use Rattle.base.specs.Sum.{sumTo, sumTo-none, sumTo-more, sumOver, sumOver-ext, sumOver-bound}
 use Rattle.base.specs.Index.{row-fits}
-use Rattle.signed.specs.Values.{absDiff}
+use Rattle.measures.specs.Measures.{Measure, measureOf, most-small, pel-most}
 use Rattle.order.specs.declared.Vector.{Vector}
-use Rattle.frame.specs.declared.Sizes.{Sizes}
+use Rattle.frame.specs.declared.Setting.{Setting}
 use Rattle.frame.specs.Pictures.{Pair, pel}
 use Rattle.frame.specs.Candidates.{olderRow, olderColumn}
-use Rattle.refusals.specs.Refusals.{blockSizeOk, Placed}
+use Rattle.refusals.specs.Refusals.{blockSizeOk, block-size-elim, Placed}
 
 abbrev pub Block : Type 0
 Block = ℕ → ℕ → ℕ
@@ -33,24 +34,20 @@ Block = ℕ → ℕ → ℕ
 abbrev pub blockAt : List ℕ → ℕ → ℕ → ℕ → Block
 blockAt frame width y x i j = pel frame width (y + i) (x + j)
 
-pub record Measure : Type 0 where
-  pub diff : ℕ → ℕ → ℕ
-  pub limit : ℕ → ℕ → ℕ
-
-abbrev pub absolute : Measure
-absolute = record { diff = absDiff; limit = λ m e. e }
-
 unfoldable pub distortionBy : Measure → ℕ → Block → Block → ℕ
 distortionBy μ n a b = sumOver n n (λ i j. μ .diff (a i j) (b i j))
 
 abbrev pub newerBlock : Pair → ℕ → ℕ → Block
-newerBlock p y x = blockAt (p .newer) (p .sizes .width) y x
+newerBlock p y x = blockAt (p .newer) (p .setting .width) y x
 
 abbrev pub olderBlock : Pair → ℕ → ℕ → Vector → Block
-olderBlock p y x v = blockAt (p .older) (p .sizes .width) (olderRow y v) (olderColumn x v)
+olderBlock p y x v = blockAt (p .older) (p .setting .width) (olderRow y v) (olderColumn x v)
+
+abbrev pub measureIn : Pair → Measure
+measureIn p = measureOf (p .setting .measure)
 
 unfoldable pub distortion : Pair → ℕ → ℕ → Vector → ℕ
-distortion p y x v = distortionBy absolute (p .sizes .n) (newerBlock p y x) (olderBlock p y x v)
+distortion p y x v = distortionBy (measureIn p) (p .setting .n) (newerBlock p y x) (olderBlock p y x v)
 
 -- n pels of the newer frame from place a on, against n pels of the older frame from place b on
 unfoldable pub rowFrom : Measure → List ℕ → List ℕ → ℕ → ℕ → ℕ → ℕ
@@ -100,8 +97,8 @@ pub record Rows (older newer : List ℕ) (width a b n groups : ℕ) : Type 0 whe
   pub in-newer : a + 4 * groups * width + n ≤ length newer + width
   pub in-older : b + 4 * groups * width + n ≤ length older + width
   pub wide : width ≤ 1024
-  pub thin : n ≤ 1024
-  pub few : groups ≤ 256
+  pub thin : n ≤ 64
+  pub few : groups ≤ 16
 
 -- N rows of N pels, from places a and b on, lie inside two frames of so many columns
 pub record BlockRows (older newer : List ℕ) (width n a b : ℕ) : Type 0 where
@@ -138,19 +135,20 @@ module _ (ceiling : ℕ) (f : ℕ → ℕ) where
       one s true e u = let h = leb-true ceiling s e in record { below = λ l. absurd (omega arith); beyond = λ l. omega (arith, u .beyond h) }
       one s false e u = let q = u .below (leb-false ceiling s e) in record { below = λ l. omega arith; beyond = λ l. omega arith }
 
--- two blocks that stand wholly inside frames of allowed sizes: the newer one at (y, x), the older one at (r, c)
-pub record Comparable (older newer : List ℕ) (s : Sizes) (y x r c : ℕ) : Type 0 where
+-- two blocks that stand wholly inside frames of an allowed setting: the newer one at (y, x), the older one at (r, c)
+pub record Comparable (older newer : List ℕ) (s : Setting) (y x r c : ℕ) : Type 0 where
   pub placed : Placed (length older) (length newer) s y x
   pub down : r + s .n ≤ s .height
   pub across : c + s .n ≤ s .width
 
--- pels up to c: a distortion of at most c N²
-pub distortion-bound : (c n : ℕ) (a b : Block) → ((i j : ℕ) → i < n → j < n → (a i j ≤ c) × (b i j ≤ c)) → distortionBy absolute n a b ≤ n * (n * c)
+-- of pels, a distortion by a measure is at most the most that two of them differ, × N²
+pub distortion-most : (measure n : ℕ) (a b : Block) → ((i j : ℕ) → i < n → j < n → (a i j ≤ 255) × (b i j ≤ 255))
+    → distortionBy (measureOf measure) n a b ≤ n * (n * measureOf measure .most)
 unfolding distortionBy
-distortion-bound c n a b h = sumOver-bound c n n _ (λ i j hi hj. let p = h i j hi hj in omega arith)
+distortion-most measure n a b h = sumOver-bound _ n n _ (λ i j hi hj. let p = h i j hi hj in pel-most measure _ _ (p .0) (p .1))
 
 -- where such blocks begin, and that their rows lie inside
-pub begins : (older newer : List ℕ) (s : Sizes) (y x r c : ℕ) → Comparable older newer s y x r c
+pub begins : (older newer : List ℕ) (s : Setting) (y x r c : ℕ) → Comparable older newer s y x r c
     → (y * s .width + x ≤ length newer) × (r * s .width + c ≤ length older)
 begins older newer s y x r c k =
     let p = k .placed in
@@ -159,7 +157,7 @@ begins older newer s y x r c k =
       omega (arith, row-fits r (s .height) (s .width) (omega (arith, f .some, k .down)), k .across, p .paired .older-whole),
     )
 
-pub block-inside : (older newer : List ℕ) (s : Sizes) (y x r c : ℕ) → Comparable older newer s y x r c
+pub block-inside : (older newer : List ℕ) (s : Setting) (y x r c : ℕ) → Comparable older newer s y x r c
     → BlockRows older newer (s .width) (s .n) (y * s .width + x) (r * s .width + c)
 block-inside older newer s y x r c k = record {
   in-newer = omega (arith, mul-le-mul-right (s .width) (k .placed .down), add-mul y (s .n) (s .width), k .placed .across, k .placed .paired .newer-whole);
@@ -168,12 +166,9 @@ block-inside older newer s y x r c k = record {
   allowed = k .placed .paired .allowed;
 }
 
--- no distortion reaches the top of its type
-pub distortion-small : (older newer : List ℕ) (s : Sizes) (y x r c : ℕ) → Comparable older newer s y x r c → s .n * (s .n * 255) < 4294967295
-distortion-small older newer s y x r c k =
-    let f = k .placed .paired .fitting in
-    let n = s .n in
-    let side : n ≤ 1024 = omega (arith, f .across, f .wide) in
-    let line : n * 255 ≤ 261120 = omega arith in
-    let most : n * (n * 255) ≤ 1024 * 261120 = mul-le-mul side line in
-    omega arith
+-- no distortion by either measure reaches the top of its type
+pub distortion-small : (measure n : ℕ) → T (blockSizeOk n) → n * (n * measureOf measure .most) < 4294967295
+distortion-small measure n t =
+    let m = measureOf measure .most in
+    block-size-elim (λ (k : ℕ). k * (k * m) < 4294967295) (omega (arith, most-small measure)) (omega (arith, most-small measure))
+    (omega (arith, most-small measure)) n t

@@ -1,20 +1,21 @@
-// Distortion: the sum of absolute pel differences of two blocks.
+// Distortion: the sum of the pel differences of two blocks, by a measure.
 
 ghost use mathlib.Core.Path.{_≡_};
 ghost use Prim.Native.Nat.{_+_, _*_, _≤_, _/_};
 ghost use lib.ListN.{length};
-ghost use Rattle.distortion.specs.Blocks.{absolute, blockAt, distortionBy, rowFrom, rowsApart, rowsFrom, rowsUpTo, UpTo, Rows, BlockRows, Comparable};
-use frame::Sizes;
+ghost use Rattle.measures.specs.Measures.{measureOf};
+ghost use Rattle.distortion.specs.Blocks.{blockAt, distortionBy, rowFrom, rowsApart, rowsFrom, rowsUpTo, UpTo, Rows, BlockRows, Comparable};
+use frame::Setting;
 
 // n pels of the newer frame from place a on, against n pels of the older frame from place b on.
-fn row(older: &[u8], newer: &[u8], a: usize, b: usize, n: usize) -> u32
-    requires { ⌜ (a + n ≤ length (now newer)) × (b + n ≤ length (now older)) × (n ≤ 1024) ⌝ }
-    ensures { λ d. ⌜ (d ≡ rowFrom absolute (now (older .entry)) (now (newer .entry)) a b n) × (d ≤ 255 * n) ⌝ }
+fn row(older: &[u8], newer: &[u8], measure: u32, a: usize, b: usize, n: usize) -> u32
+    requires { ⌜ (a + n ≤ length (now newer)) × (b + n ≤ length (now older)) × (n ≤ 64) ⌝ }
+    ensures { λ d. ⌜ (d ≡ rowFrom (measureOf measure) (now (older .entry)) (now (newer .entry)) a b n) × (d ≤ n * measureOf measure .most) ⌝ }
 {
     let mut sum: u32 = 0;
     let mut j = 0;
     while j < n {
-        sum += signed::abs_diff(newer[a + j], older[b + j]);
+        sum += measures::pel_difference(measure, newer[a + j], older[b + j]);
         j += 1;
     }
     sum
@@ -24,25 +25,27 @@ fn row(older: &[u8], newer: &[u8], a: usize, b: usize, n: usize) -> u32
 pub fn four_rows(
     older: &[u8],
     newer: &[u8],
+    measure: u32,
     across: usize,
     width: usize,
     a: usize,
     b: usize,
     n: usize,
 ) -> u32
-    requires { ⌜ (a + 3 * across + n ≤ length (now newer)) × (b + 3 * width + n ≤ length (now older)) × (n ≤ 1024) × (across ≤ 1024) × (width ≤ 1024) ⌝ }
-    ensures { λ d. ⌜ (d ≡ rowsApart absolute (now (older .entry)) (now (newer .entry)) across width a b n 4) × (d ≤ 1020 * n) ⌝ }
+    requires { ⌜ (a + 3 * across + n ≤ length (now newer)) × (b + 3 * width + n ≤ length (now older)) × (n ≤ 64) × (across ≤ 1024) × (width ≤ 1024) ⌝ }
+    ensures { λ d. ⌜ (d ≡ rowsApart (measureOf measure) (now (older .entry)) (now (newer .entry)) across width a b n 4) × (d ≤ 4 * (n * measureOf measure .most)) ⌝ }
 {
-    row(older, newer, a, b, n)
-        + row(older, newer, a + across, b + width, n)
-        + row(older, newer, a + 2 * across, b + 2 * width, n)
-        + row(older, newer, a + 3 * across, b + 3 * width, n)
+    row(older, newer, measure, a, b, n)
+        + row(older, newer, measure, a + across, b + width, n)
+        + row(older, newer, measure, a + 2 * across, b + 2 * width, n)
+        + row(older, newer, measure, a + 3 * across, b + 3 * width, n)
 }
 
 // 4 × groups rows, four at a time, as far as the ceiling goes.
 fn rows_by_four(
     older: &[u8],
     newer: &[u8],
+    measure: u32,
     width: usize,
     a: usize,
     b: usize,
@@ -51,7 +54,8 @@ fn rows_by_four(
     ceiling: u32,
 ) -> u32
     requires { ⌜ Rows (now older) (now newer) width a b n groups ⌝ }
-    ensures { λ d. ⌜ (d ≡ rowsUpTo absolute ceiling (now (older .entry)) (now (newer .entry)) width a b n groups) × (d ≤ groups * (1020 * n)) ⌝ }
+    ensures { λ d. ⌜ (d ≡ rowsUpTo (measureOf measure) ceiling (now (older .entry)) (now (newer .entry)) width a b n groups)
+        × (d ≤ groups * (4 * (n * measureOf measure .most))) ⌝ }
 {
     let mut sum: u32 = 0;
     let mut p = a;
@@ -61,7 +65,7 @@ fn rows_by_four(
         if ceiling <= sum {
             return sum;
         }
-        sum += four_rows(older, newer, width, width, p, q, n);
+        sum += four_rows(older, newer, measure, width, width, p, q, n);
         p += 4 * width;
         q += 4 * width;
         g += 1;
@@ -69,11 +73,11 @@ fn rows_by_four(
     sum
 }
 
-// The distortion of the newer block that begins at place a against the older block that begins at place b, as far as the ceiling goes: its
-// rows are added four at a time until the sum has reached the ceiling.
-pub fn distortion_from(
+// The same for each N: the compiler makes code of its own for each.
+fn rows_by_size(
     older: &[u8],
     newer: &[u8],
+    measure: u32,
     width: usize,
     n: usize,
     a: usize,
@@ -81,34 +85,58 @@ pub fn distortion_from(
     ceiling: u32,
 ) -> u32
     requires { ⌜ BlockRows (now older) (now newer) width n a b ⌝ }
-    ensures { λ d. ⌜ UpTo ceiling (rowsFrom absolute (now (older .entry)) (now (newer .entry)) width a b n n) d × (d ≤ n * (n * 255))
-        × (d ≡ rowsUpTo absolute ceiling (now (older .entry)) (now (newer .entry)) width a b n (n / 4)) ⌝ }
+    ensures { λ d. ⌜ UpTo ceiling (rowsFrom (measureOf measure) (now (older .entry)) (now (newer .entry)) width a b n n) d
+        × (d ≤ n * (n * measureOf measure .most))
+        × (d ≡ rowsUpTo (measureOf measure) ceiling (now (older .entry)) (now (newer .entry)) width a b n (n / 4)) ⌝ }
 {
     if n == 16 {
-        return rows_by_four(older, newer, width, a, b, 16, 4, ceiling);
+        return rows_by_four(older, newer, measure, width, a, b, 16, 4, ceiling);
     }
     if n == 8 {
-        return rows_by_four(older, newer, width, a, b, 8, 2, ceiling);
+        return rows_by_four(older, newer, measure, width, a, b, 8, 2, ceiling);
     }
-    rows_by_four(older, newer, width, a, b, 4, 1, ceiling)
+    rows_by_four(older, newer, measure, width, a, b, 4, 1, ceiling)
+}
+
+// The distortion of the newer block that begins at place a against the older block that begins at place b, as far as the ceiling goes: its
+// rows are added four at a time until the sum has reached the ceiling. For each measure the compiler makes code of its own.
+pub fn distortion_from(
+    older: &[u8],
+    newer: &[u8],
+    measure: u32,
+    width: usize,
+    n: usize,
+    a: usize,
+    b: usize,
+    ceiling: u32,
+) -> u32
+    requires { ⌜ BlockRows (now older) (now newer) width n a b ⌝ }
+    ensures { λ d. ⌜ UpTo ceiling (rowsFrom (measureOf measure) (now (older .entry)) (now (newer .entry)) width a b n n) d
+        × (d ≤ n * (n * measureOf measure .most))
+        × (d ≡ rowsUpTo (measureOf measure) ceiling (now (older .entry)) (now (newer .entry)) width a b n (n / 4)) ⌝ }
+{
+    if measure == measures::ABSOLUTE {
+        return rows_by_size(older, newer, measures::ABSOLUTE, width, n, a, b, ceiling);
+    }
+    rows_by_size(older, newer, measures::SQUARES, width, n, a, b, ceiling)
 }
 
 // The distortion of the newer block at row y, column x against the older block at row r, column c.
 pub fn block_distortion(
     older: &[u8],
     newer: &[u8],
-    s: Sizes,
+    s: Setting,
     y: usize,
     x: usize,
     r: usize,
     c: usize,
 ) -> u32
     requires { ⌜ Comparable (now older) (now newer) s y x r c ⌝ }
-    ensures { λ d. ⌜ (d ≡ distortionBy absolute (s .n) (blockAt (now (newer .entry)) (s .width) y x) (blockAt (now (older .entry)) (s .width) r c))
-        × (d ≤ s .n * (s .n * 255)) ⌝ }
+    ensures { λ d. ⌜ (d ≡ distortionBy (measureOf (s .measure)) (s .n) (blockAt (now (newer .entry)) (s .width) y x) (blockAt (now (older .entry)) (s .width) r c))
+        × (d ≤ s .n * (s .n * measureOf (s .measure) .most)) ⌝ }
 {
     let width = s.width;
     let a = y * width + x;
     let b = r * width + c;
-    distortion_from(older, newer, width, s.n, a, b, 4294967295)
+    distortion_from(older, newer, s.measure, width, s.n, a, b, 4294967295)
 }

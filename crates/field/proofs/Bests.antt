@@ -28,14 +28,14 @@ use Rattle.field_block.specs.Blocks.{searchAt, vectorOf}
 use Rattle.field.specs.Field.{entriesOf}
 
 pub record Exact (p : Pair) (q : Request) : Type 0 where
-  pub at : (y x : ℕ) → y + p .sizes .n ≤ p .sizes .height → x + p .sizes .n ≤ p .sizes .width
+  pub at : (y x : ℕ) → y + p .setting .n ≤ p .setting .height → x + p .setting .n ≤ p .setting .width
       → (vectorIn (searchBy p q y x) ≡ best p (q .w) y x) × (searchBy p q y x .distortion ≡ distortion p y x (best p (q .w) y x))
 
-module _ (p : Pair) (w y x : ℕ) (allowed : T (blockSizeOk (p .sizes .n))) (small : w ≤ 16)
-    (down : y + p .sizes .n ≤ p .sizes .height) (across : x + p .sizes .n ≤ p .sizes .width)
+module _ (p : Pair) (w y x : ℕ) (allowed : T (blockSizeOk (p .setting .n))) (small : w ≤ 16)
+    (down : y + p .setting .n ≤ p .setting .height) (across : x + p .setting .n ≤ p .setting .width)
   where
     pruned-vector : vectorIn (prunedSearch p w y x) ≡ best p w y x
-    pruned-vector = pruned-is-best p w y x (block-size-power (p .sizes .n) allowed) small down across
+    pruned-vector = pruned-is-best p w y x (block-size-power (p .setting .n) allowed) small down across
 
     pub pruned-exact-at : (vectorIn (prunedSearch p w y x) ≡ best p w y x) × (prunedSearch p w y x .distortion ≡ distortion p y x (best p w y x))
     pruned-exact-at = (pruned-vector, pruned-distortion p w y x ∙ ap (distortion p y x) pruned-vector)
@@ -44,26 +44,26 @@ pub full-exact : (p : Pair) (q : Request) → q .search ≡ 1 → Exact p q
 unfolding fullSearch
 full-exact p q e = record { at = λ y x down across. rw (searched-full p q y x e) (refl, refl) }
 
-pub pruned-exact : (p : Pair) (q : Request) → T (blockSizeOk (p .sizes .n)) → q .w ≤ 16 → q .search ≡ 2 → Exact p q
+pub pruned-exact : (p : Pair) (q : Request) → T (blockSizeOk (p .setting .n)) → q .w ≤ 16 → q .search ≡ 2 → Exact p q
 pruned-exact p q allowed small e =
     record { at = λ y x down across. rw (searched-pruned p q y x e) (pruned-exact-at p (q .w) y x allowed small down across) }
 
-module _ (p : Pair) (q : Request) (fits : Fitting (p .sizes)) (exact : Exact p q) where
+module _ (p : Pair) (q : Request) (fits : Fitting (p .setting)) (exact : Exact p q) where
   abbrev bestAt : ℕ → Vector
-  bestAt k = best p (q .w) (blockRow (p .sizes) k) (blockColumn (p .sizes) k)
+  bestAt k = best p (q .w) (blockRow (p .setting) k) (blockColumn (p .setting) k)
 
   abbrev leastAt : ℕ → ℕ
-  leastAt k = distortion p (blockRow (p .sizes) k) (blockColumn (p .sizes) k) (bestAt k)
+  leastAt k = distortion p (blockRow (p .setting) k) (blockColumn (p .setting) k) (bestAt k)
 
-  pub exact-at : (k : ℕ) → k < blocks (p .sizes) → (vectorOf p q k ≡ bestAt k) × (searchAt p q k .distortion ≡ leastAt k)
+  pub exact-at : (k : ℕ) → k < blocks (p .setting) → (vectorOf p q k ≡ bestAt k) × (searchAt p q k .distortion ≡ leastAt k)
   unfolding searchAt
-  exact-at k h = exact .at (blockRow (p .sizes) k) (blockColumn (p .sizes) k) (block-down (p .sizes) fits k h) (block-across (p .sizes) fits k h)
+  exact-at k h = exact .at (blockRow (p .setting) k) (blockColumn (p .setting) k) (block-down (p .setting) fits k h) (block-across (p .setting) fits k h)
 
-  pub exact-reading : majority (vectorOf p q) (blocks (p .sizes)) ≡ majority bestAt (blocks (p .sizes))
-  exact-reading = majority-ext _ _ (blocks (p .sizes)) (λ k h. exact-at k h .0)
+  pub exact-reading : majority (vectorOf p q) (blocks (p .setting)) ≡ majority bestAt (blocks (p .setting))
+  exact-reading = majority-ext _ _ (blocks (p .setting)) (λ k h. exact-at k h .0)
 
-  pub exact-entries : entriesOf (searchAt p q) (blocks (p .sizes)) ≡ concatTo (λ k. bestAt k .dy ∷ bestAt k .dx ∷ pos (leastAt k) ∷ []) (blocks (p .sizes))
+  pub exact-entries : entriesOf (searchAt p q) (blocks (p .setting)) ≡ concatTo (λ k. bestAt k .dy ∷ bestAt k .dx ∷ pos (leastAt k) ∷ []) (blocks (p .setting))
   unfolding entriesOf
   exact-entries =
-      concatTo-ext _ _ (blocks (p .sizes))
+      concatTo-ext _ _ (blocks (p .setting))
       (λ k h. ap₂ (λ (v : Vector) (d : ℕ). v .dy ∷ v .dx ∷ pos d ∷ []) (exact-at k h .0) (exact-at k h .1))

@@ -9,7 +9,7 @@ use lib.ListN.{length, getD, drop, List·getD-append}
 use lib.Seq.{getD-drop}
 use Rattle.base.specs.Index.{row-fits}
 use Rattle.base.specs.Lists.{concatTo, length-concatTo, getD-concatTo, getD-past}
-use Rattle.frame.specs.declared.Sizes.{Sizes}
+use Rattle.frame.specs.declared.Setting.{Setting}
 use Rattle.distortion.specs.Blocks.{blockAt}
 use Rattle.search.specs.declared.SearchResult.{SearchResult}
 use Rattle.pruned_sums.specs.Area.{area, summed, length-sums, sums-at}
@@ -35,7 +35,7 @@ module _ (found : ℕ → SearchResult) (n : ℕ) where
   pub entry-past : (list : List ℤ) (i : ℕ) → getD (entriesOf found n ++ drop (3 * n) list) (3 * n + i) (pos 0) ≡ getD list (3 * n + i) (pos 0)
   entry-past list i = getD-past (entriesOf found n) _ (3 * n) i (pos 0) length-entries ∙ getD-drop (3 * n) list i (pos 0)
 
-module _ (older : List ℕ) (s : Sizes) where
+module _ (older : List ℕ) (s : Setting) where
   -- the sum of older pels in rows before r and columns before c: place r × (width + 1) + c
   pub table-at : (rest : List ℕ) (r c : ℕ) → r ≤ s .height → c ≤ s .width
       → getD (tableOf older s ++ rest) (r * (s .width + 1) + c) 0 ≡ area (blockAt older (s .width) 0 0) r c

@@ -84,7 +84,7 @@ module _ (found : ℕ → SearchResult) (n : ℕ) (before after : List ℤ) (vot
 
 -- the answer, made of the sums and the reading
 pub answer-is : (p : Pair) (q : Request) (total : Total) (r : Reading)
-    → total ≡ totalOver (searchAt p q) (blocks (p .sizes)) → r ≡ readingOf (vectorOf p q) (blocks (p .sizes))
+    → total ≡ totalOver (searchAt p q) (blocks (p .setting)) → r ≡ readingOf (vectorOf p q) (blocks (p .setting))
     → record { refusal = 0; dy = r .dy; dx = r .dx; votes = r .votes; counts = total .counts; dropped = total .dropped } ≡ fieldAnswer p q
 unfolding totalOver readingOf fieldAnswer
 answer-is p q total r e f = rw (e, f)

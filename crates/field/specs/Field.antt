@@ -18,11 +18,11 @@ use lib.IntN.{ℤ, pos}
 use lib.ListN.{length, getD, drop}
 use Rattle.base.specs.Sum.{sumTo}
 use Rattle.base.specs.Lists.{concatTo, listTo}
-use Rattle.frame.specs.declared.Sizes.{Sizes}
+use Rattle.frame.specs.declared.Setting.{Setting}
 use Rattle.refusals.specs.declared.Request.{Request}
 use Rattle.frame.specs.Pictures.{Pair, pairOf, countNumber}
 use Rattle.frame.specs.Grid.{blocks}
-use Rattle.refusals.specs.Refusals.{sizesOf}
+use Rattle.refusals.specs.Refusals.{settingOf}
 use Rattle.distortion.specs.Blocks.{blockAt}
 use Rattle.search.specs.declared.SearchResult.{SearchResult}
 use Rattle.search.specs.SearchResult.{onlyAtOne}
@@ -40,7 +40,7 @@ entryOf f = f .dy ∷ f .dx ∷ pos (f .distortion) ∷ []
 unfoldable pub entriesOf : (ℕ → SearchResult) → ℕ → List ℤ
 entriesOf found n = concatTo (λ k. entryOf (found k)) n
 
-unfoldable pub tableOf : List ℕ → Sizes → List ℕ
+unfoldable pub tableOf : List ℕ → Setting → List ℕ
 tableOf older s = summed (blockAt older (s .width) 0 0) (s .height) (s .width)
 
 -- ---- the answer
@@ -57,7 +57,7 @@ droppedOver found n = sumTo (λ k. found k .dropped) n
 
 unfoldable pub fieldAnswer : Pair → Request → FieldAnswer
 fieldAnswer p q =
-    let n = blocks (p .sizes) in
+    let n = blocks (p .setting) in
     let reading = majority (vectorOf p q) n in
     record {
       refusal = 0;
@@ -83,14 +83,14 @@ fieldResult answer list table = record { answer = answer; list = list; table = t
 
 -- an accepted call
 abbrev pub filledList : Pair → Request → List ℤ → List ℤ
-filledList p q list = entriesOf (searchAt p q) (blocks (p .sizes)) ++ drop (listSize (p .sizes)) list
+filledList p q list = entriesOf (searchAt p q) (blocks (p .setting)) ++ drop (listSize (p .setting)) list
 
 abbrev pub filledTable : List ℕ → Request → List ℕ → List ℕ
-filledTable older q table = let s = sizesOf q in cond (eqb (q .search) 2) (tableOf older s ++ drop (tableSize s) table) table
+filledTable older q table = let s = settingOf q in cond (eqb (q .search) 2) (tableOf older s ++ drop (tableSize s) table) table
 
 abbrev pub acceptedField : List ℕ → List ℕ → Request → List ℤ → List ℕ → FieldResult
 acceptedField older newer q list table =
-    let p = pairOf older newer (sizesOf q) in
+    let p = pairOf older newer (settingOf q) in
     fieldResult (fieldAnswer p q) (filledList p q list) (filledTable older q table)
 
 unfoldable pub field : List ℕ → List ℕ → Request → List ℤ → List ℕ → FieldResult

@@ -8,7 +8,7 @@ use mathlib.Core.List.{List, _++_}
 use lib.IntN.{ℤ}
 use lib.ListN.{length, drop}
 use Rattle.refusals.specs.declared.Request.{Request}
-use Rattle.refusals.specs.Refusals.{sizesOf}
+use Rattle.refusals.specs.Refusals.{settingOf}
 use Rattle.search.specs.declared.SearchResult.{SearchResult}
 use Rattle.search.specs.SearchResult.{vectorIn}
 use Rattle.reading.specs.Tally.{Tally}
@@ -21,7 +21,7 @@ pub record Summable (older : ℕ) (q : Request) (table : ℕ) : Type 0 where
   pub wide : q .width ≤ 1024
   pub high : q .height ≤ 1024
   pub whole : older ≡ q .height * q .width
-  pub room : q .search ≡ 2 → tableSize (sizesOf q) ≤ table
+  pub room : q .search ≡ 2 → tableSize (settingOf q) ≤ table
 
 unfoldable pub totalOver : (ℕ → SearchResult) → ℕ → Total
 totalOver found n = asTotal (countsOver found n) (droppedOver found n)

@@ -7,7 +7,7 @@ ghost use Rattle.order.specs.Preference.{preference, flat};
 ghost use Rattle.order.specs.Vectors.{vectorCount};
 ghost use Rattle.frame.specs.Pictures.{pairOf};
 ghost use Rattle.frame.specs.Grid.{blocks};
-ghost use Rattle.refusals.specs.Refusals.{sizesOf};
+ghost use Rattle.refusals.specs.Refusals.{settingOf};
 ghost use Rattle.field_rules.specs.Rules.{listSize, HasRoom};
 ghost use Rattle.field_block.specs.Blocks.{searchAt, Prepared};
 ghost use Rattle.field.specs.Field.{refusedField, filledTable, fieldResult, acceptedField, field};
@@ -61,11 +61,11 @@ fn fill_list(
     votes: &mut [u32; order::VECTORS],
 ) -> Total
     requires { ⌜ Prepared (now older) (now newer) q (now table) × (now order ≡ flat preference) ⌝ }
-    requires { ⌜ (listSize (sizesOf q) ≤ length (now list)) × (now votes ≡ replicate vectorCount 0) ⌝ }
-    ensures { λ r. ⌜ BlocksFilled (searchAt (pairOf (now (older .entry)) (now (newer .entry)) (sizesOf q)) q) (blocks (sizesOf q)) (now (list .entry))
+    requires { ⌜ (listSize (settingOf q) ≤ length (now list)) × (now votes ≡ replicate vectorCount 0) ⌝ }
+    ensures { λ r. ⌜ BlocksFilled (searchAt (pairOf (now (older .entry)) (now (newer .entry)) (settingOf q)) q) (blocks (settingOf q)) (now (list .entry))
         (now (list .exit)) (now (votes .exit)) r ⌝ }
 {
-    let n = frame::block_count(refusals::sizes_of(q));
+    let n = frame::block_count(refusals::setting_of(q));
     let mut total = Total {
         counts: [0; frame::COUNTS],
         dropped: 0,

@@ -16,7 +16,7 @@ use Rattle.refusals.specs.declared.Request.{Request}
 use Rattle.frame.specs.Pictures.{Pair, pairOf, largestDistortion, lastCount}
 use Rattle.frame.specs.Candidates.{Candidate, candidate, candidate-yes}
 use Rattle.refusals.specs.Cross.{crossWindow, cross as cross-is}
-use Rattle.refusals.specs.Refusals.{sizesOf, blockSizeOk, block-size-elim, Requested, window-small, windowOk}
+use Rattle.refusals.specs.Refusals.{settingOf, blockSizeOk, block-size-elim, Requested, window-small, windowOk}
 use Rattle.distortion.specs.Blocks.{distortion, distortion-bound}
 use Rattle.search.specs.declared.SearchResult.{SearchResult}
 use Rattle.search.specs.SearchResult.{searchResult, onlyAtOne}
@@ -49,19 +49,19 @@ sound-at-one v d n near few h = record {
   dropped = omega arith;
 }
 
-places-few : (p : Pair) (w y x : ℕ) → length (places (p .sizes) w y x) ≤ vectorCount
+places-few : (p : Pair) (w y x : ℕ) → length (places (p .setting) w y x) ≤ vectorCount
 places-few p w y x = pick-few _ vectorCount
 
-module _ (p : Pair) (bytes : Bytes (p .older) × Bytes (p .newer)) (allowed : T (blockSizeOk (p .sizes .n))) where
+module _ (p : Pair) (bytes : Bytes (p .older) × Bytes (p .newer)) (allowed : T (blockSizeOk (p .setting .n))) where
   distortion-few : (y x : ℕ) (v : Vector) → distortion p y x v ≤ largestDistortion
   unfolding distortion
   distortion-few y x v =
       le-trans
-      (distortion-bound 255 (p .sizes .n) _ _ (λ i j hi hj. (bytes .1 _, bytes .0 _)))
-      (block-size-elim (λ (n : ℕ). n * (n * 255) ≤ largestDistortion) (omega arith) (omega arith) (omega arith) (p .sizes .n) allowed)
+      (distortion-bound 255 (p .setting .n) _ _ (λ i j hi hj. (bytes .1 _, bytes .0 _)))
+      (block-size-elim (λ (n : ℕ). n * (n * 255) ≤ largestDistortion) (omega arith) (omega arith) (omega arith) (p .setting .n) allowed)
 
-  module _ (w y x : ℕ) (small : w ≤ 16) (down : y + p .sizes .n ≤ p .sizes .height) (across : x + p .sizes .n ≤ p .sizes .width) where
-    near : (v : Vector) → Candidate (p .sizes) w y x v → Within 16 v
+  module _ (w y x : ℕ) (small : w ≤ 16) (down : y + p .setting .n ≤ p .setting .height) (across : x + p .setting .n ≤ p .setting .width) where
+    near : (v : Vector) → Candidate (p .setting) w y x v → Within 16 v
     near v c = within-more small (c .window)
 
     full-sound : Sound (fullSearch p w y x)
@@ -72,7 +72,7 @@ module _ (p : Pair) (bytes : Bytes (p .older) × Bytes (p .newer)) (allowed : T 
     pruned-sound =
         let few = places-few p w y x in
         record {
-          within = near _ (pruned-best p w y x (block-size-power (p .sizes .n) allowed) small down across .candidate);
+          within = near _ (pruned-best p w y x (block-size-power (p .setting .n) allowed) small down across .candidate);
           distortion = rw (pruned-distortion p w y x) (distortion-few y x _);
           count = λ i. le-trans (counts-at-most p w y x i) few;
           dropped = le-trans (dropped-at-most p w y x) few;
@@ -82,14 +82,14 @@ module _ (p : Pair) (bytes : Bytes (p .older) × Bytes (p .newer)) (allowed : T 
     probed-sound : (s : Seen) → OwnDistortion (target p w y x) s → s .count ≤ vectorCount → Sound (resultOf s)
     unfolding resultOf
     probed-sound s h few =
-        let inside = near _ (candidate-yes (p .sizes) w y x (s .best) (h .chosen)) in
+        let inside = near _ (candidate-yes (p .setting) w y x (s .best) (h .chosen)) in
         sound-at-one (s .best) (s .least) (s .count) inside (rw (h .reported) (distortion-few y x (s .best))) few
 
 -- whichever search a request asks for
 module _ (older newer : List ℕ) (q : Request) (bytes : Bytes older × Bytes newer) (request : Requested (length older) (length newer) q) (y x : ℕ)
     (down : y + q .n ≤ q .height) (across : x + q .n ≤ q .width) where
   abbrev p : Pair
-  p = pairOf older newer (sizesOf q)
+  p = pairOf older newer (settingOf q)
 
   small : q .w ≤ 16
   small = window-small (q .search) (q .w) (request .window)
@@ -124,9 +124,9 @@ module _ (older newer : List ℕ) (q : Request) (bytes : Bytes older × Bytes ne
 
 -- what a search answers at grid block k
 pub block-is : (older newer : List ℕ) (q : Request) (bytes : Bytes older × Bytes newer) (request : Requested (length older) (length newer) q)
-    (k : ℕ) → k < blocks (sizesOf q) → (r : SearchResult) → r ≡ searchBy (pairOf older newer (sizesOf q)) q (blockRow (sizesOf q) k) (blockColumn (sizesOf q) k)
-    → (r ≡ searchAt (pairOf older newer (sizesOf q)) q k) × Sound r
+    (k : ℕ) → k < blocks (settingOf q) → (r : SearchResult) → r ≡ searchBy (pairOf older newer (settingOf q)) q (blockRow (settingOf q) k) (blockColumn (settingOf q) k)
+    → (r ≡ searchAt (pairOf older newer (settingOf q)) q k) × Sound r
 unfolding searchAt
 block-is older newer q bytes request k h r e =
     let f = request .paired .fitting in
-    (e, rw e (searched-sound older newer q bytes request _ _ (block-down (sizesOf q) f k h) (block-across (sizesOf q) f k h)))
+    (e, rw e (searched-sound older newer q bytes request _ _ (block-down (settingOf q) f k h) (block-across (settingOf q) f k h)))

@@ -23,7 +23,7 @@ use Rattle.field_block.specs.declared.Total.{Total}
 
 module _ (p : Pair) (q : Request) where
   unfoldable pub searchAt : ℕ → SearchResult
-  searchAt k = searchBy p q (blockRow (p .sizes) k) (blockColumn (p .sizes) k)
+  searchAt k = searchBy p q (blockRow (p .setting) k) (blockColumn (p .setting) k)
 
   abbrev pub vectorOf : ℕ → Vector
   vectorOf k = vectorIn (searchAt k)

@@ -5,7 +5,7 @@ ghost use Prim.Native.Nat.{_<_};
 ghost use Rattle.order.specs.Preference.{preference, flat};
 ghost use Rattle.frame.specs.Pictures.{pairOf};
 ghost use Rattle.frame.specs.Grid.{blocks};
-ghost use Rattle.refusals.specs.Refusals.{sizesOf};
+ghost use Rattle.refusals.specs.Refusals.{settingOf};
 ghost use Rattle.pruned_region.specs.Reach.{wholeFrame};
 ghost use Rattle.field_block.specs.Blocks.{searchAt, Prepared, Sound, join, Bounded};
 use frame::Region;
@@ -21,7 +21,7 @@ pub struct Total {
 
 // The whole of the older frame, which the table is of.
 pub fn whole_frame(q: Request) -> Region
-    ensures { λ r. ⌜ r ≡ wholeFrame (sizesOf q) ⌝ }
+    ensures { λ r. ⌜ r ≡ wholeFrame (settingOf q) ⌝ }
 {
     Region {
         top: 0,
@@ -40,15 +40,15 @@ pub fn search_at(
     table: &[u32],
     k: usize,
 ) -> SearchResult
-    requires { ⌜ Prepared (now older) (now newer) q (now table) × (now order ≡ flat preference) × (k < blocks (sizesOf q)) ⌝ }
-    ensures { λ r. ⌜ (r ≡ searchAt (pairOf (now (older .entry)) (now (newer .entry)) (sizesOf q)) q k) × Sound r ⌝ }
+    requires { ⌜ Prepared (now older) (now newer) q (now table) × (now order ≡ flat preference) × (k < blocks (settingOf q)) ⌝ }
+    ensures { λ r. ⌜ (r ≡ searchAt (pairOf (now (older .entry)) (now (newer .entry)) (settingOf q)) q k) × Sound r ⌝ }
 {
-    let s = refusals::sizes_of(q);
+    let s = refusals::setting_of(q);
     let y = frame::block_row(s, k);
     let x = frame::block_column(s, k);
     if q.search == 2 {
         let b = SearchBlock {
-            sizes: s,
+            setting: s,
             w: q.w,
             y,
             x,

@@ -8,24 +8,24 @@ use Prim.Native.Nat.{ℕ, _+_, _*_, _≤_}
 use mathlib.Core.Path.{_≡_}
 use mathlib.Core.Bool.{Bool, not, _||_}
 use lib.Dec.{T, leb, eqb, leb→le}
-use Rattle.frame.specs.declared.Sizes.{Sizes}
+use Rattle.frame.specs.declared.Setting.{Setting}
 use Rattle.frame.specs.Grid.{blocks}
 use Rattle.refusals.specs.declared.Request.{Request}
-use Rattle.refusals.specs.Refusals.{unless, unless-zero, firstRefusal, first-refusal-zero, sizesOf, requestRefusal}
+use Rattle.refusals.specs.Refusals.{unless, unless-zero, firstRefusal, first-refusal-zero, settingOf, requestRefusal}
 
-abbrev pub tableSize : Sizes → ℕ
+abbrev pub tableSize : Setting → ℕ
 tableSize s = (s .height + 1) * (s .width + 1)
 
-abbrev pub listSize : Sizes → ℕ
+abbrev pub listSize : Setting → ℕ
 listSize s = 3 * blocks s
 
 -- 9 search 2: table shorter than (width + 1) × (height + 1)
 abbrev pub tableOk : Request → ℕ → Bool
-tableOk q table = not (eqb (q .search) 2) || leb (tableSize (sizesOf q)) table
+tableOk q table = not (eqb (q .search) 2) || leb (tableSize (settingOf q)) table
 
 -- 10 list shorter than three a block
 abbrev pub listOk : Request → ℕ → Bool
-listOk q list = leb (listSize (sizesOf q)) list
+listOk q list = leb (listSize (settingOf q)) list
 
 -- frames, list and table come in by their lengths
 unfoldable pub fieldRefusal : ℕ → ℕ → Request → ℕ → ℕ → ℕ
@@ -36,10 +36,10 @@ fieldRefusal older newer q list table =
 
 pub record HasRoom (older newer : ℕ) (q : Request) (list table : ℕ) : Type 0 where
   pub fine : requestRefusal older newer q ≡ 0
-  pub table-room : q .search ≡ 2 → tableSize (sizesOf q) ≤ table
-  pub list-room : listSize (sizesOf q) ≤ list
+  pub table-room : q .search ≡ 2 → tableSize (settingOf q) ≤ table
+  pub list-room : listSize (settingOf q) ≤ list
 
-table-long : (q : Request) (table : ℕ) → T (tableOk q table) → q .search ≡ 2 → tableSize (sizesOf q) ≤ table
+table-long : (q : Request) (table : ℕ) → T (tableOk q table) → q .search ≡ 2 → tableSize (settingOf q) ≤ table
 table-long q table t e = leb→le _ _ (rw e at t)
 
 pub has-room : (older newer : ℕ) (q : Request) (list table : ℕ) → fieldRefusal older newer q list table ≡ 0 → HasRoom older newer q list table

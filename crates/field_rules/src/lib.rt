@@ -17,7 +17,7 @@ pub fn field_refusal(older: usize, newer: usize, q: Request, list: usize, table:
             return 9;
         }
     }
-    if list < 3 * frame::block_count(refusals::sizes_of(q)) {
+    if list < 3 * frame::block_count(refusals::setting_of(q)) {
         return 10;
     }
     0

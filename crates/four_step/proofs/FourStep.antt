@@ -58,9 +58,9 @@ module _ (t : Target) where
   four-step-own-distortion c = from2-own-distortion origin (step1 t) (moved-own-distortion (origin ∷ []) (atOrigin t) (at-origin-own-distortion t c))
 
 -- a block that stands wholly inside the newer frame
-module _ (p : Pair) (y x : ℕ) (down : y + p .sizes .n ≤ p .sizes .height) (across : x + p .sizes .n ≤ p .sizes .width) where
+module _ (p : Pair) (y x : ℕ) (down : y + p .setting .n ≤ p .setting .height) (across : x + p .setting .n ≤ p .setting .width) where
   pub four-step-own-distortion-at : OwnDistortion (target p 7 y x) (fourStep (target p 7 y x))
-  four-step-own-distortion-at = four-step-own-distortion (target p 7 y x) (still-candidate (p .sizes) 7 y x down across)
+  four-step-own-distortion-at = four-step-own-distortion (target p 7 y x) (still-candidate (p .setting) 7 y x down across)
 
   -- four-step is never lower than the exhaustive best of a window that is no smaller
   pub four-step-never-lower : (w : ℕ) (v : Vector) → 7 ≤ w → Best p w y x v → distortion p y x v ≤ fourStep (target p 7 y x) .least

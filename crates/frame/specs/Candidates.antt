@@ -18,7 +18,7 @@ use Rattle.base.specs.Tests.{and-left, and-right, and-both, iff-test}
 use Rattle.signed.specs.Int.{up, dn, added}
 use Rattle.order.specs.declared.Vector.{Vector}
 use Rattle.order.specs.Vectors.{vec, Within, inWindow, within-yes, within-true}
-use Rattle.frame.specs.declared.Sizes.{Sizes}
+use Rattle.frame.specs.declared.Setting.{Setting}
 use Rattle.frame.specs.declared.Older.{Older}
 use Rattle.frame.specs.declared.Older.the-variants.{At as Older·At, Outside as Older·Outside}
 use Rattle.signed.specs.declared.Shifted.{Shifted}
@@ -36,7 +36,7 @@ pub record Inside (z : ℤ) (n side : ℕ) : Type 0 where
   pub from : pos 0 ≤ℤ z
   pub to : (z +ℤ pos n) ≤ℤ pos side
 
-pub record Candidate (s : Sizes) (w y x : ℕ) (v : Vector) : Type 0 where
+pub record Candidate (s : Setting) (w y x : ℕ) (v : Vector) : Type 0 where
   pub window : Within w v
   pub down : Inside (pos y +ℤ v .dy) (s .n) (s .height)
   pub across : Inside (pos x +ℤ v .dx) (s .n) (s .width)
@@ -46,13 +46,13 @@ inside (pos a) n side = leb (a + n) side
 inside (negsuc a) n side = false
 
 -- the block at row r, column c lies wholly inside the frame
-abbrev pub blockInside : Sizes → ℤ → ℤ → Bool
+abbrev pub blockInside : Setting → ℤ → ℤ → Bool
 blockInside s r c = inside r (s .n) (s .height) && inside c (s .n) (s .width)
 
-unfoldable pub candidate : Sizes → ℕ → ℕ → ℕ → Vector → Bool
+unfoldable pub candidate : Setting → ℕ → ℕ → ℕ → Vector → Bool
 candidate s w y x v = inWindow w v && blockInside s (pos y +ℤ v .dy) (pos x +ℤ v .dx)
 
-unfoldable pub olderAt : Sizes → ℕ → ℕ → ℕ → Vector → Older
+unfoldable pub olderAt : Setting → ℕ → ℕ → ℕ → Vector → Older
 olderAt s w y x v = cond (candidate s w y x v) (Older·At (olderRow y v) (olderColumn x v)) Older·Outside
 
 -- ---- the relation and the test say the same
@@ -75,14 +75,14 @@ inside-at (pos b) n side a e h = le→leb (b + n) side (omega arith)
 inside-at (negsuc b) n side a e h = absurd (omega arith)
 
 -- what a candidate's older block is, in plain numbers
-pub record OlderInside (s : Sizes) (w y x : ℕ) (v : Vector) : Type 0 where
+pub record OlderInside (s : Setting) (w y x : ℕ) (v : Vector) : Type 0 where
   pub window : Within w v
   pub down : olderRow y v + s .n ≤ s .height
   pub across : olderColumn x v + s .n ≤ s .width
   pub row : olderRow y v + dn (v .dy) ≡ y + up (v .dy)
   pub column : olderColumn x v + dn (v .dx) ≡ x + up (v .dx)
 
-module _ (s : Sizes) (w y x : ℕ) (v : Vector) where
+module _ (s : Setting) (w y x : ℕ) (v : Vector) where
   abbrev rowInside : Bool
   rowInside = inside (pos y +ℤ v .dy) (s .n) (s .height)
 
@@ -140,7 +140,7 @@ module _ (s : Sizes) (w y x : ℕ) (v : Vector) where
       (and-right (inWindow w v) (rowInside && columnInside) t)
 
 -- "(0,0) always is one", of a block that is wholly inside
-pub still-candidate : (s : Sizes) (w y x : ℕ) → y + s .n ≤ s .height → x + s .n ≤ s .width → T (candidate s w y x (vec (pos 0) (pos 0)))
+pub still-candidate : (s : Setting) (w y x : ℕ) → y + s .n ≤ s .height → x + s .n ≤ s .width → T (candidate s w y x (vec (pos 0) (pos 0)))
 still-candidate s w y x hy hx =
     candidate-at s w y x (vec (pos 0) (pos 0)) y x (record { down = omega arith; across = omega arith }) (omega arith) hy (omega arith) hx
 
@@ -156,7 +156,7 @@ joined (At r) Outside = Older·Outside
 joined Outside c = Older·Outside
 
 -- a candidate is one by its row and by its column
-pub older-parts : (s : Sizes) (w y x : ℕ) (v : Vector) → olderAt s w y x v
+pub older-parts : (s : Setting) (w y x : ℕ) (v : Vector) → olderAt s w y x v
     ≡ joined (partAt y (v .dy) w (s .n) (s .height)) (partAt x (v .dx) w (s .n) (s .width))
 unfolding olderAt candidate partAt
 older-parts s w y x v =
@@ -199,7 +199,7 @@ module _ (at : ℕ) (d : ℤ) (w n side : ℕ) where
 
 -- ---- what an answer says
 
-module _ (s : Sizes) (w y x : ℕ) (v : Vector) where
+module _ (s : Setting) (w y x : ℕ) (v : Vector) where
   pub older-is : (r c : ℕ) → olderAt s w y x v ≡ Older·At r c → T (candidate s w y x v) × (r ≡ olderRow y v) × (c ≡ olderColumn x v)
   unfolding olderAt
   older-is r c = go (candidate s w y x v)

@@ -6,22 +6,22 @@ use Prim.Native.Nat.{ℕ, zero, suc, _+_, _*_, _/_, _%_, _≤_, _<_}
 use native.Mathlib.Nat.{div-mul-le-self, div-lt-iff-lt-mul, mod-lt, mul-le-mul, mul-le-mul-left}
 use native.Mathlib.Omega.{arith}
 use Rattle.base.specs.Index.{row-fits}
-use Rattle.frame.specs.declared.Sizes.{Sizes}
+use Rattle.frame.specs.declared.Setting.{Setting}
 use Rattle.frame.specs.Pictures.{Fitting}
 
-unfoldable pub rows : Sizes → ℕ
+unfoldable pub rows : Setting → ℕ
 rows s = s .height / s .n
 
-unfoldable pub columns : Sizes → ℕ
+unfoldable pub columns : Setting → ℕ
 columns s = s .width / s .n
 
-unfoldable pub blocks : Sizes → ℕ
+unfoldable pub blocks : Setting → ℕ
 blocks s = rows s * columns s
 
-unfoldable pub blockRow : Sizes → ℕ → ℕ
+unfoldable pub blockRow : Setting → ℕ → ℕ
 blockRow s k = k / columns s * s .n
 
-unfoldable pub blockColumn : Sizes → ℕ → ℕ
+unfoldable pub blockColumn : Setting → ℕ → ℕ
 blockColumn s k = k % columns s * s .n
 
 -- a length of at most 1,024 that holds one part of n pels
@@ -35,7 +35,7 @@ part-some l n h a = go (l / n) (div-lt-iff-lt-mul {k = n} {x = l} {y = 1} h .0)
 part-few : (l n : ℕ) → 0 < n → l ≤ 1024 → l / n ≤ 1024
 part-few l n h b = omega (arith, div-mul-le-self l n, mul-le-mul-left (l / n) h)
 
-module _ (s : Sizes) (f : Fitting s) where
+module _ (s : Setting) (f : Fitting s) where
   pub columns-some : 0 < columns s
   unfolding columns
   columns-some = part-some (s .width) (s .n) (f .some) (f .across)

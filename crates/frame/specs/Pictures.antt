@@ -1,37 +1,38 @@
 -- 01, "Pictures, blocks, vectors": "A pel is one byte. A frame is rows of pels, top row first. Width and height are 4 to 1,024; the lent slice has
 -- exactly width × height bytes. Block size N is 4, 8 or 16, at most width and height."
---   Sizes (src)  width, height and N
---   Pair         an older and a newer frame, with their sizes
+--   Setting (src)  width, height, N and the measure (02, request 1)
+--   Pair         an older and a newer frame, with their setting
 --   pel          the pel at a row and a column of a frame
---   Fitting      sizes at which a block of N pels, whatever N is, fits a frame of at most 1,024 × 1,024
---   largestN     16; largestDistortion: 255 × N² of it; countNumber: how many counts a search has, the last at lastCount
+--   Fitting      a setting at which a block of N pels, whatever N is, fits a frame of at most 1,024 × 1,024
+--   largestN     16; largestDistortion: by a measure, 255 × N² or 65,025 × N² of it; countNumber: how many counts a search has, the last at lastCount
 use Prim.Native.Nat.{ℕ, _+_, _-_, _*_, _≤_, _<_}
 use mathlib.Core.List.{List}
 use native.Mathlib.Omega.{arith}
 use lib.ListN.{getD}
 use Rattle.base.specs.Index.{row-fits, frame-small}
-use Rattle.frame.specs.declared.Sizes.{Sizes}
+use Rattle.measures.specs.Measures.{measureOf}
+use Rattle.frame.specs.declared.Setting.{Setting}
 
-abbrev pub sizes : ℕ → ℕ → ℕ → Sizes
-sizes width height n = record { width = width; height = height; n = n }
+abbrev pub setting : ℕ → ℕ → ℕ → ℕ → Setting
+setting width height n measure = record { width = width; height = height; n = n; measure = measure }
 
 pub record Pair : Type 0 where
   pub older : List ℕ
   pub newer : List ℕ
-  pub sizes : Sizes
+  pub setting : Setting
 
-abbrev pub pairOf : List ℕ → List ℕ → Sizes → Pair
-pairOf older newer s = record { older = older; newer = newer; sizes = s }
+abbrev pub pairOf : List ℕ → List ℕ → Setting → Pair
+pairOf older newer s = record { older = older; newer = newer; setting = s }
 
 abbrev pub pel : List ℕ → ℕ → ℕ → ℕ → ℕ
 pel frame width r c = getD frame (r * width + c) 0
 
--- the largest N, and 255 × N² of it, the largest distortion
+-- the largest N, and the largest distortion by a measure
 abbrev pub largestN : ℕ
 largestN = 16
 
-abbrev pub largestDistortion : ℕ
-largestDistortion = largestN * (largestN * 255)
+abbrev pub largestDistortion : ℕ → ℕ
+largestDistortion measure = largestN * (largestN * measureOf measure .most)
 
 -- how many counts a search has, one for each m = 16, 8, 4, 2, 1, and the place of the last, for m = 1
 abbrev pub countNumber : ℕ
@@ -40,7 +41,7 @@ countNumber = 5
 abbrev pub lastCount : ℕ
 lastCount = countNumber - 1
 
-pub record Fitting (s : Sizes) : Type 0 where
+pub record Fitting (s : Setting) : Type 0 where
   pub some : 0 < s .n
   pub across : s .n ≤ s .width
   pub down : s .n ≤ s .height
@@ -48,8 +49,8 @@ pub record Fitting (s : Sizes) : Type 0 where
   pub high : s .height ≤ 1024
 
 -- N pels from row r, column c on lie in the frame
-pub row-inside : (s : Sizes) (r c n : ℕ) → r < s .height → c + n ≤ s .width → r * s .width + c + n ≤ s .height * s .width
+pub row-inside : (s : Setting) (r c n : ℕ) → r < s .height → c + n ≤ s .width → r * s .width + c + n ≤ s .height * s .width
 row-inside s r c n h k = omega (arith, row-fits r (s .height) (s .width) h)
 
-pub pels-few : (s : Sizes) → Fitting s → s .height * s .width ≤ 1048576
+pub pels-few : (s : Setting) → Fitting s → s .height * s .width ≤ 1048576
 pels-few s f = frame-small (s .height) (s .width) (f .high) (f .wide)

@@ -1,33 +1,32 @@
-// Frames: their sizes, the grid of blocks, and candidates.
+// Frames: what goes with a pair of them, the grid of blocks, and candidates.
 
 ghost use mathlib.Core.Path.{_≡_};
 ghost use Prim.Native.Nat.{_<_};
 ghost use Rattle.order.specs.Vectors.{vec};
-ghost use Rattle.frame.specs.Pictures.{sizes, Fitting};
+ghost use Rattle.frame.specs.Pictures.{setting, largestDistortion, Fitting};
 ghost use Rattle.frame.specs.Grid.{blocks, blockRow, blockColumn};
 ghost use Rattle.frame.specs.Candidates.{candidate, olderAt, partAt};
 use signed::Shifted;
 
-// The largest N, and 255 × N² of it: no distortion is larger, and so no threshold T.
+// The largest N.
 pub const LARGEST_N: usize = 16;
-
-pub const LARGEST_DISTORTION: u32 = (LARGEST_N * LARGEST_N * 255) as u32;
 
 // How many counts a search has, one for each m = 16, 8, 4, 2, 1, and the place of the last, for m = 1.
 pub const COUNTS: usize = 5;
 
 pub const LAST_COUNT: usize = COUNTS - 1;
 
-// Width and height of a frame, and the block size N.
-pub struct Sizes {
+// What goes with a pair: width and height of its frames, the block size N, and the measure.
+pub struct Setting {
     pub width: usize,
     pub height: usize,
     pub n: usize,
+    pub measure: u32,
 }
 
 // A block of the newer frame, at row y, column x, to be searched within window w.
 pub struct SearchBlock {
-    pub sizes: Sizes,
+    pub setting: Setting,
     pub w: usize,
     pub y: usize,
     pub x: usize,
@@ -41,17 +40,29 @@ pub struct Region {
     pub columns: usize,
 }
 
-// The sizes of these three numbers.
-pub fn sizes_by(width: usize, height: usize, n: usize) -> Sizes
-    ensures { λ r. ⌜ r ≡ sizes width height n ⌝ }
+// The setting of these four numbers.
+pub fn setting_by(width: usize, height: usize, n: usize, measure: u32) -> Setting
+    ensures { λ r. ⌜ r ≡ setting width height n measure ⌝ }
 {
-    Sizes { width, height, n }
+    Setting {
+        width,
+        height,
+        n,
+        measure,
+    }
+}
+
+// The largest distortion by a measure, with the largest N.
+pub fn largest_distortion(measure: u32) -> u32
+    ensures { λ r. ⌜ r ≡ largestDistortion measure ⌝ }
+{
+    (LARGEST_N * LARGEST_N) as u32 * measures::most(measure)
 }
 
 // ---- the grid
 
 // How many blocks the grid has.
-pub fn block_count(s: Sizes) -> usize
+pub fn block_count(s: Setting) -> usize
     requires { ⌜ Fitting s ⌝ }
     ensures { λ r. ⌜ r ≡ blocks s ⌝ }
 {
@@ -59,7 +70,7 @@ pub fn block_count(s: Sizes) -> usize
 }
 
 // The pel row of grid block k.
-pub fn block_row(s: Sizes, k: usize) -> usize
+pub fn block_row(s: Setting, k: usize) -> usize
     requires { ⌜ Fitting s × (k < blocks s) ⌝ }
     ensures { λ r. ⌜ r ≡ blockRow s k ⌝ }
 {
@@ -67,7 +78,7 @@ pub fn block_row(s: Sizes, k: usize) -> usize
 }
 
 // The pel column of grid block k.
-pub fn block_column(s: Sizes, k: usize) -> usize
+pub fn block_column(s: Setting, k: usize) -> usize
     requires { ⌜ Fitting s × (k < blocks s) ⌝ }
     ensures { λ r. ⌜ r ≡ blockColumn s k ⌝ }
 {
@@ -96,7 +107,7 @@ fn part_at(at: usize, d: i32, w: usize, n: usize, side: usize) -> Shifted
 }
 
 // The older block that (dy, dx) compares with the newer block at row y, column x, where (dy, dx) is a candidate for window w.
-pub fn older_at(s: Sizes, w: usize, y: usize, x: usize, dy: i32, dx: i32) -> Older
+pub fn older_at(s: Setting, w: usize, y: usize, x: usize, dy: i32, dx: i32) -> Older
     ensures { λ r. ⌜ r ≡ olderAt s w y x (vec dy dx) ⌝ }
 {
     let Shifted::At(row) = part_at(y, dy, w, s.n, s.height) else {
@@ -109,7 +120,7 @@ pub fn older_at(s: Sizes, w: usize, y: usize, x: usize, dy: i32, dx: i32) -> Old
 }
 
 // (dy, dx) is a candidate for window w of the block at row y, column x.
-pub fn is_candidate(s: Sizes, w: usize, y: usize, x: usize, dy: i32, dx: i32) -> bool
+pub fn is_candidate(s: Setting, w: usize, y: usize, x: usize, dy: i32, dx: i32) -> bool
     ensures { λ r. ⌜ r ≡ candidate s w y x (vec dy dx) ⌝ }
 {
     let at = older_at(s, w, y, x, dy, dx);

@@ -9,7 +9,7 @@ use Rattle.search.proofs.Exhaustive.{best-is}
 use Rattle.search.proofs.Counted.{places-counted}
 use Rattle.full.specs.Full.{fullSearch}
 
-module _ (p : Pair) (w y x : ℕ) (small : w ≤ 16) (down : y + p .sizes .n ≤ p .sizes .height) (across : x + p .sizes .n ≤ p .sizes .width) where
+module _ (p : Pair) (w y x : ℕ) (small : w ≤ 16) (down : y + p .setting .n ≤ p .setting .height) (across : x + p .setting .n ≤ p .setting .width) where
   pub full-best : Best p w y x (vectorIn (fullSearch p w y x))
   unfolding fullSearch
   full-best = best-is p w y x small down across
@@ -18,6 +18,6 @@ module _ (p : Pair) (w y x : ℕ) (small : w ≤ 16) (down : y + p .sizes .n ≤
   unfolding fullSearch
   full-distortion = refl
 
-  pub full-count : probes (fullSearch p w y x) ≡ candidates (p .sizes) w y x
+  pub full-count : probes (fullSearch p w y x) ≡ candidates (p .setting) w y x
   unfolding fullSearch
-  full-count = places-counted (p .sizes) w y x
+  full-count = places-counted (p .setting) w y x

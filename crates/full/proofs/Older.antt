@@ -17,9 +17,9 @@ use Rattle.full.specs.Full.{CopyOf}
 
 module _ (older newer : List ℕ) (b : SearchBlock) (k : ℕ) where
   pub by-copy : (block : List ℕ) → CopyOf newer b block
-      → rowsApart absolute older block 16 (b .sizes .width) 0 (beginsAt b k) 16 16 ≡ distortionOf older newer b k
+      → rowsApart absolute older block 16 (b .setting .width) 0 (beginsAt b k) 16 16 ≡ distortionOf older newer b k
   by-copy block c =
-      let width = b .sizes .width in
+      let width = b .setting .width in
       let here = b .y * width + b .x in
       rw (c .same) (copy-rows absolute older newer width here (beginsAt b k) 16)
       ∙ sym (by-rows older newer b k ∙ ap (λ (n : ℕ). rowsFrom absolute older newer width here (beginsAt b k) n n) (c .sixteen))
@@ -33,8 +33,8 @@ module _ (older newer : List ℕ) (b : SearchBlock) (k : ℕ) where
           arith,
           begins older newer _ _ _ _ _ (comparable older newer b k r t) .1,
           p .older-whole,
-          frame-small (b .sizes .height) (b .sizes .width) (p .fitting .high) (p .fitting .wide),
+          frame-small (b .setting .height) (b .setting .width) (p .fitting .high) (p .fitting .wide),
         )
 
-    pub begins-inside : b .sizes .n ≡ 16 → beginsAt b k + 16 * b .sizes .width + 16 ≤ length older + b .sizes .width
+    pub begins-inside : b .setting .n ≡ 16 → beginsAt b k + 16 * b .setting .width + 16 ≤ length older + b .setting .width
     begins-inside e = rw e at (block-inside older newer _ _ _ _ _ (comparable older newer b k r t) .in-older)

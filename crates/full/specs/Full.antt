@@ -15,8 +15,8 @@ use Rattle.search.specs.SearchResult.{searchResult, onlyAtOne}
 use Rattle.search.specs.Exhaustive.{places, best}
 
 pub record CopyOf (newer : List ℕ) (b : SearchBlock) (block : List ℕ) : Type 0 where
-  pub sixteen : b .sizes .n ≡ 16
-  pub same : block ≡ blockCopy newer (b .sizes .width) (b .y * b .sizes .width + b .x) 16
+  pub sixteen : b .setting .n ≡ 16
+  pub same : block ≡ blockCopy newer (b .setting .width) (b .y * b .setting .width + b .x) 16
 
 unfoldable pub fullSearch : Pair → ℕ → ℕ → ℕ → SearchResult
-fullSearch p w y x = searchResult (best p w y x) (distortion p y x (best p w y x)) (onlyAtOne (length (places (p .sizes) w y x))) 0
+fullSearch p w y x = searchResult (best p w y x) (distortion p y x (best p w y x)) (onlyAtOne (length (places (p .setting) w y x))) 0

@@ -27,7 +27,7 @@ fn copied_distortion_of(
     requires { ⌜ (k < vectorCount) × T (candidateAt b k) × CopyOf (now newer) b (now block) ⌝ }
     ensures { λ d. ⌜ d ≡ distortionOf (now (older .entry)) (now (newer .entry)) b k ⌝ }
 {
-    let s = b.sizes;
+    let s = b.setting;
     let there = candidates::begins_at(order, b, k);
     block_copy::copy_distortion(older, block, s.width, there as u32)
 }
@@ -70,7 +70,7 @@ fn choose_of_many(
     requires { ⌜ ListedCandidates b (now remaining) count × (0 < count) ⌝ }
     ensures { λ r. ⌜ Choice (distortionOf (now (older .entry)) (now (newer .entry)) b) (now (remaining .entry)) count r ⌝ }
 {
-    let s = b.sizes;
+    let s = b.setting;
     if s.n != 16 {
         return candidates::choose(older, newer, order, b, remaining, count);
     }
@@ -89,7 +89,7 @@ pub fn search(
     b: SearchBlock,
 ) -> SearchResult
     requires { ⌜ Ready (now older) (now newer) b × (now order ≡ flat preference) ⌝ }
-    ensures { λ r. ⌜ r ≡ fullSearch (pairOf (now (older .entry)) (now (newer .entry)) (b .sizes)) (b .w) (b .y) (b .x) ⌝ }
+    ensures { λ r. ⌜ r ≡ fullSearch (pairOf (now (older .entry)) (now (newer .entry)) (b .setting)) (b .w) (b .y) (b .x) ⌝ }
 {
     let mut remaining = [0u16; order::VECTORS];
     let count = candidates::gather(order, b, &mut remaining);

@@ -4,7 +4,7 @@
 ghost use mathlib.Core.Path.{_≡_};
 ghost use lib.ListN.{length};
 ghost use Rattle.order.specs.Vectors.{vec};
-ghost use Rattle.frame.specs.Pictures.{sizes, pairOf};
+ghost use Rattle.frame.specs.Pictures.{setting, pairOf};
 ghost use Rattle.view.specs.View.{viewPlace};
 ghost use Rattle.measuring.specs.Measured.{measure};
 ghost use Rattle.block.specs.Block.{searchBlock};
@@ -17,7 +17,7 @@ ghost use Rattle.log_reading.specs.Reading.{readResult, readLog};
 ghost use Rattle.log_text.specs.Text.{longestText, printLog};
 ghost use Rattle.log_plain.specs.Plain.{walkFrom};
 use field::FieldAnswer;
-use frame::Sizes;
+use frame::Setting;
 use log_head::Head;
 use log_plain::Place;
 use log_plain::Walked;
@@ -44,9 +44,9 @@ pub extern "C" fn gauge_measure(
     dy: i32,
     dx: i32,
 ) -> Measured
-    ensures { λ r. ⌜ r ≡ measure (pairOf (now (older .entry)) (now (newer .entry)) (sizes width height n)) row column (vec dy dx) ⌝ }
+    ensures { λ r. ⌜ r ≡ measure (pairOf (now (older .entry)) (now (newer .entry)) (setting width height n)) row column (vec dy dx) ⌝ }
 {
-    let s = Sizes { width, height, n };
+    let s = Setting { width, height, n };
     measuring::measure(older, newer, s, row, column, dy, dx)
 }
 
@@ -62,9 +62,9 @@ pub extern "C" fn gauge_row_view(
     row: usize,
     column: usize,
 ) -> RowView
-    ensures { λ r. ⌜ r ≡ viewPlace (length (now (older .entry))) (length (now (newer .entry))) (sizes width height n) side row column ⌝ }
+    ensures { λ r. ⌜ r ≡ viewPlace (length (now (older .entry))) (length (now (newer .entry))) (setting width height n) side row column ⌝ }
 {
-    let s = Sizes { width, height, n };
+    let s = Setting { width, height, n };
     view::view_place(older.len(), newer.len(), s, side, row, column)
 }
 

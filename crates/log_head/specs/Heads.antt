@@ -1,7 +1,7 @@
 -- The rules for a head's numbers, and for what a block may be in a log with that head. 01, "What the input can be turned away for": "15 head that 1,
 -- 3, 4 or 5 would turn away; 16 block vector no candidate, distortion below 0 or over 255 × N², or a still block as command 2".
 --   noHead        a head of zeros: what a refused call answers with
---   sizesIn       the sizes of a head
+--   settingIn       the sizes of a head
 --   headRefusal   1 3 4 5: what turns head numbers away, be it width or height, N, the search or w
 --   headOk        15 lets the head pass
 --   headBlocks    how many blocks the head's grid has
@@ -22,8 +22,8 @@ use Rattle.signed.specs.declared.Shifted.the-variants.{At, Outside}
 use Rattle.signed.specs.Int.{eqZ, up, dn}
 use Rattle.signed.specs.Values.{shiftedBy, shifted-is, shifted-no}
 use Rattle.order.specs.Vectors.{vec}
-use Rattle.frame.specs.declared.Sizes.{Sizes}
-use Rattle.frame.specs.Pictures.{sizes, Fitting, largestN, largestDistortion}
+use Rattle.frame.specs.declared.Setting.{Setting}
+use Rattle.frame.specs.Pictures.{setting, Fitting, largestN, largestDistortion}
 use Rattle.frame.specs.Grid.{blocks, blockRow, blockColumn}
 use Rattle.frame.specs.Candidates.{candidate, candidate-yes}
 use Rattle.refusals.specs.Refusals.{unless, sideOk, blockSizeOk, blockOk, searchOk, windowOk, unless-zero, block-size-elim, fitting, window-small}
@@ -32,13 +32,13 @@ use Rattle.log_head.specs.declared.Head.{Head}
 abbrev pub noHead : Head
 noHead = record { width = 0; height = 0; n = 0; w = 0; search = 0 }
 
-abbrev pub sizesIn : Head → Sizes
-sizesIn h = sizes (h .width) (h .height) (h .n)
+abbrev pub settingIn : Head → Setting
+settingIn h = setting (h .width) (h .height) (h .n)
 
 unfoldable pub headRefusal : Head → ℕ
 headRefusal h =
     unless (sideOk (h .width) && sideOk (h .height)) 1
-    (unless (blockOk (sizesIn h)) 3
+    (unless (blockOk (settingIn h)) 3
     (unless (searchOk (h .search)) 4
     (unless (windowOk (h .search) (h .w)) 5 0)))
 
@@ -46,17 +46,17 @@ abbrev pub headOk : Head → Bool
 headOk h = eqb (headRefusal h) 0
 
 abbrev pub headBlocks : Head → ℕ
-headBlocks h = blocks (sizesIn h)
+headBlocks h = blocks (settingIn h)
 
 abbrev pub distortionOk : ℕ → ℤ → Bool
 distortionOk n (pos d) = leb d (255 * (n * n))
 distortionOk n (negsuc d) = false
 
-abbrev pub candidateOk : Sizes → ℕ → ℕ → ℤ → ℤ → Bool
+abbrev pub candidateOk : Setting → ℕ → ℕ → ℤ → ℤ → Bool
 candidateOk s w k dy dx = candidate s w (blockRow s k) (blockColumn s k) (vec dy dx)
 
 unfoldable pub entryOk : Head → ℕ → ℤ → ℤ → ℤ → Bool
-entryOk h k dy dx distortion = candidateOk (sizesIn h) (h .w) k dy dx && distortionOk (h .n) distortion
+entryOk h k dy dx distortion = candidateOk (settingIn h) (h .w) k dy dx && distortionOk (h .n) distortion
 
 unfoldable pub isStill : ℤ → ℤ → ℤ → Bool
 isStill dy dx distortion = eqZ dy (pos 0) && (eqZ dx (pos 0) && eqZ distortion (pos 0))
@@ -65,7 +65,7 @@ isStill dy dx distortion = eqZ dy (pos 0) && (eqZ dx (pos 0) && eqZ distortion (
 
 -- its sizes fit, and all its numbers are small
 pub record Headed (h : Head) : Type 0 where
-  pub fitting : Fitting (sizesIn h)
+  pub fitting : Fitting (settingIn h)
   pub size : h .n ≤ largestN
   pub distortion : 255 * (h .n * h .n) ≤ largestDistortion
   pub searching : h .search ≤ 4
@@ -75,12 +75,12 @@ pub headed : (h : Head) → headRefusal h ≡ 0 → Headed h
 unfolding headRefusal
 headed h e =
     let a = unless-zero (sideOk (h .width) && sideOk (h .height)) 0 _ e in
-    let b = unless-zero (blockOk (sizesIn h)) 2 _ (a .1) in
+    let b = unless-zero (blockOk (settingIn h)) 2 _ (a .1) in
     let c = unless-zero (searchOk (h .search)) 3 _ (b .1) in
     let d = unless-zero (windowOk (h .search) (h .w)) 4 0 (c .1) in
     let l = and-left (blockSizeOk (h .n)) (leb (h .n) (h .width) && leb (h .n) (h .height)) (b .0) in
     record {
-      fitting = fitting (sizesIn h) (a .0) (b .0);
+      fitting = fitting (settingIn h) (a .0) (b .0);
       size = block-size-elim (λ n. n ≤ largestN) (omega arith) (omega arith) (omega arith) (h .n) l;
       distortion = block-size-elim (λ n. 255 * (n * n) ≤ largestDistortion) (omega arith) (omega arith) (omega arith) (h .n) l;
       searching = le-both 1 (h .search) (h .search) 4 (c .0) .1;
@@ -97,7 +97,7 @@ pub record Entry (dy dx distortion : ℤ) : Type 0 where
 pub entry : (h : Head) → headRefusal h ≡ 0 → (k : ℕ) (dy dx distortion : ℤ) → entryOk h k dy dx distortion ≡ true → Entry dy dx distortion
 unfolding entryOk
 entry h e k dy dx distortion ok =
-    let s = sizesIn h in
+    let s = settingIn h in
     let g = headed h e in
     let test = candidate s (h .w) (blockRow s k) (blockColumn s k) (vec dy dx) in
     let t = true-T (test && distortionOk (h .n) distortion) ok in

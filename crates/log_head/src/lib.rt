@@ -4,8 +4,8 @@ ghost use mathlib.Core.Path.{_≡_};
 ghost use Prim.Native.Nat.{_≤_, _<_};
 ghost use Rattle.frame.specs.Pictures.{Fitting};
 ghost use Rattle.frame.specs.Grid.{blocks};
-ghost use Rattle.log_head.specs.Heads.{noHead, sizesIn, headRefusal, headBlocks, candidateOk, distortionOk, entryOk, isStill};
-use frame::Sizes;
+ghost use Rattle.log_head.specs.Heads.{noHead, settingIn, headRefusal, headBlocks, candidateOk, distortionOk, entryOk, isStill};
+use frame::Setting;
 use signed::Shifted;
 
 // A head's numbers.
@@ -32,10 +32,10 @@ pub fn no_head() -> Head
 }
 
 // The sizes of a head.
-pub fn sizes_in(h: Head) -> Sizes
-    ensures { λ r. ⌜ r ≡ sizesIn h ⌝ }
+pub fn setting_in(h: Head) -> Setting
+    ensures { λ r. ⌜ r ≡ settingIn h ⌝ }
 {
-    frame::sizes_by(h.width, h.height, h.n)
+    frame::setting_by(h.width, h.height, h.n)
 }
 
 // The first of 1 3 4 5 that applies to a head's numbers, or 0.
@@ -48,7 +48,7 @@ pub fn head_refusal(h: Head) -> u32
     if !refusals::side_ok(h.height) {
         return 1;
     }
-    if !refusals::block_ok(sizes_in(h)) {
+    if !refusals::block_ok(setting_in(h)) {
         return 3;
     }
     let search = refusals::search_ok(h.search);
@@ -67,7 +67,7 @@ pub fn head_blocks(h: Head) -> usize
     requires { ⌜ headRefusal h ≡ 0 ⌝ }
     ensures { λ r. ⌜ (r ≡ headBlocks h) × (r ≤ 1048576) ⌝ }
 {
-    frame::block_count(sizes_in(h))
+    frame::block_count(setting_in(h))
 }
 
 // 16: 0 to 255 × N² is a distortion.
@@ -83,7 +83,7 @@ fn distortion_ok(n: usize, distortion: i32) -> bool
 }
 
 // The vector is a candidate of window w for grid block k.
-pub fn candidate_ok(s: Sizes, w: usize, k: usize, dy: i32, dx: i32) -> bool
+pub fn candidate_ok(s: Setting, w: usize, k: usize, dy: i32, dx: i32) -> bool
     requires { ⌜ Fitting s × (k < blocks s) ⌝ }
     ensures { λ r. ⌜ r ≡ candidateOk s w k dy dx ⌝ }
 {
@@ -97,7 +97,7 @@ pub fn entry_ok(h: Head, k: usize, dy: i32, dx: i32, distortion: i32) -> bool
     requires { ⌜ (headRefusal h ≡ 0) × (k < headBlocks h) ⌝ }
     ensures { λ r. ⌜ r ≡ entryOk h k dy dx distortion ⌝ }
 {
-    if !candidate_ok(sizes_in(h), h.w, k, dy, dx) {
+    if !candidate_ok(setting_in(h), h.w, k, dy, dx) {
         return false;
     }
     distortion_ok(h.n, distortion)

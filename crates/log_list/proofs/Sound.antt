@@ -17,7 +17,7 @@ use Rattle.base.specs.FirstWrong.{firstWrong, before-wrong, all-right}
 use Rattle.frame.specs.Grid.{blocks-few}
 use Rattle.refusals.specs.Refusals.{first-refusal-zero, first-refusal-none, unless-zero}
 use Rattle.log_head.specs.declared.Head.{Head}
-use Rattle.log_head.specs.Heads.{sizesIn, headRefusal, headBlocks, headed}
+use Rattle.log_head.specs.Heads.{settingIn, headRefusal, headBlocks, headed}
 use Rattle.log_list.specs.declared.Verdict.{Verdict}
 use Rattle.log_list.specs.Listed.{listRefusal, listedOk, verdict, listVerdict, Writable, AllPass}
 
@@ -27,7 +27,7 @@ unfolding listRefusal
 writable h list e =
     let a = first-refusal-zero (headRefusal h) _ e in
     let b = unless-zero (leb (3 * headBlocks h) list) 9 0 (a .1) in
-    record { fine = a .0; few = blocks-few (sizesIn h) (headed h (a .0) .fitting); room = leb→le _ _ (b .0) }
+    record { fine = a .0; few = blocks-few (settingIn h) (headed h (a .0) .fitting); room = leb→le _ _ (b .0) }
 
 module _ (h : Head) (list : List ℤ) where
   abbrev wrong : ℕ

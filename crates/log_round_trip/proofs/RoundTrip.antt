@@ -13,7 +13,7 @@ use Rattle.log_head.specs.declared.Head.{Head}
 use Rattle.log_command.specs.declared.Command.the-variants as Cmd
 use Rattle.log_command.specs.Commands.{commandNumber, commandBytes, commandHead}
 use Rattle.frame.specs.Grid.{blocks-few}
-use Rattle.log_head.specs.Heads.{sizesIn, headBlocks, headed}
+use Rattle.log_head.specs.Heads.{settingIn, headBlocks, headed}
 use Rattle.log_list.specs.Listed.{AllPass}
 use Rattle.log_command.specs.Logs.{logCommands, logOf}
 use Rattle.log.specs.declared.WalkStep.{WalkStep}
@@ -103,7 +103,7 @@ module _ (log : List ℕ) (bytes : Each (λ (b : ℕ). b < 256) log) (list : Lis
       (Writing.writes head after buffer
       (record {
         pass = record {
-          listed = record { fine = ok; few = blocks-few (sizesIn head) (headed head ok .fitting); room = listed };
+          listed = record { fine = ok; few = blocks-few (settingIn head) (headed head ok .fitting); room = listed };
           each = λ k l. front-entry head field behind front k l ∙ entries log ended k l;
         };
         fits = rw same-log m;

@@ -14,7 +14,7 @@ use Rattle.order.specs.Vectors.{vec}
 use Rattle.log_head.specs.declared.Head.{Head}
 use Rattle.log_command.specs.declared.Command.{Command}
 use Rattle.log_command.specs.Commands.{commandNumber, blockValues}
-use Rattle.log_head.specs.Heads.{sizesIn, headRefusal, headed, headBlocks, entryOk}
+use Rattle.log_head.specs.Heads.{settingIn, headRefusal, headed, headBlocks, entryOk}
 use Rattle.log_list.specs.Listed.{valueOf}
 use Rattle.log.specs.Walk.{walk, logHead, lastOf}
 use Rattle.log_walks.proofs.Accepted.{AcceptedFrom, last, block, still, acceptedLog}
@@ -24,7 +24,7 @@ use Rattle.log_walks.proofs.Whole.{value-next}
 still-ok : (h : Head) → headRefusal h ≡ 0 → (k : ℕ) → k < headBlocks h → entryOk h k (pos 0) (pos 0) (pos 0) ≡ true
 unfolding entryOk
 still-ok h ok k l =
-    let s = sizesIn h in
+    let s = settingIn h in
     let f = headed h ok .fitting in
     let t = still-candidate s (h .w) (blockRow s k) (blockColumn s k) (block-down s f k l) (block-across s f k l) in
     let c = T-true (candidate s (h .w) (blockRow s k) (blockColumn s k) (vec (pos 0) (pos 0))) t in

@@ -9,7 +9,7 @@ use lib.Dec.{eqb}
 use lib.ListN.{length}
 use borrow.Author.Tests.{ne-eqb}
 use Rattle.order.specs.declared.Vector.{Vector}
-use Rattle.frame.specs.declared.Sizes.{Sizes}
+use Rattle.frame.specs.declared.Setting.{Setting}
 use Rattle.frame.specs.Pictures.{Pair}
 use Rattle.frame.specs.Candidates.{candidate}
 use Rattle.refusals.specs.Refusals.{unless, firstRefusal, first-refusal-some, first-refusal-none, placedRefusal}
@@ -17,7 +17,7 @@ use Rattle.measuring.specs.declared.Measured.{Measured}
 use Rattle.distortion.specs.Blocks.{distortion}
 
 -- 8 measuring one vector: not a candidate of window 16
-unfoldable pub measureRefusal : ℕ → ℕ → Sizes → ℕ → ℕ → Vector → ℕ
+unfoldable pub measureRefusal : ℕ → ℕ → Setting → ℕ → ℕ → Vector → ℕ
 measureRefusal older newer s y x v = firstRefusal (placedRefusal older newer s y x) (unless (candidate s 16 y x v) 8 0)
 
 abbrev pub refusedBy : ℕ → Measured
@@ -25,7 +25,7 @@ refusedBy refusal = record { refusal = refusal; distortion = 0 }
 
 unfoldable pub measure : Pair → ℕ → ℕ → Vector → Measured
 measure p y x v =
-    let refusal = measureRefusal (length (p .older)) (length (p .newer)) (p .sizes) y x v in
+    let refusal = measureRefusal (length (p .older)) (length (p .newer)) (p .setting) y x v in
     cond (eqb refusal 0)
     (record { refusal = 0; distortion = distortion p y x v })
     (refusedBy refusal)
@@ -34,16 +34,16 @@ measure p y x v =
 
 module _ (p : Pair) (y x : ℕ) (v : Vector) where
   abbrev before : ℕ
-  before = placedRefusal (length (p .older)) (length (p .newer)) (p .sizes) y x
+  before = placedRefusal (length (p .older)) (length (p .newer)) (p .setting) y x
 
   pub measured-refused : (before ≡ 0 → ⊥) → measure p y x v ≡ refusedBy before
   unfolding measure measureRefusal
   measured-refused h = rw (first-refusal-some before _ h, ne-eqb before 0 h)
 
-  pub measured-outside : before ≡ 0 → candidate (p .sizes) 16 y x v ≡ false → measure p y x v ≡ refusedBy 8
+  pub measured-outside : before ≡ 0 → candidate (p .setting) 16 y x v ≡ false → measure p y x v ≡ refusedBy 8
   unfolding measure measureRefusal
   measured-outside h e = rw (first-refusal-none before _ h, e)
 
-  pub measured-at : before ≡ 0 → candidate (p .sizes) 16 y x v ≡ true → measure p y x v ≡ record { refusal = 0; distortion = distortion p y x v }
+  pub measured-at : before ≡ 0 → candidate (p .setting) 16 y x v ≡ true → measure p y x v ≡ record { refusal = 0; distortion = distortion p y x v }
   unfolding measure measureRefusal
   measured-at h e = rw (first-refusal-none before _ h, e)

@@ -5,7 +5,7 @@ ghost use Rattle.order.specs.Vectors.{vec};
 ghost use Rattle.frame.specs.Pictures.{pairOf};
 ghost use Rattle.measuring.specs.Measured.{measure, refusedBy};
 use frame::Older;
-use frame::Sizes;
+use frame::Setting;
 
 // What the measuring call answers.
 #[repr(C)]
@@ -28,7 +28,7 @@ fn refused(refusal: u32) -> Measured
 pub fn measure(
     older: &[u8],
     newer: &[u8],
-    s: Sizes,
+    s: Setting,
     y: usize,
     x: usize,
     dy: i32,

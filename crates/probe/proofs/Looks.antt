@@ -39,7 +39,7 @@ holds-same o e = record { is = e; down = o .down; across = o .across; few = omeg
 
 -- ---- (0,0): the older block stands where the newer one stands
 
-pub at-origin-is : (p : Pair) (w y x d : ℕ) → d ≡ distortionBy absolute (p .sizes .n) (newerBlock p y x) (blockAt (p .older) (p .sizes .width) y x)
+pub at-origin-is : (p : Pair) (w y x d : ℕ) → d ≡ distortionBy absolute (p .setting .n) (newerBlock p y x) (blockAt (p .older) (p .setting .width) y x)
     → seen (point 16 16) d 1 ≡ atOrigin (target p w y x)
 unfolding atOrigin unbias
 at-origin-is p w y x d e = rw (still-cost p y x, e)
@@ -93,11 +93,11 @@ module _ (t : Target) (s : Seen) (v : Vector) where
 -- outside window 16 there is no candidate of a window up to 16
 module _ (p : Pair) (w y x : ℕ) (l : w ≤ 16) (before : List Vector) (s : Seen) (v : Vector) where
   far : (Within 16 v → ⊥) → s ≡ probeNew (target p w y x) before s v
-  far n = new-same (target p w y x) s v before (probe-point-over (target p w y x) s v (go (candidate (p .sizes) w y x v) refl))
+  far n = new-same (target p w y x) s v before (probe-point-over (target p w y x) s v (go (candidate (p .setting) w y x v) refl))
     where
-      go : (c : Bool) → candidate (p .sizes) w y x v ≡ c → c ≡ false
+      go : (c : Bool) → candidate (p .setting) w y x v ≡ c → c ≡ false
       go true e =
-          let k = candidate-older (p .sizes) w y x v (true-T _ e) .window in
+          let k = candidate-older (p .setting) w y x v (true-T _ e) .window in
           absurd (n (record { down = omega arith; across = omega arith }))
       go false e = refl
 

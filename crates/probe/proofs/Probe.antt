@@ -45,7 +45,7 @@ at-origin-own-distortion t c = record { chosen = c; reported = refl }
 pub never-lower : (p : Pair) (u w y x : ℕ) (v : Vector) (s : Seen) → u ≤ w → Best p w y x v → OwnDistortion (target p u y x) s → distortion p y x v ≤ s .least
 never-lower p u w y x v s l b h =
     rw (h .reported)
-    (b .least (s .best) (candidate-yes (p .sizes) w y x (s .best) (candidate-wider (p .sizes) u y x (s .best) w l (h .chosen))))
+    (b .least (s .best) (candidate-yes (p .setting) w y x (s .best) (candidate-wider (p .setting) u y x (s .best) w l (h .chosen))))
 
 -- ---- no more is measured than there are points, and all where all are candidates
 

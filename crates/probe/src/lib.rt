@@ -33,7 +33,7 @@ pub fn at_origin(older: &[u8], newer: &[u8], b: SearchBlock) -> BestSoFar
     BestSoFar {
         y: 16,
         x: 16,
-        least: distortion::block_distortion(older, newer, b.sizes, y, x, y, x),
+        least: distortion::block_distortion(older, newer, b.setting, y, x, y, x),
         count: 1,
     }
 }

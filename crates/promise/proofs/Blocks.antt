@@ -49,10 +49,10 @@ abbrev pub Lists : Pair → ℕ → List ℤ → Type 0
 Lists p w list = EachGridPlace p (λ k y x. reported list k ≡ pos (distortion p y x (best p w y x)))
 
 module _ (p : Pair) (w : ℕ) (f : Fine p w) where
-  fits : Fitting (p .sizes)
+  fits : Fitting (p .setting)
   fits = fine-paired p f .fitting
 
-  allowed : T (blockSizeOk (p .sizes .n))
+  allowed : T (blockSizeOk (p .setting .n))
   allowed = fine-paired p f .allowed
 
   pub each-place : EachPlace p (λ y x. Best p w y x (best p w y x))
@@ -60,23 +60,23 @@ module _ (p : Pair) (w : ℕ) (f : Fine p w) where
 
   pub best-within : EachBlock p (λ k. Within 16 (bestOf p w k))
   best-within k h =
-      let b = each-place (blockRow (p .sizes) k) (blockColumn (p .sizes) k) (block-down (p .sizes) fits k h) (block-across (p .sizes) fits k h) in
+      let b = each-place (blockRow (p .setting) k) (blockColumn (p .setting) k) (block-down (p .setting) fits k h) (block-across (p .setting) fits k h) in
       within-more (f .small) (b .candidate .window)
 
   -- search 2
-  exact : (t : ℕ) → Exact p (requestOf (p .sizes) 2 w t)
-  exact t = pruned-exact p (requestOf (p .sizes) 2 w t) allowed (f .small) refl
+  exact : (t : ℕ) → Exact p (requestOf (p .setting) 2 w t)
+  exact t = pruned-exact p (requestOf (p .setting) 2 w t) allowed (f .small) refl
 
   -- at a place
-  module _ (y x : ℕ) (hy : y + p .sizes .n ≤ p .sizes .height) (hx : x + p .sizes .n ≤ p .sizes .width) where
+  module _ (y x : ℕ) (hy : y + p .setting .n ≤ p .setting .height) (hx : x + p .setting .n ≤ p .setting .width) where
     request-two : requestChain p 2 w 0 ≡ 0
     unfolding windowOk thresholdOk
     request-two = request-any p 2 w 0 (f .pair) tt (le→leb w 16 (f .small)) tt
 
     single-is : blockOn p 2 w 0 y x ≡ prunedSearch p w y x
     single-is =
-        block-accepted (p .older) (p .newer) (requestOf (p .sizes) 2 w 0) y x (search-fine _ _ (requestOf (p .sizes) 2 w 0) y x request-two hy hx)
-        ∙ searched-pruned p (requestOf (p .sizes) 2 w 0) y x refl
+        block-accepted (p .older) (p .newer) (requestOf (p .setting) 2 w 0) y x (search-fine _ _ (requestOf (p .setting) 2 w 0) y x request-two hy hx)
+        ∙ searched-pruned p (requestOf (p .setting) 2 w 0) y x refl
 
     unrefused : prunedSearch p w y x .refusal ≡ 0
     unfolding prunedSearch
@@ -85,7 +85,7 @@ module _ (p : Pair) (w : ℕ) (f : Fine p w) where
     pub block-result : let r = blockOn p 2 w 0 y x in
         (r .refusal ≡ 0) × (vectorIn r ≡ best p w y x) × (r .distortion ≡ distortion p y x (best p w y x))
         × (r .dropped ≡ howMany (isDropped p w y x)) × (probes r ≡ howMany (isMeasured p w y x))
-        × (r .dropped + probes r ≡ howMany (candidate (p .sizes) w y x))
+        × (r .dropped + probes r ≡ howMany (candidate (p .setting) w y x))
     block-result =
         rw single-is (
           unrefused,
@@ -97,28 +97,28 @@ module _ (p : Pair) (w : ℕ) (f : Fine p w) where
         )
 
   -- at grid block k
-  module _ (t k : ℕ) (h : k < blocks (p .sizes)) where
+  module _ (t k : ℕ) (h : k < blocks (p .setting)) where
     abbrev y : ℕ
-    y = blockRow (p .sizes) k
+    y = blockRow (p .setting) k
 
     abbrev x : ℕ
-    x = blockColumn (p .sizes) k
+    x = blockColumn (p .setting) k
 
     abbrev found : SearchResult
-    found = searchAt p (requestOf (p .sizes) 2 w t) k
+    found = searchAt p (requestOf (p .setting) 2 w t) k
 
     found-is : found ≡ prunedSearch p w y x
     unfolding searchAt
-    found-is = searched-pruned p (requestOf (p .sizes) 2 w t) y x refl
+    found-is = searched-pruned p (requestOf (p .setting) 2 w t) y x refl
 
-    hy : y + p .sizes .n ≤ p .sizes .height
-    hy = block-down (p .sizes) fits k h
+    hy : y + p .setting .n ≤ p .setting .height
+    hy = block-down (p .setting) fits k h
 
-    hx : x + p .sizes .n ≤ p .sizes .width
-    hx = block-across (p .sizes) fits k h
+    hx : x + p .setting .n ≤ p .setting .width
+    hx = block-across (p .setting) fits k h
 
     pub grid-distortion : found .distortion ≡ distortion p y x (bestOf p w k)
-    grid-distortion = exact-at p (requestOf (p .sizes) 2 w t) fits (exact t) k h .1
+    grid-distortion = exact-at p (requestOf (p .setting) 2 w t) fits (exact t) k h .1
 
     grid-dropped : found .dropped ≡ howMany (isDropped p w y x)
     grid-dropped = ap (λ (r : SearchResult). r .dropped) found-is ∙ dropped-many p w y x allowed (f .small) hy hx
@@ -126,11 +126,11 @@ module _ (p : Pair) (w : ℕ) (f : Fine p w) where
     grid-measured : probes found ≡ howMany (isMeasured p w y x)
     grid-measured = ap probes found-is ∙ measured-many p w y x allowed (f .small) hy hx
 
-    grid-adds : found .dropped + probes found ≡ howMany (candidate (p .sizes) w y x)
+    grid-adds : found .dropped + probes found ≡ howMany (candidate (p .setting) w y x)
     grid-adds = ap (λ (r : SearchResult). r .dropped + probes r) found-is ∙ pruned-adds p w y x allowed
 
-    pub grid-no-less : (v : Vector) → T (candidate (p .sizes) w y x v) → found .distortion ≤ distortion p y x v
-    grid-no-less v c = rw grid-distortion (each-place y x hy hx .least v (candidate-yes (p .sizes) w y x v c))
+    pub grid-no-less : (v : Vector) → T (candidate (p .setting) w y x v) → found .distortion ≤ distortion p y x v
+    grid-no-less v c = rw grid-distortion (each-place y x hy hx .least v (candidate-yes (p .setting) w y x v c))
 
     pub grid-worse : (v : Vector) → T (isDropped p w y x v) → found .distortion < distortion p y x v
     grid-worse v d = rw found-is (dropped-worse p w y x allowed (f .small) hy hx v d)
@@ -138,20 +138,20 @@ module _ (p : Pair) (w : ℕ) (f : Fine p w) where
   -- over the grid
   module _ (t : ℕ) where
     abbrev founds : ℕ → SearchResult
-    founds = searchAt p (requestOf (p .sizes) 2 w t)
+    founds = searchAt p (requestOf (p .setting) 2 w t)
 
-    pub reading-best : majority (vectorOf p (requestOf (p .sizes) 2 w t)) (blocks (p .sizes)) ≡ majority (bestOf p w) (blocks (p .sizes))
-    reading-best = exact-reading p (requestOf (p .sizes) 2 w t) fits (exact t)
+    pub reading-best : majority (vectorOf p (requestOf (p .setting) 2 w t)) (blocks (p .setting)) ≡ majority (bestOf p w) (blocks (p .setting))
+    reading-best = exact-reading p (requestOf (p .setting) 2 w t) fits (exact t)
 
-    pub entries-best : entriesOf founds (blocks (p .sizes)) ≡ bestEntries p w
+    pub entries-best : entriesOf founds (blocks (p .setting)) ≡ bestEntries p w
     unfolding bestEntries
-    entries-best = exact-entries p (requestOf (p .sizes) 2 w t) fits (exact t)
+    entries-best = exact-entries p (requestOf (p .setting) 2 w t) fits (exact t)
 
-    pub sum-dropped : droppedOver founds (blocks (p .sizes)) ≡ overGrid p (λ y x. howMany (isDropped p w y x))
-    sum-dropped = sumTo-ext _ _ (blocks (p .sizes)) (λ k h. grid-dropped t k h)
+    pub sum-dropped : droppedOver founds (blocks (p .setting)) ≡ overGrid p (λ y x. howMany (isDropped p w y x))
+    sum-dropped = sumTo-ext _ _ (blocks (p .setting)) (λ k h. grid-dropped t k h)
 
-    pub sum-measured : countOver founds (blocks (p .sizes)) 4 ≡ overGrid p (λ y x. howMany (isMeasured p w y x))
-    sum-measured = sumTo-ext _ _ (blocks (p .sizes)) (λ k h. grid-measured t k h)
+    pub sum-measured : countOver founds (blocks (p .setting)) 4 ≡ overGrid p (λ y x. howMany (isMeasured p w y x))
+    sum-measured = sumTo-ext _ _ (blocks (p .setting)) (λ k h. grid-measured t k h)
 
-    pub sum-both : droppedOver founds (blocks (p .sizes)) + countOver founds (blocks (p .sizes)) 4 ≡ overGrid p (λ y x. howMany (candidate (p .sizes) w y x))
-    sum-both = sym (sumTo-add _ _ (blocks (p .sizes))) ∙ sumTo-ext _ _ (blocks (p .sizes)) (λ k h. grid-adds t k h)
+    pub sum-both : droppedOver founds (blocks (p .setting)) + countOver founds (blocks (p .setting)) 4 ≡ overGrid p (λ y x. howMany (candidate (p .setting) w y x))
+    sum-both = sym (sumTo-add _ _ (blocks (p .setting))) ∙ sumTo-ext _ _ (blocks (p .setting)) (λ k h. grid-adds t k h)

@@ -36,28 +36,28 @@ chain-early (suc f) a b z n = refl
 
 module _ (p : Pair) where
   abbrev pub pairChain : ℕ
-  pairChain = pairRefusal (length (p .older)) (length (p .newer)) (p .sizes)
+  pairChain = pairRefusal (length (p .older)) (length (p .newer)) (p .setting)
 
   abbrev pub requestChain : (s w t : ℕ) → ℕ
-  requestChain s w t = requestRefusal (length (p .older)) (length (p .newer)) (requestOf (p .sizes) s w t)
+  requestChain s w t = requestRefusal (length (p .older)) (length (p .newer)) (requestOf (p .setting) s w t)
 
   abbrev pub fieldChain : (s w t list table : ℕ) → ℕ
-  fieldChain s w t list table = fieldRefusal (length (p .older)) (length (p .newer)) (requestOf (p .sizes) s w t) list table
+  fieldChain s w t list table = fieldRefusal (length (p .older)) (length (p .newer)) (requestOf (p .setting) s w t) list table
 
   -- what an accepted step's pair and window have
   pub record Fine (w : ℕ) : Type 0 where
     pub pair : pairChain ≡ 0
     pub small : w ≤ 16
 
-  pub fine-paired : {w : ℕ} → Fine w → Paired (length (p .older)) (length (p .newer)) (p .sizes)
-  fine-paired f = paired (length (p .older)) (length (p .newer)) (p .sizes) (f .pair)
+  pub fine-paired : {w : ℕ} → Fine w → Paired (length (p .older)) (length (p .newer)) (p .setting)
+  fine-paired f = paired (length (p .older)) (length (p .newer)) (p .setting) (f .pair)
 
   pub request-fine : (s w t : ℕ) → requestChain s w t ≡ 0 → Fine w
   unfolding requestRefusal
   request-fine s w t e =
       record {
         pair = first-refusal-zero pairChain _ e .0;
-        small = window-small s w (refusals.requested (length (p .older)) (length (p .newer)) (requestOf (p .sizes) s w t) e .window);
+        small = window-small s w (refusals.requested (length (p .older)) (length (p .newer)) (requestOf (p .setting) s w t) e .window);
       }
 
   pub field-request : (s w t list table : ℕ) → fieldChain s w t list table ≡ 0 → requestChain s w t ≡ 0
@@ -71,7 +71,7 @@ module _ (p : Pair) where
       rw (e, T-true (searchOk s) r, T-true (windowOk s w) o, T-true (thresholdOk s t) h)
 
   -- searches 3 and 4 use no table
-  pub field-any : (s w t : ℕ) (list : List ℤ) (table : List ℕ) → requestChain s w t ≡ 0 → eqb s 2 ≡ false → listSize (p .sizes) ≤ length list
+  pub field-any : (s w t : ℕ) (list : List ℤ) (table : List ℕ) → requestChain s w t ≡ 0 → eqb s 2 ≡ false → listSize (p .setting) ≤ length list
       → fieldChain s w t (length list) (length table) ≡ 0
   unfolding fieldRefusal firstRefusal
-  field-any s w t list table e n h = rw (e, n, le-leb (listSize (p .sizes)) (length list) h)
+  field-any s w t list table e n h = rw (e, n, le-leb (listSize (p .setting)) (length list) h)

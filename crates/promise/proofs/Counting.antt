@@ -85,11 +85,11 @@ total-no b (k ∷ ks) h = ap₂ _+_ (ap one (h k (List·Memᴰ·head refl))) (to
 
 -- ---- a block that stands wholly inside
 
-module _ (p : Pair) (w y x : ℕ) (allowed : T (blockSizeOk (p .sizes .n))) (small : w ≤ 16)
-    (down : y + p .sizes .n ≤ p .sizes .height) (across : x + p .sizes .n ≤ p .sizes .width)
+module _ (p : Pair) (w y x : ℕ) (allowed : T (blockSizeOk (p .setting .n))) (small : w ≤ 16)
+    (down : y + p .setting .n ≤ p .setting .height) (across : x + p .setting .n ≤ p .setting .width)
   where
     abbrev passes : ℕ → Bool
-    passes k = candidate (p .sizes) w y x (preferred k)
+    passes k = candidate (p .setting) w y x (preferred k)
 
     abbrev gone : List ℕ
     gone = pruning p w y x .dropped
@@ -104,7 +104,7 @@ module _ (p : Pair) (w y x : ℕ) (allowed : T (blockSizeOk (p .sizes .n))) (sma
         go : (b : Bool) → isGone k ≡ b → b ≡ false
         go false e = refl
         go true e =
-            let h = pruned-holds p w y x (block-size-power (p .sizes .n) allowed) small down across in
+            let h = pruned-holds p w y x (block-size-power (p .setting .n) allowed) small down across in
             let r = in-mem (preferred k) gone (true-T (isGone k) e) in
             let same-place : r .0 ≡ k = once (r .0) k (picked passes vectorCount (h .dropped-from (r .1)) .0) (picked passes vectorCount (h .left-from m) .0)
             (r .2) in
@@ -136,6 +136,6 @@ module _ (p : Pair) (w y x : ℕ) (allowed : T (blockSizeOk (p .sizes .n))) (sma
     -- every dropped one has strictly more
     pub dropped-worse : (v : Vector) → T (isDropped p w y x v) → prunedSearch p w y x .distortion < distortion p y x v
     dropped-worse v t =
-        let r = in-mem v gone (and-right (candidate (p .sizes) w y x v) (isIn v (vectorsAt gone)) t) in
+        let r = in-mem v gone (and-right (candidate (p .setting) w y x v) (isIn v (vectorsAt gone)) t) in
         subst (λ (u : Vector). prunedSearch p w y x .distortion < distortion p y x u) (r .2)
-        (pruned-drops p w y x (block-size-power (p .sizes .n) allowed) small down across (r .1))
+        (pruned-drops p w y x (block-size-power (p .setting .n) allowed) small down across (r .1))

@@ -62,7 +62,7 @@ landing t f v e = let new = movedTo t (travelOf (f .answer)) in rw (← e) (land
 
 module _ (t : Track) (p : Pair) (w threshold : ℕ) (list : List ℤ) (table : List ℕ) where
   abbrev request : Request
-  request = requestOf (p .sizes) 2 w threshold
+  request = requestOf (p .setting) 2 w threshold
 
   abbrev this : Call
   this = step p w threshold list table
@@ -110,7 +110,7 @@ module _ (t : Track) (p : Pair) (w threshold : ℕ) (list : List ℤ) (table : L
     unfolding fieldAnswer
     unrefused = ap (λ (a : FieldAnswer). a .refusal) answer-is
 
-    pub reading-is : vec (field .answer .dy) (field .answer .dx) ≡ majority (bestOf p w) (blocks (p .sizes))
+    pub reading-is : vec (field .answer .dy) (field .answer .dx) ≡ majority (bestOf p w) (blocks (p .setting))
     unfolding fieldAnswer
     reading-is = ap (λ (a : FieldAnswer). vec (a .dy) (a .dx)) answer-is ∙ reading-best p w field-fine threshold
 

@@ -32,10 +32,10 @@ use Rattle.promise.proofs.Blocks.{Lists, each-place, entries-third, pos
 module _ (p : Pair) (w : ℕ) (f : Fine p w) where
   -- ---- they run
 
-  runs : (s u t : ℕ) → requestChain p s u t ≡ 0 → eqb s 2 ≡ false → ((y x : ℕ) → searchBy p (requestOf (p .sizes) s u t) y x .refusal ≡ 0) → Runs p s u t
+  runs : (s u t : ℕ) → requestChain p s u t ≡ 0 → eqb s 2 ≡ false → ((y x : ℕ) → searchBy p (requestOf (p .setting) s u t) y x .refusal ≡ 0) → Runs p s u t
   unfolding fieldAnswer
   runs s u t e n zero =
-      let q = requestOf (p .sizes) s u t in (
+      let q = requestOf (p .setting) s u t in (
         λ y x hy hx. rw (block-accepted (p .older) (p .newer) q y x (search-fine _ _ q y x e hy hx)) (zero y x),
         λ list table h.
             ap (λ (r : FieldResult). r .answer .refusal) (field-accepted (p .older) (p .newer) q list table (field-any p s u t list table e n h)),
@@ -45,19 +45,19 @@ module _ (p : Pair) (w : ℕ) (f : Fine p w) where
   unfolding windowOk thresholdOk resultOf
   four-step-runs =
       runs 3 7 0 (request-any p 3 7 0 (f .pair) tt tt tt) refl
-      (λ y x. ap (λ (r : SearchResult). r .refusal) (searched-four-step p (requestOf (p .sizes) 3 7 0) y x refl))
+      (λ y x. ap (λ (r : SearchResult). r .refusal) (searched-four-step p (requestOf (p .setting) 3 7 0) y x refl))
 
   pub cross-runs : (u t : ℕ) → T (crossWindow u) → t ≤ largestDistortion → Runs p 4 u t
   unfolding windowOk thresholdOk resultOf
   cross-runs u t c h =
       runs 4 u t (request-any p 4 u t (f .pair) tt c (le→leb t largestDistortion h)) refl
-      (λ y x. ap (λ (r : SearchResult). r .refusal) (searched-cross p (requestOf (p .sizes) 4 u t) y x refl))
+      (λ y x. ap (λ (r : SearchResult). r .refusal) (searched-cross p (requestOf (p .setting) 4 u t) y x refl))
 
   -- ---- they are held against the exhaustive best: once for both, from what a search owes at a place
 
-  module _ (s u t most : ℕ) (owes : T (windowOk s u) → EachPlace p (λ y x. NotLower p w y x (searchBy p (requestOf (p .sizes) s u t) y x) most)) where
+  module _ (s u t most : ℕ) (owes : T (windowOk s u) → EachPlace p (λ y x. NotLower p w y x (searchBy p (requestOf (p .setting) s u t) y x) most)) where
     abbrev request : Request
-    request = requestOf (p .sizes) s u t
+    request = requestOf (p .setting) s u t
 
     block-held : (y x : ℕ) → blockOn p s u t y x .refusal ≡ 0 → NotLower p w y x (blockOn p s u t y x) most
     block-held y x e =
@@ -70,34 +70,34 @@ module _ (p : Pair) (w : ℕ) (f : Fine p w) where
       unrefused : fieldChain p s u t (length list) (length table) ≡ 0
       unrefused = field-unrefused (p .older) (p .newer) request list table e
 
-      owed : (k : ℕ) → k < blocks (p .sizes) → NotLower p w (blockRow (p .sizes) k) (blockColumn (p .sizes) k) (searchAt p request k) most
+      owed : (k : ℕ) → k < blocks (p .setting) → NotLower p w (blockRow (p .setting) k) (blockColumn (p .setting) k) (searchAt p request k) most
       unfolding searchAt
       owed k h =
           let chain = field-request p s u t (length list) (length table) unrefused in
           let q = refusals.requested (length (p .older)) (length (p .newer)) request chain in
           let fits = q .paired .fitting in
-          owes (q .window) (blockRow (p .sizes) k) (blockColumn (p .sizes) k) (block-down (p .sizes) fits k h) (block-across (p .sizes) fits k h)
+          owes (q .window) (blockRow (p .setting) k) (blockColumn (p .setting) k) (block-down (p .setting) fits k h) (block-across (p .setting) fits k h)
 
       -- mine is the list of an accepted step by search 2
       field-held : (mine : List ℤ) → Lists p w mine → FieldNotLower p mine (fieldOn p s u t list table) most
       unfolding fieldAnswer listTo
       field-held mine r =
           rw (field-accepted (p .older) (p .newer) request list table unrefused) (
-            λ k h. rw (r k h, entries-third (searchAt p request) (blocks (p .sizes)) k (drop (listSize (p .sizes)) list) h) (pos-le (owed k h .0)),
-            sumTo-bound most _ (blocks (p .sizes)) (λ k h. owed k h .1),
+            λ k h. rw (r k h, entries-third (searchAt p request) (blocks (p .setting)) k (drop (listSize (p .setting)) list) h) (pos-le (owed k h .0)),
+            sumTo-bound most _ (blocks (p .setting)) (λ k h. owed k h .1),
           )
 
-  four-step-owes : 7 ≤ w → (t : ℕ) → EachPlace p (λ y x. NotLower p w y x (searchBy p (requestOf (p .sizes) 3 7 t) y x) 27)
+  four-step-owes : 7 ≤ w → (t : ℕ) → EachPlace p (λ y x. NotLower p w y x (searchBy p (requestOf (p .setting) 3 7 t) y x) 27)
   unfolding resultOf
   four-step-owes l t y x hy hx =
-      rw (searched-four-step p (requestOf (p .sizes) 3 7 t) y x refl)
+      rw (searched-four-step p (requestOf (p .setting) 3 7 t) y x refl)
       (four-step-never-lower p y x hy hx w (best p w y x) l (each-place p w f y x hy hx), four-step-count (target p 7 y x))
 
   cross-owes : (u : ℕ) → u ≤ w → T (crossWindow u) → (t : ℕ)
-      → EachPlace p (λ y x. NotLower p w y x (searchBy p (requestOf (p .sizes) 4 u t) y x) (5 + 4 * log2 u))
+      → EachPlace p (λ y x. NotLower p w y x (searchBy p (requestOf (p .setting) 4 u t) y x) (5 + 4 * log2 u))
   unfolding resultOf
   cross-owes u l c t y x hy hx =
-      rw (searched-cross p (requestOf (p .sizes) 4 u t) y x refl)
+      rw (searched-cross p (requestOf (p .setting) 4 u t) y x refl)
       (cross-never-lower p t u y x hy hx w (best p w y x) l (each-place p w f y x hy hx), cross-count (target p u y x) t u (T-true (crossWindow u) c))
 
   pub four-step-block : 7 ≤ w → (t y x : ℕ) → blockOn p 3 7 t y x .refusal ≡ 0 → NotLower p w y x (blockOn p 3 7 t y x) 27

@@ -47,33 +47,33 @@ module _ (t : Track) (p : Pair) (w threshold : ℕ) (list : List ℤ) (table : L
   abbrev answer : FieldAnswer
   answer = s .stepped .answer
 
-  answered : answer ≡ fieldAnswer p (requestOf (p .sizes) 2 w threshold)
+  answered : answer ≡ fieldAnswer p (requestOf (p .setting) 2 w threshold)
   answered = k .answer-same ∙ answer-is t p w threshold list table (k .fine)
 
-  travels : (v : Vector) × Most (bestOf p w) (blocks (p .sizes)) v × (travel p w ≡ turned v) × (answer .dy ≡ v .dy) × (answer .dx ≡ v .dx)
+  travels : (v : Vector) × Most (bestOf p w) (blocks (p .setting)) v × (travel p w ≡ turned v) × (answer .dy ≡ v .dy) × (answer .dx ≡ v .dx)
   unfolding travel
   travels = (
-    majority (bestOf p w) (blocks (p .sizes)),
-    majority-most (bestOf p w) (blocks (p .sizes)) (blocks-some (p .sizes) (fine-paired p fine .fitting)) (best-within p w fine),
+    majority (bestOf p w) (blocks (p .setting)),
+    majority-most (bestOf p w) (blocks (p .setting)) (blocks-some (p .setting) (fine-paired p fine .fitting)) (best-within p w fine),
     refl,
     ap (λ (a : FieldAnswer). a .dy) (k .answer-same) ∙ ap (λ (v : Vector). v .dy) (reading-is t p w threshold list table (k .fine)),
     ap (λ (a : FieldAnswer). a .dx) (k .answer-same) ∙ ap (λ (v : Vector). v .dx) (reading-is t p w threshold list table (k .fine)),
   )
 
-  listed : s .list ≡ bestEntries p w ++ drop (listSize (p .sizes)) list
+  listed : s .list ≡ bestEntries p w ++ drop (listSize (p .setting)) list
   listed =
       k .list-same ∙ list-is t p w threshold list table (k .fine)
-      ∙ ap (λ (l : List ℤ). l ++ drop (listSize (p .sizes)) list) (entries-best p w fine threshold)
+      ∙ ap (λ (l : List ℤ). l ++ drop (listSize (p .setting)) list) (entries-best p w fine threshold)
 
-  reported-found : EachBlock p (λ j. reported (s .list) j ≡ pos (searchAt p (requestOf (p .sizes) 2 w threshold) j .distortion))
+  reported-found : EachBlock p (λ j. reported (s .list) j ≡ pos (searchAt p (requestOf (p .setting) 2 w threshold) j .distortion))
   reported-found j h =
       ap (λ (l : List ℤ). reported l j) (k .list-same ∙ list-is t p w threshold list table (k .fine))
-      ∙ entries-third (searchAt p (requestOf (p .sizes) 2 w threshold)) (blocks (p .sizes)) j (drop (listSize (p .sizes)) list) h
+      ∙ entries-third (searchAt p (requestOf (p .setting) 2 w threshold)) (blocks (p .setting)) j (drop (listSize (p .setting)) list) h
 
   reported-best : Lists p w (s .list)
   reported-best j h = reported-found j h ∙ ap pos (grid-distortion p w fine threshold j h)
 
-  no-less : EachGridPlace p (λ j y x. (v : Vector) → T (candidate (p .sizes) w y x v) → reported (s .list) j ≤ℤ pos (distortion p y x v))
+  no-less : EachGridPlace p (λ j y x. (v : Vector) → T (candidate (p .setting) w y x v) → reported (s .list) j ≤ℤ pos (distortion p y x v))
   no-less j h v c = rw (reported-found j h) (pos-le (grid-no-less p w fine threshold j h v c))
 
   dropped-more : EachGridPlace p (λ j y x. (v : Vector) → T (isDropped p w y x v) → reported (s .list) j <ℤ pos (distortion p y x v))
@@ -81,7 +81,7 @@ module _ (t : Track) (p : Pair) (w threshold : ℕ) (list : List ℤ) (table : L
 
   sums : (answer .dropped ≡ overGrid p (λ y x. howMany (isDropped p w y x)))
       × (getD (answer .counts) lastCount 0 ≡ overGrid p (λ y x. howMany (isMeasured p w y x)))
-      × (answer .dropped + getD (answer .counts) lastCount 0 ≡ overGrid p (λ y x. howMany (candidate (p .sizes) w y x)))
+      × (answer .dropped + getD (answer .counts) lastCount 0 ≡ overGrid p (λ y x. howMany (candidate (p .setting) w y x)))
   unfolding fieldAnswer listTo
   sums = rw answered (sum-dropped p w fine threshold, sum-measured p w fine threshold, sum-both p w fine threshold)
 

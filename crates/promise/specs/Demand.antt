@@ -57,17 +57,17 @@ pub data Call : Type 0 where
 
 -- grid block k's exhaustive best: "its candidate of least distortion (equals: preference order)"
 abbrev pub bestOf : Pair → ℕ → ℕ → Vector
-bestOf p w k = best p w (blockRow (p .sizes) k) (blockColumn (p .sizes) k)
+bestOf p w k = best p w (blockRow (p .setting) k) (blockColumn (p .setting) k)
 
 -- "the travel is the one most grid blocks have (likewise), reversed"
 unfoldable pub travel : Pair → ℕ → Vector
-travel p w = turned (majority (bestOf p w) (blocks (p .sizes)))
+travel p w = turned (majority (bestOf p w) (blocks (p .setting)))
 
 -- the refusal that applies to a call, with these values as the track; 0 where none does
 unfoldable pub refusalOf : Track → Call → ℕ
 refusalOf t (home y x) = unless (inRange y && inRange x) 11 0
 refusalOf t (step p w threshold list table) =
-    firstRefusal (fieldRefusal (length (p .older)) (length (p .newer)) (requestOf (p .sizes) 2 w threshold) (length list) (length table))
+    firstRefusal (fieldRefusal (length (p .older)) (length (p .newer)) (requestOf (p .setting) 2 w threshold) (length list) (length table))
     (unless (t .homed) 31
     (unless (not (leb 1000000 (t .steps))) 32
     (unless (inRange (t .y +ℤ travel p w .dy) && inRange (t .x +ℤ travel p w .dx)) 33 0)))
@@ -136,7 +136,7 @@ refusalIn (stepping s) = s .stepped .answer .refusal
 
 unfoldable pub answerTo : Track → Call → Result
 answerTo t (home y x) = homing (trackHome t y x)
-answerTo t (step p w threshold list table) = stepping (trackStep t (p .older) (p .newer) (requestOf (p .sizes) 2 w threshold) list table)
+answerTo t (step p w threshold list table) = stepping (trackStep t (p .older) (p .newer) (requestOf (p .setting) 2 w threshold) list table)
 
 abbrev pub run : List Call → List Result
 run calls = runFrom answerTo trackIn trackNew calls
@@ -161,26 +161,26 @@ EachStep calls Q = EachCall reckon (AtStep Q) trackNew calls (run calls)
 
 -- each grid block
 abbrev pub EachBlock : Pair → (ℕ → Type 0) → Type 0
-EachBlock p Q = (k : ℕ) → k < blocks (p .sizes) → Q k
+EachBlock p Q = (k : ℕ) → k < blocks (p .setting) → Q k
 
 -- each grid block, by its row and column of pels
 abbrev pub EachGridPlace : Pair → (ℕ → ℕ → ℕ → Type 0) → Type 0
-EachGridPlace p Q = EachBlock p (λ k. Q k (blockRow (p .sizes) k) (blockColumn (p .sizes) k))
+EachGridPlace p Q = EachBlock p (λ k. Q k (blockRow (p .setting) k) (blockColumn (p .setting) k))
 
 -- each place where a block may stand, "on the grid or off it"
 abbrev pub EachPlace : Pair → (ℕ → ℕ → Type 0) → Type 0
-EachPlace p Q = (y x : ℕ) → y + p .sizes .n ≤ p .sizes .height → x + p .sizes .n ≤ p .sizes .width → Q y x
+EachPlace p Q = (y x : ℕ) → y + p .setting .n ≤ p .setting .height → x + p .setting .n ≤ p .setting .width → Q y x
 
 -- the sum over the grid's blocks
 abbrev pub overGrid : Pair → (ℕ → ℕ → ℕ) → ℕ
-overGrid p f = sumTo (λ k. f (blockRow (p .sizes) k) (blockColumn (p .sizes) k)) (blocks (p .sizes))
+overGrid p f = sumTo (λ k. f (blockRow (p .setting) k) (blockColumn (p .setting) k)) (blocks (p .setting))
 
 -- dy, dx and distortion of each grid block's exhaustive best, in order
 unfoldable pub bestEntries : Pair → ℕ → List ℤ
 bestEntries p w =
     concatTo (λ k.
     let v = bestOf p w k in
-    v .dy ∷ v .dx ∷ pos (distortion p (blockRow (p .sizes) k) (blockColumn (p .sizes) k) v) ∷ []) (blocks (p .sizes))
+    v .dy ∷ v .dx ∷ pos (distortion p (blockRow (p .setting) k) (blockColumn (p .setting) k) v) ∷ []) (blocks (p .setting))
 
 -- the distortion that a list reports for grid block k
 abbrev pub reported : List ℤ → ℕ → ℤ
@@ -197,17 +197,17 @@ vectorsAt (k ∷ ks) = preferred k ∷ vectorsAt ks
 -- "Dropped are the candidates that search 2's steps drop, finally measured the others."
 module _ (p : Pair) (w y x : ℕ) where
   abbrev pub isDropped : Vector → Bool
-  isDropped v = candidate (p .sizes) w y x v && isIn v (vectorsAt (pruning p w y x .dropped))
+  isDropped v = candidate (p .setting) w y x v && isIn v (vectorsAt (pruning p w y x .dropped))
 
   abbrev pub isMeasured : Vector → Bool
-  isMeasured v = candidate (p .sizes) w y x v && not (isIn v (vectorsAt (pruning p w y x .dropped)))
+  isMeasured v = candidate (p .setting) w y x v && not (isIn v (vectorsAt (pruning p w y x .dropped)))
 
 -- the single-block call and the field call on a pair
 abbrev pub blockOn : Pair → (search w t : ℕ) → (y x : ℕ) → SearchResult
-blockOn p search w t y x = searchBlock (p .older) (p .newer) (requestOf (p .sizes) search w t) y x
+blockOn p search w t y x = searchBlock (p .older) (p .newer) (requestOf (p .setting) search w t) y x
 
 abbrev pub fieldOn : Pair → (search w t : ℕ) → List ℤ → List ℕ → FieldResult
-fieldOn p search w t list table = field (p .older) (p .newer) (requestOf (p .sizes) search w t) list table
+fieldOn p search w t list table = field (p .older) (p .newer) (requestOf (p .setting) search w t) list table
 
 -- a block's result is not lower than the exhaustive best, after at most so many probes
 abbrev pub NotLower : Pair → ℕ → (y x : ℕ) → SearchResult → ℕ → Type 0
@@ -216,13 +216,13 @@ NotLower p w y x f most = (distortion p y x (best p w y x) ≤ f .distortion) ×
 -- no block of a field is lower than an accepted step's list has it, after at most so many probes a block
 abbrev pub FieldNotLower : Pair → List ℤ → FieldResult → ℕ → Type 0
 FieldNotLower p list f most =
-    EachBlock p (λ k. reported list k ≤ℤ reported (f .list) k) × (getD (f .answer .counts) lastCount 0 ≤ blocks (p .sizes) * most)
+    EachBlock p (λ k. reported list k ≤ℤ reported (f .list) k) × (getD (f .answer .counts) lastCount 0 ≤ blocks (p .setting) * most)
 
 -- every place a block may stand at, and every field whose list has room, is searched unrefused
 abbrev pub Runs : Pair → (search w t : ℕ) → Type 0
 Runs p search w t =
     EachPlace p (λ y x. blockOn p search w t y x .refusal ≡ 0)
-    × ((list : List ℤ) (table : List ℕ) → listSize (p .sizes) ≤ length list → fieldOn p search w t list table .answer .refusal ≡ 0)
+    × ((list : List ℤ) (table : List ℕ) → listSize (p .setting) ≤ length list → fieldOn p search w t list table .answer .refusal ≡ 0)
 
 pub record Promise (calls : List Call) : Type 0 where
   -- the track stands at the last accepted homing place plus the travels of all pairs accepted since, with their number as its steps
@@ -235,14 +235,14 @@ pub record Promise (calls : List Call) : Type 0 where
   pub refusals : EachCall reckon (λ t c r. refusalIn r ≡ refusalOf t c) trackNew calls (run calls)
   pub tracks : EachCall reckon (λ t c r. trackIn r ≡ reckon t c) trackNew calls (run calls)
   -- the travel is the reverse of the vector that most grid blocks have as exhaustive best, and that vector is the reading
-  pub travels : EachStep calls (λ p w list s. (v : Vector) × Most (bestOf p w) (blocks (p .sizes)) v × (travel p w ≡ turned v)
+  pub travels : EachStep calls (λ p w list s. (v : Vector) × Most (bestOf p w) (blocks (p .setting)) v × (travel p w ≡ turned v)
       × (s .stepped .answer .dy ≡ v .dy) × (s .stepped .answer .dx ≡ v .dx))
   -- a candidate of least distortion, by preference order: of each block's exhaustive best, on the grid or off it
   pub bests : EachStep calls (λ p w list s. EachPlace p (λ y x. Best p w y x (best p w y x)))
   -- "an accepted step .. lists each block's exhaustive best with that vector's distortion, the reported one"; places past them keep what they held
-  pub listed : EachStep calls (λ p w list s. s .list ≡ bestEntries p w ++ drop (listSize (p .sizes)) list)
+  pub listed : EachStep calls (λ p w list s. s .list ≡ bestEntries p w ++ drop (listSize (p .setting)) list)
   -- no candidate has less than the reported distortion,
-  pub no-less : EachStep calls (λ p w list s. EachGridPlace p (λ k y x. (v : Vector) → T (candidate (p .sizes) w y x v)
+  pub no-less : EachStep calls (λ p w list s. EachGridPlace p (λ k y x. (v : Vector) → T (candidate (p .setting) w y x v)
       → reported (s .list) k ≤ℤ pos (distortion p y x v)))
   -- and every dropped one has strictly more
   pub dropped-more : EachStep calls (λ p w list s. EachGridPlace p (λ k y x. (v : Vector) → T (isDropped p w y x v)
@@ -251,12 +251,12 @@ pub record Promise (calls : List Call) : Type 0 where
   pub block-results : EachStep calls (λ p w list s. EachPlace p (λ y x. let f = blockOn p 2 w 0 y x in
       (f .refusal ≡ 0) × (vectorIn f ≡ best p w y x) × (f .distortion ≡ distortion p y x (best p w y x))
       × (f .dropped ≡ howMany (isDropped p w y x)) × (probes f ≡ howMany (isMeasured p w y x))
-      × (f .dropped + probes f ≡ howMany (candidate (p .sizes) w y x))))
+      × (f .dropped + probes f ≡ howMany (candidate (p .setting) w y x))))
   -- "an accepted step answers with the sums over blocks": dropped, finally measured, and both together all candidates
   pub sums : EachStep calls (λ p w list s. let a = s .stepped .answer in
       (a .dropped ≡ overGrid p (λ y x. howMany (isDropped p w y x)))
       × (getD (a .counts) lastCount 0 ≡ overGrid p (λ y x. howMany (isMeasured p w y x)))
-      × (a .dropped + getD (a .counts) lastCount 0 ≡ overGrid p (λ y x. howMany (candidate (p .sizes) w y x))))
+      × (a .dropped + getD (a .counts) lastCount 0 ≡ overGrid p (λ y x. howMany (candidate (p .setting) w y x))))
   -- "Four-step and cross .. run, unrefused, by field or single block, on an accepted step's frames and N, cross with any T it takes."
   pub four-step-runs : EachStep calls (λ p w list s. Runs p 3 7 0)
   pub cross-runs : EachStep calls (λ p w list s. (u t : ℕ) → T (crossWindow u) → t ≤ largestDistortion → Runs p 4 u t)

@@ -21,13 +21,13 @@ use Rattle.pruned_rule.proofs.Pruned.{Safe}
 use Rattle.pruned_rule.proofs.Search.{PowerOfTwo, resolutions-many, safe}
 use Rattle.pruned.specs.Answer.{placeDistortion, placeDistance}
 
-pub block-fillable : (older newer : List ℕ) (b : SearchBlock) → Ready older newer b → Fillable newer (b .sizes .width) (blockRegion b) blockTable
+pub block-fillable : (older newer : List ℕ) (b : SearchBlock) → Ready older newer b → Fillable newer (b .setting .width) (blockRegion b) blockTable
 block-fillable older newer b r =
     let s = ready-standing older newer b r in
     let n = ready-size older newer b r in
     record {
       across = s .across;
-      down = le-trans (mul-le-mul-right (b .sizes .width) (s .down)) (omega (arith, r .placed .paired .newer-whole));
+      down = le-trans (mul-le-mul-right (b .setting .width) (s .down)) (omega (arith, r .placed .paired .newer-whole));
       wide = s .wide;
       high = omega (arith, n);
       table = mul-le-mul {n₂ = largestN + 1} {m₂ = largestN + 1} (omega (arith, n)) (omega (arith, n));
@@ -45,6 +45,6 @@ few-rounds = block-size-elim (λ n. length (resolutions n) < lastCount) (rw (res
 pub two-least : (n : ℕ) → T (blockSizeOk n) → 2 ≤ n
 two-least = block-size-elim (λ n. 2 ≤ n) (omega arith) (omega arith) (omega arith)
 
-pub safe-at : (p : Pair) (y x m : ℕ) → m ∣ p .sizes .n → Safe (placeDistortion p y x) (placeDistance p y x) (absolute .limit) m
+pub safe-at : (p : Pair) (y x m : ℕ) → m ∣ p .setting .n → Safe (placeDistortion p y x) (placeDistance p y x) (absolute .limit) m
 unfolding distortion
-safe-at p y x m h = safe absolute absolute-lawful (p .sizes .n) (newerBlock p y x) (λ k. olderBlock p y x (preferred k)) m h
+safe-at p y x m h = safe absolute absolute-lawful (p .setting .n) (newerBlock p y x) (λ k. olderBlock p y x (preferred k)) m h

@@ -29,52 +29,52 @@ module _ (p : Pair) (w y x : ℕ) where
   unfolding prunedSearch
   pruned-distortion = refl
 
-  pub pruned-counted : Counted (places (p .sizes) w y x) (pruning p w y x)
+  pub pruned-counted : Counted (places (p .setting) w y x) (pruning p w y x)
   unfolding pruning
   pruned-counted = prune-counted _ _ _ _ _ _ _
 
   -- no count exceeds the number of candidates
-  pub counts-at-most : (j : ℕ) → getD (prunedSearch p w y x .counts) j 0 ≤ length (places (p .sizes) w y x)
+  pub counts-at-most : (j : ℕ) → getD (prunedSearch p w y x .counts) j 0 ≤ length (places (p .setting) w y x)
   unfolding prunedSearch pruning
   counts-at-most = counts-few _ _ _ _ _ _ _
 
-  pub dropped-at-most : prunedSearch p w y x .dropped ≤ length (places (p .sizes) w y x)
+  pub dropped-at-most : prunedSearch p w y x .dropped ≤ length (places (p .setting) w y x)
   unfolding prunedSearch pruning
   dropped-at-most = dropped-few _ _ _ _ _ _ _
 
   -- dropped and finally measured are all candidates
-  pub all-counted : prunedSearch p w y x .dropped + length (pruning p w y x .left) ≡ length (places (p .sizes) w y x)
+  pub all-counted : prunedSearch p w y x .dropped + length (pruning p w y x .left) ≡ length (places (p .setting) w y x)
   unfolding prunedSearch pruning
   all-counted = search-counts _ _ _ _ _ _ _
 
   -- where N leaves at most three resolutions, five counts are enough: the last, at m = 1, is how many are finally measured
-  pub measured : length (resolutions (p .sizes .n)) < lastCount → probes (prunedSearch p w y x) ≡ length (pruning p w y x .left)
+  pub measured : length (resolutions (p .setting .n)) < lastCount → probes (prunedSearch p w y x) ≡ length (pruning p w y x .left)
   unfolding prunedSearch pruning
   measured few = last-count _ _ _ _ _ _ _ few
 
 -- N a power of two, and the block wholly inside
-module _ (p : Pair) (w y x : ℕ) (power : PowerOfTwo (p .sizes .n)) (small : w ≤ 16) (down : y + p .sizes .n ≤ p .sizes .height)
-    (across : x + p .sizes .n ≤ p .sizes .width) where
+module _ (p : Pair) (w y x : ℕ) (power : PowerOfTwo (p .setting .n)) (small : w ≤ 16) (down : y + p .setting .n ≤ p .setting .height)
+    (across : x + p .setting .n ≤ p .setting .width) where
   -- E begins as the distortion of (0,0), the candidate at place 0
   still-is : placeDistortion p y x 0 ≡ stillDistortion p y x
   still-is = ap (distortion p y x) first-still
 
-  given : Attained (placeDistortion p y x) (places (p .sizes) w y x) (stillDistortion p y x)
+  given : Attained (placeDistortion p y x) (places (p .setting) w y x) (stillDistortion p y x)
   given = still-attained (placeDistortion p y x) _ 1088 (stillDistortion p y x) (still-passes p w y x small down across) still-is
 
   -- what holds of the candidates left and those dropped
-  pub pruned-holds : Holds (placeDistortion p y x) (places (p .sizes) w y x) (pruning p w y x)
+  pub pruned-holds : Holds (placeDistortion p y x) (places (p .setting) w y x) (pruning p w y x)
   unfolding pruning
-  pruned-holds = prune-holds _ _ _ _ _ _ _ given (λ m i. safe-at p y x m (resolutions-divide (p .sizes .n) power m i))
+  pruned-holds = prune-holds _ _ _ _ _ _ _ given (λ m i. safe-at p y x m (resolutions-divide (p .setting .n) power m i))
 
   -- the answer is the exhaustive best
   pub pruned-best : Best p w y x (vectorIn (prunedSearch p w y x))
   unfolding prunedSearch prunedPlace distortion
   pruned-best =
       best-below p w y x small (prunedPlace p w y x)
-      (search-best absolute absolute-lawful (p .sizes .n) (newerBlock p y x) (λ k. olderBlock p y x (preferred k)) (resolutions (p .sizes .n))
+      (search-best absolute absolute-lawful (p .setting .n) (newerBlock p y x) (λ k. olderBlock p y x (preferred k)) (resolutions (p .setting .n))
       (stillDistortion p y x)
-      (resolutions-divide (p .sizes .n) power) _ 1088 (still-passes p w y x small down across) still-is)
+      (resolutions-divide (p .setting .n) power) _ 1088 (still-passes p w y x small down across) still-is)
 
   -- which is one vector: what the full search answers with
   pub pruned-is-best : vectorIn (prunedSearch p w y x) ≡ best p w y x
@@ -84,13 +84,13 @@ module _ (p : Pair) (w y x : ℕ) (power : PowerOfTwo (p .sizes .n)) (small : w 
   pub pruned-drops : {k : ℕ} → k ∈ pruning p w y x .dropped → prunedSearch p w y x .distortion < distortion p y x (preferred k)
   unfolding prunedSearch prunedPlace pruning distortion
   pruned-drops i =
-      search-drops absolute absolute-lawful (p .sizes .n) (newerBlock p y x) (λ k. olderBlock p y x (preferred k)) (resolutions (p .sizes .n))
-      (places (p .sizes) w y x) (stillDistortion p y x) given (resolutions-divide (p .sizes .n) power) i
+      search-drops absolute absolute-lawful (p .setting .n) (newerBlock p y x) (λ k. olderBlock p y x (preferred k)) (resolutions (p .setting .n))
+      (places (p .setting) w y x) (stillDistortion p y x) given (resolutions-divide (p .setting .n) power) i
 
 -- the N that are allowed: 4, 8 and 16
-module _ (p : Pair) (w y x : ℕ) (allowed : T (blockSizeOk (p .sizes .n))) where
+module _ (p : Pair) (w y x : ℕ) (allowed : T (blockSizeOk (p .setting .n))) where
   pub pruned-probes : probes (prunedSearch p w y x) ≡ length (pruning p w y x .left)
-  pruned-probes = measured p w y x (few-rounds (p .sizes .n) allowed)
+  pruned-probes = measured p w y x (few-rounds (p .setting .n) allowed)
 
-  pub pruned-adds : prunedSearch p w y x .dropped + probes (prunedSearch p w y x) ≡ length (places (p .sizes) w y x)
+  pub pruned-adds : prunedSearch p w y x .dropped + probes (prunedSearch p w y x) ≡ length (places (p .setting) w y x)
   pruned-adds = ap (_+_ _) pruned-probes ∙ all-counted p w y x

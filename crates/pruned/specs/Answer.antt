@@ -21,16 +21,16 @@ abbrev pub placeDistortion : Pair → ℕ → ℕ → ℕ → ℕ
 placeDistortion p y x k = distortion p y x (preferred k)
 
 abbrev pub placeDistance : Pair → ℕ → ℕ → ℕ → ℕ → ℕ
-placeDistance p y x = distances absolute (p .sizes .n) (newerBlock p y x) (λ k. olderBlock p y x (preferred k))
+placeDistance p y x = distances absolute (p .setting .n) (newerBlock p y x) (λ k. olderBlock p y x (preferred k))
 
 module _ (p : Pair) (w y x : ℕ) where
   unfoldable pub pruning : Pruning
-  pruning = prune (stillDistortion p y x) (placeDistortion p y x) (placeDistance p y x) (absolute .limit) (p .sizes .n) (resolutions (p .sizes .n))
-      (places (p .sizes) w y x)
+  pruning = prune (stillDistortion p y x) (placeDistortion p y x) (placeDistance p y x) (absolute .limit) (p .setting .n) (resolutions (p .setting .n))
+      (places (p .setting) w y x)
 
   unfoldable pub prunedPlace : ℕ
-  prunedPlace = prunedBest (stillDistortion p y x) (placeDistortion p y x) (placeDistance p y x) (absolute .limit) (p .sizes .n) (resolutions (p .sizes .n))
-      (places (p .sizes) w y x)
+  prunedPlace = prunedBest (stillDistortion p y x) (placeDistortion p y x) (placeDistance p y x) (absolute .limit) (p .setting .n) (resolutions (p .setting .n))
+      (places (p .setting) w y x)
 
   unfoldable pub prunedSearch : SearchResult
   prunedSearch = searchResult (preferred prunedPlace) (distortion p y x (preferred prunedPlace)) (counts pruning) (length (pruning .dropped))

@@ -19,11 +19,11 @@ pub fn search(
     a: Region,
 ) -> SearchResult
     requires { ⌜ Lent (now older) (now newer) b (now sums) a × (now order ≡ flat preference) ⌝ }
-    ensures { λ r. ⌜ r ≡ prunedSearch (pairOf (now (older .entry)) (now (newer .entry)) (b .sizes)) (b .w) (b .y) (b .x) ⌝ }
+    ensures { λ r. ⌜ r ≡ prunedSearch (pairOf (now (older .entry)) (now (newer .entry)) (b .setting)) (b .w) (b .y) (b .x) ⌝ }
 {
     let mut remaining = [0u16; order::VECTORS];
     let mut dist = [0u32; order::VECTORS];
-    let s = b.sizes;
+    let s = b.setting;
     let n = s.n;
     let mut blocksums = [0u32; pruned_sums::BLOCK_TABLE];
     pruned_sums::fill_sums(

@@ -35,16 +35,16 @@ pub record Reach (b : SearchBlock) (a w : Region) : Type 0 where
   pub few-columns : w .columns ≤ 33
   pub top : a .top ≤ w .top
   pub left : a .left ≤ w .left
-  pub down : (i : ℕ) → i < w .rows → w .top - a .top + i + b .sizes .n ≤ a .rows
-  pub across : (j : ℕ) → j < w .columns → w .left - a .left + j + b .sizes .n ≤ a .columns
+  pub down : (i : ℕ) → i < w .rows → w .top - a .top + i + b .setting .n ≤ a .rows
+  pub across : (j : ℕ) → j < w .columns → w .left - a .left + j + b .setting .n ≤ a .columns
 
 module _ (older newer : List ℕ) (b : SearchBlock) (sums : List ℕ) (a : Region) (m : ℕ) (remaining : List ℕ) (count : ℕ)
     (t : Tested older newer b sums a m remaining count) where
   abbrev n : ℕ
-  n = b .sizes .n
+  n = b .setting .n
 
   abbrev width : ℕ
-  width = b .sizes .width
+  width = b .setting .width
 
   abbrev blocksums : Block
   blocksums = blockAt newer width (b .y) (b .x)
@@ -64,14 +64,14 @@ module _ (older newer : List ℕ) (b : SearchBlock) (sums : List ℕ) (a : Regio
     pub column : Past (vector i .dx) (b .x) 0
     pub above : b .y ≤ olderRow (b .y) (vector i) + b .w
     pub below : olderRow (b .y) (vector i) ≤ b .y + b .w
-    pub down : olderRow (b .y) (vector i) + n ≤ b .sizes .height
+    pub down : olderRow (b .y) (vector i) + n ≤ b .setting .height
     pub before : b .x ≤ olderColumn (b .x) (vector i) + b .w
     pub behind : olderColumn (b .x) (vector i) ≤ b .x + b .w
     pub across : olderColumn (b .x) (vector i) + n ≤ width
 
   pub at-candidate : (i : ℕ) → i < count → At i
   at-candidate i h =
-      let o = candidate-older (b .sizes) (b .w) (b .y) (b .x) (vector i) (t .listed .each i h .1) in
+      let o = candidate-older (b .setting) (b .w) (b .y) (b .x) (vector i) (t .listed .each i h .1) in
       let at = candidate-past older newer b (vector i) (t .lent .ready) (t .listed .each i h .1) in
       let p = parts (vector i .dy) in
       let q = parts (vector i .dx) in

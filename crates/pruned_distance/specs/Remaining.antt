@@ -30,16 +30,16 @@ pub record Reached (o : Origin) (v : Vector) : Type 0 where
 
 abbrev pub distanceOf : List ℕ → List ℕ → SearchBlock → ℕ → ℕ → ℕ
 distanceOf older newer b m k =
-    distanceBy absolute (b .sizes .n) m (blockAt newer (b .sizes .width) (b .y) (b .x))
-    (blockAt older (b .sizes .width) (olderRow (b .y) (preferred k)) (olderColumn (b .x) (preferred k)))
+    distanceBy absolute (b .setting .n) m (blockAt newer (b .setting .width) (b .y) (b .x))
+    (blockAt older (b .setting .width) (olderRow (b .y) (preferred k)) (olderColumn (b .x) (preferred k)))
 
 pub record Lent (older newer : List ℕ) (b : SearchBlock) (sums : List ℕ) (a : Region) : Type 0 where
   pub ready : Ready older newer b
   pub covers : Covers b a
-  pub table : SumsOf (blockAt older (b .sizes .width) (a .top) (a .left)) (a .rows) (a .columns) sums
+  pub table : SumsOf (blockAt older (b .setting .width) (a .top) (a .left)) (a .rows) (a .columns) sums
 
 pub record Tested (older newer : List ℕ) (b : SearchBlock) (sums : List ℕ) (a : Region) (m : ℕ) (remaining : List ℕ) (count : ℕ) : Type 0 where
   pub lent : Lent older newer b sums a
-  pub whole : b .sizes .n / m * m ≡ b .sizes .n
+  pub whole : b .setting .n / m * m ≡ b .setting .n
   pub two : 2 ≤ m
   pub listed : ListedCandidates b remaining count

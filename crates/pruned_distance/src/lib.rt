@@ -113,7 +113,7 @@ fn fill_many(
     dist: &mut [u32; order::VECTORS],
 )
     requires { ⌜ (now order ≡ flat preference) × (length (now dist) ≡ vectorCount) × Tested (now older) (now newer) b (now sums) a m (now remaining) count ⌝ }
-    requires { ⌜ (k * m ≡ b .sizes .n) × Cut (blockAt (now newer) (b .sizes .width) (b .y) (b .x)) m k (a .columns + 1) (now block) (now steps) ⌝ }
+    requires { ⌜ (k * m ≡ b .setting .n) × Cut (blockAt (now newer) (b .setting .width) (b .y) (b .x)) m k (a .columns + 1) (now block) (now steps) ⌝ }
     ensures { λ _. ⌜ now (dist .exit) ≡ fillTo (now (dist .entry)) 0
         (λ i. distanceOf (now (older .entry)) (now (newer .entry)) b m (getD (now (remaining .entry)) i 0)) count ⌝ }
 {
@@ -163,7 +163,7 @@ pub fn fill_distances(
     ensures { λ _. ⌜ now (dist .exit) ≡ fillTo (now (dist .entry)) 0
         (λ i. distanceOf (now (older .entry)) (now (newer .entry)) b m (getD (now (remaining .entry)) i 0)) count ⌝ }
 {
-    let s = b.sizes;
+    let s = b.setting;
     let y = b.y;
     let x = b.x;
     let k = s.n / m;

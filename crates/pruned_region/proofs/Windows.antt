@@ -12,7 +12,7 @@ use Rattle.search.specs.Target.{Ready}
 use Rattle.pruned_sums.specs.Filling.{windowTable, Fillable}
 use Rattle.pruned_region.specs.Reach.{Standing, cornerRegion, searchWindow, wholeFrame, Covers}
 
-pub covers-frame : (b : SearchBlock) → Covers b (wholeFrame (b .sizes))
+pub covers-frame : (b : SearchBlock) → Covers b (wholeFrame (b .setting))
 covers-frame b = record {
   high = omega arith;
   wide = omega arith;
@@ -50,14 +50,14 @@ covers-window b s = record {
 }
 
 -- room for N + 2 w rows and columns
-pub window-fillable : (older : List ℕ) (b : SearchBlock) → Standing b → b .sizes .n ≤ largestN → b .sizes .height * b .sizes .width ≤ length older
-    → Fillable older (b .sizes .width) (searchWindow b) windowTable
+pub window-fillable : (older : List ℕ) (b : SearchBlock) → Standing b → b .setting .n ≤ largestN → b .setting .height * b .setting .width ≤ length older
+    → Fillable older (b .setting .width) (searchWindow b) windowTable
 unfolding searchWindow cornerRegion
 window-fillable older b s n h =
     let v = covers-window b s in
     record {
       across = v .wide;
-      down = le-trans (mul-le-mul-right (b .sizes .width) (v .high)) h;
+      down = le-trans (mul-le-mul-right (b .setting .width) (v .high)) h;
       wide = s .wide;
       high = omega (arith, s .window, n);
       table = mul-le-mul {n₂ = largestN + 32 + 1} {m₂ = largestN + 32 + 1} (omega (arith, s .window, n)) (omega (arith, s .window, n));
@@ -70,5 +70,5 @@ module _ (older newer : List ℕ) (b : SearchBlock) (r : Ready older newer b) wh
       let p = r .placed in
       record { down = p .down; across = p .across; high = p .paired .fitting .high; wide = p .paired .fitting .wide; window = r .window }
 
-  pub ready-size : b .sizes .n ≤ largestN
-  ready-size = block-size-elim (λ n. n ≤ largestN) (omega arith) (omega arith) (omega arith) (b .sizes .n) (r .placed .paired .allowed)
+  pub ready-size : b .setting .n ≤ largestN
+  ready-size = block-size-elim (λ n. n ≤ largestN) (omega arith) (omega arith) (omega arith) (b .setting .n) (r .placed .paired .allowed)

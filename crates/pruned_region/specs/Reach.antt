@@ -6,20 +6,20 @@
 --   wholeFrame     all of a frame
 --   Covers         a part of the older frame that holds the older block of every candidate
 use Prim.Native.Nat.{ℕ, _+_, _-_, _≤_, min}
-use Rattle.frame.specs.declared.Sizes.{Sizes}
+use Rattle.frame.specs.declared.Setting.{Setting}
 use Rattle.frame.specs.declared.SearchBlock.{SearchBlock}
 use Rattle.frame.specs.declared.Region.{Region}
 
 pub record Standing (b : SearchBlock) : Type 0 where
-  pub down : b .y + b .sizes .n ≤ b .sizes .height
-  pub across : b .x + b .sizes .n ≤ b .sizes .width
-  pub high : b .sizes .height ≤ 1024
-  pub wide : b .sizes .width ≤ 1024
+  pub down : b .y + b .setting .n ≤ b .setting .height
+  pub across : b .x + b .setting .n ≤ b .setting .width
+  pub high : b .setting .height ≤ 1024
+  pub wide : b .setting .width ≤ 1024
   pub window : b .w ≤ 16
 
 unfoldable pub cornerRegion : SearchBlock → Region
 cornerRegion b =
-    let s = b .sizes in
+    let s = b .setting in
     record {
       top = b .y - b .w;
       left = b .x - b .w;
@@ -30,16 +30,16 @@ cornerRegion b =
 unfoldable pub searchWindow : SearchBlock → Region
 searchWindow b =
     let r = cornerRegion b in
-    record { top = r .top; left = r .left; rows = r .rows + b .sizes .n - 1; columns = r .columns + b .sizes .n - 1 }
+    record { top = r .top; left = r .left; rows = r .rows + b .setting .n - 1; columns = r .columns + b .setting .n - 1 }
 
-abbrev pub wholeFrame : Sizes → Region
+abbrev pub wholeFrame : Setting → Region
 wholeFrame s = record { top = 0; left = 0; rows = s .height; columns = s .width }
 
 -- a candidate's older block stands at a row r within w of y, a column c within w of x, inside the frame
 pub record Covers (b : SearchBlock) (a : Region) : Type 0 where
-  pub high : a .top + a .rows ≤ b .sizes .height
-  pub wide : a .left + a .columns ≤ b .sizes .width
+  pub high : a .top + a .rows ≤ b .setting .height
+  pub wide : a .left + a .columns ≤ b .setting .width
   pub above : (r : ℕ) → b .y ≤ r + b .w → a .top ≤ r
-  pub below : (r : ℕ) → r ≤ b .y + b .w → r + b .sizes .n ≤ b .sizes .height → r + b .sizes .n ≤ a .top + a .rows
+  pub below : (r : ℕ) → r ≤ b .y + b .w → r + b .setting .n ≤ b .setting .height → r + b .setting .n ≤ a .top + a .rows
   pub before : (c : ℕ) → b .x ≤ c + b .w → a .left ≤ c
-  pub behind : (c : ℕ) → c ≤ b .x + b .w → c + b .sizes .n ≤ b .sizes .width → c + b .sizes .n ≤ a .left + a .columns
+  pub behind : (c : ℕ) → c ≤ b .x + b .w → c + b .setting .n ≤ b .setting .width → c + b .setting .n ≤ a .left + a .columns

@@ -25,7 +25,7 @@ pub fn corner_region(b: SearchBlock) -> Region
     requires { ⌜ Standing b ⌝ }
     ensures { λ r. ⌜ r ≡ cornerRegion b ⌝ }
 {
-    let s = b.sizes;
+    let s = b.setting;
     let y = b.y;
     let x = b.x;
     let w = b.w;
@@ -44,7 +44,7 @@ pub fn search_window(b: SearchBlock) -> Region
     requires { ⌜ Standing b ⌝ }
     ensures { λ r. ⌜ r ≡ searchWindow b ⌝ }
 {
-    let s = b.sizes;
+    let s = b.setting;
     let r = corner_region(b);
     Region {
         top: r.top,

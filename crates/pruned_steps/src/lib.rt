@@ -46,10 +46,10 @@ pub fn begin(
     total: usize,
 ) -> PruneState
     requires { ⌜ Ready (now older) (now newer) b × (now order ≡ flat preference) ⌝ }
-    ensures { λ r. ⌜ Begun (stillDistortion (pairOf (now (older .entry)) (now (newer .entry)) (b .sizes)) (b .y) (b .x)) (b .sizes .n) total r ⌝ }
+    ensures { λ r. ⌜ Begun (stillDistortion (pairOf (now (older .entry)) (now (newer .entry)) (b .setting)) (b .y) (b .x)) (b .setting .n) total r ⌝ }
 {
     let bound = candidates::distortion_of(older, newer, order, b, 0, 4294967295);
-    let s = b.sizes;
+    let s = b.setting;
     let slot = first_slot(s.n);
     PruneState {
         count: total,

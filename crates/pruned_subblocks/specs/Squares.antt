@@ -27,10 +27,10 @@ abbrev pub mostSquares : ℕ
 mostSquares = (largestN / 2) * (largestN / 2)
 
 abbrev pub blockRegion : SearchBlock → Region
-blockRegion b = record { top = b .y; left = b .x; rows = b .sizes .n; columns = b .sizes .n }
+blockRegion b = record { top = b .y; left = b .x; rows = b .setting .n; columns = b .setting .n }
 
 abbrev pub BlockSums : List ℕ → SearchBlock → List ℕ → Type 0
-BlockSums newer b blocksums = SumsOf (blockAt newer (b .sizes .width) (b .y) (b .x)) (b .sizes .n) (b .sizes .n) blocksums
+BlockSums newer b blocksums = SumsOf (blockAt newer (b .setting .width) (b .y) (b .x)) (b .setting .n) (b .setting .n) blocksums
 
 abbrev pub blockSquareSum : List ℕ → Subblocks → ℕ → ℕ → ℕ
 blockSquareSum blocksums s p q = squareSumAt blocksums (s .m * s .blockstride) (s .m) (p * s .m * s .blockstride + q * s .m)

@@ -76,7 +76,7 @@ pub fn cut(blocksums: &[u32], s: Subblocks, block: &mut [u32], steps: &mut [usiz
 pub fn block_region(b: SearchBlock) -> Region
     ensures { λ r. ⌜ r ≡ blockRegion b ⌝ }
 {
-    let s = b.sizes;
+    let s = b.setting;
     let n = s.n;
     let top = b.y;
     let left = b.x;

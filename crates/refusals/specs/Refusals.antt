@@ -1,9 +1,9 @@
--- The refusals 1 to 7: each rule as a test, and each call's tests as one chain. 01, "What the input can be turned away for": "Checked in this order,
+-- The refusals 1 to 7 and 51: each rule as a test, and each call's tests as one chain. 01, "What the input can be turned away for": "Checked in this order,
 -- as far as a call has the input." Each rule's own words stand at its test.
---   sideOk 1 · frameOk 2 · blockOk 3 · searchOk 4 · windowOk 5 · thresholdOk 6 · placeOk 7   what each number asks for
+--   sideOk 1 · frameOk 2 · blockOk 3 · searchOk 4 · windowOk 5 · thresholdOk 6 · placeOk 7   what each number asks for; measureOk 51: measures/specs/Measures.antt
 --   pairRefusal     1 2 3: what every call with a pair tests first
---   placedRefusal   1 2 3 7: a pair, N and a block's place
---   requestRefusal  1 2 3 4 5 6: a pair and a search
+--   placedRefusal   1 2 3 51 7: a pair, N, the measure and a block's place
+--   requestRefusal  1 2 3 4 51 5 6: a pair and a search. 02, request 1: 51 is "tested after 4", and where a call has no search number after 3
 -- A chain is 0 where the call is accepted; `paired`, `placed` and `requested` say all that follows. The frames come in by their lengths.
 use Prim.Native.Nat.{ℕ, zero, suc, _+_, _*_, _≤_, _<_}
 use mathlib.Core.Path.{_≡_, refl}
@@ -12,9 +12,10 @@ use mathlib.Core.Logic.{⊎-elim}
 use native.Mathlib.Omega.{arith}
 use lib.Dec.{T, leb, eqb, leb→le, eqb→eq}
 use Rattle.base.specs.Tests.{and-left, and-right, or-cases, le-both, eqb-subst}
-use Rattle.frame.specs.declared.Sizes.{Sizes}
+use Rattle.measures.specs.Measures.{measureOk}
+use Rattle.frame.specs.declared.Setting.{Setting}
 use Rattle.refusals.specs.declared.Request.{Request}
-use Rattle.frame.specs.Pictures.{sizes, largestDistortion, Fitting}
+use Rattle.frame.specs.Pictures.{setting, largestDistortion, Fitting}
 use Rattle.refusals.specs.Cross.{crossWindow, cross}
 
 -- the number where the test fails, else the rest of the chain
@@ -34,14 +35,14 @@ abbrev pub sideOk : ℕ → Bool
 sideOk a = leb 4 a && leb a 1024
 
 -- 2 a frame of another length: "the lent slice has exactly width × height bytes"
-abbrev pub frameOk : Sizes → ℕ → Bool
+abbrev pub frameOk : Setting → ℕ → Bool
 frameOk s pels = eqb pels (s .height * s .width)
 
 -- 3 N not allowed or too big: "Block size N is 4, 8 or 16, at most width and height"
 unfoldable pub blockSizeOk : ℕ → Bool
 blockSizeOk n = eqb n 4 || (eqb n 8 || eqb n 16)
 
-abbrev pub blockOk : Sizes → Bool
+abbrev pub blockOk : Setting → Bool
 blockOk s = blockSizeOk (s .n) && (leb (s .n) (s .width) && leb (s .n) (s .height))
 
 -- 4 search not 1 to 4
@@ -52,38 +53,42 @@ searchOk search = leb 1 search && leb search 4
 unfoldable pub windowOk : ℕ → ℕ → Bool
 windowOk search w = cond (leb search 2) (leb w 16) (cond (eqb search 3) (eqb w 7) (crossWindow w))
 
--- 6 T over 65,280, or not 0 with search 1, 2 or 3
-unfoldable pub thresholdOk : ℕ → ℕ → Bool
-thresholdOk search t = cond (eqb search 4) (leb t largestDistortion) (eqb t 0)
+-- 6 T over 65,280, by squares over 16,646,400, or not 0 with search 1, 2 or 3
+unfoldable pub thresholdOk : ℕ → ℕ → ℕ → Bool
+thresholdOk search measure t = cond (eqb search 4) (leb t (largestDistortion measure)) (eqb t 0)
 
 -- 7 single block: not wholly inside the newer frame
-abbrev pub placeOk : Sizes → ℕ → ℕ → Bool
+abbrev pub placeOk : Setting → ℕ → ℕ → Bool
 placeOk s y x = leb (y + s .n) (s .height) && leb (x + s .n) (s .width)
 
 -- ---- the chains
 
-unfoldable pub pairRefusal : ℕ → ℕ → Sizes → ℕ
+unfoldable pub pairRefusal : ℕ → ℕ → Setting → ℕ
 pairRefusal older newer s =
     unless (sideOk (s .width) && sideOk (s .height)) 1
     (unless (frameOk s older && frameOk s newer) 2
     (unless (blockOk s) 3 0))
 
-unfoldable pub placedRefusal : ℕ → ℕ → Sizes → ℕ → ℕ → ℕ
-placedRefusal older newer s y x = firstRefusal (pairRefusal older newer s) (unless (placeOk s y x) 7 0)
+unfoldable pub placedRefusal : ℕ → ℕ → Setting → ℕ → ℕ → ℕ
+placedRefusal older newer s y x =
+    firstRefusal (pairRefusal older newer s)
+    (unless (measureOk (s .measure)) 51
+    (unless (placeOk s y x) 7 0))
 
-abbrev pub sizesOf : Request → Sizes
-sizesOf q = sizes (q .width) (q .height) (q .n)
+abbrev pub settingOf : Request → Setting
+settingOf q = setting (q .width) (q .height) (q .n) (q .measure)
 
--- and a request at these sizes
-abbrev pub requestOf : Sizes → (search w t : ℕ) → Request
-requestOf s search w t = record { width = s .width; height = s .height; n = s .n; search = search; w = w; t = t }
+-- and a request at this setting
+abbrev pub requestOf : Setting → (search w t : ℕ) → Request
+requestOf s search w t = record { width = s .width; height = s .height; n = s .n; search = search; w = w; t = t; measure = s .measure }
 
 unfoldable pub requestRefusal : ℕ → ℕ → Request → ℕ
 requestRefusal older newer q =
-    firstRefusal (pairRefusal older newer (sizesOf q))
+    firstRefusal (pairRefusal older newer (settingOf q))
     (unless (searchOk (q .search)) 4
+    (unless (measureOk (q .measure)) 51
     (unless (windowOk (q .search) (q .w)) 5
-    (unless (thresholdOk (q .search) (q .t)) 6 0)))
+    (unless (thresholdOk (q .search) (q .measure) (q .t)) 6 0))))
 
 -- ---- what an accepted call may go by
 
@@ -117,28 +122,29 @@ block-size-elim P p4 p8 p16 n t =
     (λ u. ⊎-elim (eqb-subst P n 8 p8) (eqb-subst P n 16 p16) (or-cases (eqb n 8) (eqb n 16) u))
     (or-cases (eqb n 4) (eqb n 8 || eqb n 16) t)
 
--- 1 2 3: sizes at which a block fits, N as blockSizeOk, both frames whole
-pub record Paired (older newer : ℕ) (s : Sizes) : Type 0 where
+-- 1 2 3: a setting at which a block fits, N as blockSizeOk, both frames whole
+pub record Paired (older newer : ℕ) (s : Setting) : Type 0 where
   pub fitting : Fitting s
   pub allowed : T (blockSizeOk (s .n))
   pub older-whole : older ≡ s .height * s .width
   pub newer-whole : newer ≡ s .height * s .width
 
--- 1 2 3 7: also, the block lies in the newer frame
-pub record Placed (older newer : ℕ) (s : Sizes) (y x : ℕ) : Type 0 where
+-- 1 2 3 51 7: also, the block lies in the newer frame
+pub record Placed (older newer : ℕ) (s : Setting) (y x : ℕ) : Type 0 where
   pub paired : Paired older newer s
   pub down : y + s .n ≤ s .height
   pub across : x + s .n ≤ s .width
 
--- 1 2 3 4 5 6: also, a search with a window and a threshold that it takes
+-- 1 2 3 4 51 5 6: also, a search with a measure, a window and a threshold that it takes
 pub record Requested (older newer : ℕ) (q : Request) : Type 0 where
-  pub paired : Paired older newer (sizesOf q)
+  pub paired : Paired older newer (settingOf q)
   pub least : 1 ≤ q .search
   pub most : q .search ≤ 4
+  pub measure : T (measureOk (q .measure))
   pub window : T (windowOk (q .search) (q .w))
-  pub threshold : T (thresholdOk (q .search) (q .t))
+  pub threshold : T (thresholdOk (q .search) (q .measure) (q .t))
 
-pub fitting : (s : Sizes) → T (sideOk (s .width) && sideOk (s .height)) → T (blockOk s) → Fitting s
+pub fitting : (s : Setting) → T (sideOk (s .width) && sideOk (s .height)) → T (blockOk s) → Fitting s
 fitting s t u =
     let w = and-left (sideOk (s .width)) (sideOk (s .height)) t in
     let h = and-right (sideOk (s .width)) (sideOk (s .height)) t in
@@ -152,7 +158,7 @@ fitting s t u =
       high = side-high (s .height) h;
     }
 
-pub paired : (older newer : ℕ) (s : Sizes) → pairRefusal older newer s ≡ 0 → Paired older newer s
+pub paired : (older newer : ℕ) (s : Setting) → pairRefusal older newer s ≡ 0 → Paired older newer s
 unfolding pairRefusal
 paired older newer s e =
     let a = unless-zero (sideOk (s .width) && sideOk (s .height)) 0 _ e in
@@ -165,22 +171,24 @@ paired older newer s e =
       newer-whole = eqb→eq newer (s .height * s .width) (and-right (frameOk s older) (frameOk s newer) (b .0));
     }
 
-pub placed : (older newer : ℕ) (s : Sizes) (y x : ℕ) → placedRefusal older newer s y x ≡ 0 → Placed older newer s y x
+pub placed : (older newer : ℕ) (s : Setting) (y x : ℕ) → placedRefusal older newer s y x ≡ 0 → Placed older newer s y x
 unfolding placedRefusal
 placed older newer s y x e =
     let a = first-refusal-zero (pairRefusal older newer s) _ e in
-    let b = le-both (y + s .n) (s .height) (x + s .n) (s .width) (unless-zero (placeOk s y x) 6 0 (a .1) .0) in
+    let m = unless-zero (measureOk (s .measure)) 50 _ (a .1) in
+    let b = le-both (y + s .n) (s .height) (x + s .n) (s .width) (unless-zero (placeOk s y x) 6 0 (m .1) .0) in
     record { paired = paired older newer s (a .0); down = b .0; across = b .1 }
 
 pub requested : (older newer : ℕ) (q : Request) → requestRefusal older newer q ≡ 0 → Requested older newer q
 unfolding requestRefusal
 requested older newer q e =
-    let a = first-refusal-zero (pairRefusal older newer (sizesOf q)) _ e in
+    let a = first-refusal-zero (pairRefusal older newer (settingOf q)) _ e in
     let b = unless-zero (searchOk (q .search)) 3 _ (a .1) in
-    let c = unless-zero (windowOk (q .search) (q .w)) 4 _ (b .1) in
-    let d = unless-zero (thresholdOk (q .search) (q .t)) 5 0 (c .1) in
+    let m = unless-zero (measureOk (q .measure)) 50 _ (b .1) in
+    let c = unless-zero (windowOk (q .search) (q .w)) 4 _ (m .1) in
+    let d = unless-zero (thresholdOk (q .search) (q .measure) (q .t)) 5 0 (c .1) in
     let r = le-both 1 (q .search) (q .search) 4 (b .0) in
-    record { paired = paired older newer (sizesOf q) (a .0); least = r .0; most = r .1; window = c .0; threshold = d .0 }
+    record { paired = paired older newer (settingOf q) (a .0); least = r .0; most = r .1; measure = m .0; window = c .0; threshold = d .0 }
 
 -- no search takes a window over 16
 pub window-small : (search w : ℕ) → T (windowOk search w) → w ≤ 16

@@ -1,14 +1,14 @@
-// The refusals 1 to 7: each rule as a test, and the chains of tests with which the calls begin.
+// The refusals 1 to 7 and 51: each rule as a test, and the chains of tests with which the calls begin.
 
 ghost use mathlib.Core.Path.{_≡_};
 ghost use Prim.Native.Nat.{_+_};
 ghost use lib.Dec.{leb};
 ghost use Rattle.refusals.specs.Cross.{crossWindow, log2};
 ghost use Rattle.refusals.specs.Refusals.{sideOk, blockSizeOk, blockOk, searchOk, windowOk};
-ghost use Rattle.refusals.specs.Refusals.{thresholdOk, placeOk, pairRefusal, placedRefusal, requestRefusal, sizesOf};
-use frame::Sizes;
+ghost use Rattle.refusals.specs.Refusals.{thresholdOk, placeOk, pairRefusal, placedRefusal, requestRefusal, settingOf};
+use frame::Setting;
 
-// A request for a search: the sizes, the search 1 to 4, its window w, and the threshold T of search 4.
+// A request for a search: the frames' width and height, N, the search 1 to 4, its window w, the threshold T of search 4, and the measure.
 #[repr(C)]
 pub struct Request {
     pub width: usize,
@@ -17,13 +17,14 @@ pub struct Request {
     pub search: u32,
     pub w: usize,
     pub t: u32,
+    pub measure: u32,
 }
 
-// The sizes of a request.
-pub fn sizes_of(q: Request) -> Sizes
-    ensures { λ r. ⌜ r ≡ sizesOf q ⌝ }
+// The setting of a request.
+pub fn setting_of(q: Request) -> Setting
+    ensures { λ r. ⌜ r ≡ settingOf q ⌝ }
 {
-    frame::sizes_by(q.width, q.height, q.n)
+    frame::setting_by(q.width, q.height, q.n, q.measure)
 }
 
 // ---- the rules
@@ -52,7 +53,7 @@ pub fn block_size_ok(n: usize) -> bool
 }
 
 // 3: N is allowed, and at most width and height.
-pub fn block_ok(s: Sizes) -> bool
+pub fn block_ok(s: Setting) -> bool
     ensures { λ r. ⌜ r ≡ blockOk s ⌝ }
 {
     if !block_size_ok(s.n) {
@@ -107,12 +108,12 @@ pub fn window_ok(search: u32, w: usize) -> bool
     cross_window(w)
 }
 
-// 6: the search takes the threshold T.
-pub fn threshold_ok(search: u32, t: u32) -> bool
-    ensures { λ r. ⌜ r ≡ thresholdOk search t ⌝ }
+// 6: the search takes the threshold T, by the measure.
+pub fn threshold_ok(search: u32, measure: u32, t: u32) -> bool
+    ensures { λ r. ⌜ r ≡ thresholdOk search measure t ⌝ }
 {
     if search == 4 {
-        return t <= frame::LARGEST_DISTORTION;
+        return t <= frame::largest_distortion(measure);
     }
     t == 0
 }
@@ -128,7 +129,7 @@ fn lies_in(at: usize, n: usize, all: usize) -> bool
 }
 
 // 7: the block at row y, column x lies wholly inside the frame.
-pub fn place_ok(s: Sizes, y: usize, x: usize) -> bool
+pub fn place_ok(s: Setting, y: usize, x: usize) -> bool
     ensures { λ r. ⌜ r ≡ placeOk s y x ⌝ }
 {
     if !lies_in(y, s.n, s.height) {
@@ -138,7 +139,7 @@ pub fn place_ok(s: Sizes, y: usize, x: usize) -> bool
 }
 
 // The first of 1 2 3 that applies to frames of these lengths, or 0.
-pub fn pair_refusal(older: usize, newer: usize, s: Sizes) -> u32
+pub fn pair_refusal(older: usize, newer: usize, s: Setting) -> u32
     ensures { λ r. ⌜ r ≡ pairRefusal older newer s ⌝ }
 {
     if !side_ok(s.width) {
@@ -160,13 +161,16 @@ pub fn pair_refusal(older: usize, newer: usize, s: Sizes) -> u32
     0
 }
 
-// The first of 1 2 3 7 that applies to a block at row y, column x, or 0.
-pub fn placed_refusal(older: usize, newer: usize, s: Sizes, y: usize, x: usize) -> u32
+// The first of 1 2 3 51 7 that applies to a block at row y, column x, or 0.
+pub fn placed_refusal(older: usize, newer: usize, s: Setting, y: usize, x: usize) -> u32
     ensures { λ r. ⌜ r ≡ placedRefusal older newer s y x ⌝ }
 {
     let refusal = pair_refusal(older, newer, s);
     if refusal != 0 {
         return refusal;
+    }
+    if !measures::measure_ok(s.measure) {
+        return 51;
     }
     if !place_ok(s, y, x) {
         return 7;
@@ -174,19 +178,23 @@ pub fn placed_refusal(older: usize, newer: usize, s: Sizes, y: usize, x: usize) 
     0
 }
 
-// The first of 1 2 3 4 5 6 that applies to a request, or 0.
+// The first of 1 2 3 4 51 5 6 that applies to a request, or 0.
 pub fn request_refusal(older: usize, newer: usize, q: Request) -> u32
     ensures { λ r. ⌜ r ≡ requestRefusal older newer q ⌝ }
 {
-    let refusal = pair_refusal(older, newer, sizes_of(q));
+    let refusal = pair_refusal(older, newer, setting_of(q));
     if refusal != 0 {
         return refusal;
     }
     let search = search_ok(q.search);
+    let measure = measures::measure_ok(q.measure);
     let window = window_ok(q.search, q.w);
-    let threshold = threshold_ok(q.search, q.t);
+    let threshold = threshold_ok(q.search, q.measure, q.t);
     if !search {
         return 4;
+    }
+    if !measure {
+        return 51;
     }
     if !window {
         return 5;

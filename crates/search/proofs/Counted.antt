@@ -16,7 +16,7 @@ use Rattle.order.specs.declared.Vector.{Vector}
 use Rattle.order.specs.Vectors.{vec, Within, same?, same-yes, same-self, vectorCount}
 use Rattle.order.specs.Preference.{preferred}
 use Rattle.order.proofs.Order.{stands, inside, once}
-use Rattle.frame.specs.declared.Sizes.{Sizes}
+use Rattle.frame.specs.declared.Setting.{Setting}
 use Rattle.frame.specs.Candidates.{Candidate, candidate, candidate-yes, candidate-true, candidate-older}
 use Rattle.search.specs.Exhaustive.{places, howOften, gridVector, candidates}
 
@@ -108,7 +108,7 @@ module _ (v : Vector) where
       one true = omega arith
       one false = refl
 
-module _ (s : Sizes) (w y x : ℕ) where
+module _ (s : Setting) (w y x : ℕ) where
   -- as many as there are candidates
   pub places-counted : length (places s w y x) ≡ candidates s w y x
   unfolding candidates

@@ -20,20 +20,20 @@ use Rattle.search.specs.Exhaustive.{Best, best}
 
 module _ (p : Pair) (w y x : ℕ) (small : w ≤ 16) where
   abbrev passes : ℕ → Bool
-  passes k = candidate (p .sizes) w y x (preferred k)
+  passes k = candidate (p .setting) w y x (preferred k)
 
   abbrev costs : ℕ → ℕ
   costs k = distortion p y x (preferred k)
 
   -- where each candidate stands in the table
-  place-of : (u : Vector) → Candidate (p .sizes) w y x u → (k : ℕ) × (k < vectorCount) × (preferred k ≡ u)
+  place-of : (u : Vector) → Candidate (p .setting) w y x u → (k : ℕ) × (k < vectorCount) × (preferred k ≡ u)
   place-of u c =
       stands u (record { down = le-trans (c .window .down) small; across = le-trans (c .window .across) small })
 
   -- the best of the table's candidates is the best of all
   pub best-below : (k : ℕ) → BestBelow costs passes vectorCount k → Best p w y x (preferred k)
   best-below k b = record {
-    candidate = candidate-yes (p .sizes) w y x (preferred k) (true-T (passes k) (b .passes));
+    candidate = candidate-yes (p .setting) w y x (preferred k) (true-T (passes k) (b .passes));
     least = λ u c. let s = place-of u c in subst (λ (v : Vector). costs k ≤ distortion p y x v) (s .2) (b .least (s .0) (s .1) (is-passing u c));
     first = λ u c e other. let s = place-of u c in
         subst (λ (v : Vector). Precedes (preferred k) v) (s .2)
@@ -42,16 +42,16 @@ module _ (p : Pair) (w y x : ℕ) (small : w ≤ 16) where
         (λ l. in-order k (s .0) l (s .1)));
   }
     where
-      is-passing : (u : Vector) (c : Candidate (p .sizes) w y x u) → passes (place-of u c .0) ≡ true
+      is-passing : (u : Vector) (c : Candidate (p .setting) w y x u) → passes (place-of u c .0) ≡ true
       is-passing u c =
-          T-true (passes (place-of u c .0)) (subst (λ (v : Vector). T (candidate (p .sizes) w y x v)) (sym (place-of u c .2))
-          (candidate-true (p .sizes) w y x u c))
+          T-true (passes (place-of u c .0)) (subst (λ (v : Vector). T (candidate (p .setting) w y x v)) (sym (place-of u c .2))
+          (candidate-true (p .setting) w y x u c))
 
   -- (0,0) stands at place 0
-  pub still-passes : y + p .sizes .n ≤ p .sizes .height → x + p .sizes .n ≤ p .sizes .width → passes 0 ≡ true
-  still-passes hy hx = rw first-still (T-true (candidate (p .sizes) w y x (vec (pos 0) (pos 0))) (still-candidate (p .sizes) w y x hy hx))
+  pub still-passes : y + p .setting .n ≤ p .setting .height → x + p .setting .n ≤ p .setting .width → passes 0 ≡ true
+  still-passes hy hx = rw first-still (T-true (candidate (p .setting) w y x (vec (pos 0) (pos 0))) (still-candidate (p .setting) w y x hy hx))
 
-  pub best-is : y + p .sizes .n ≤ p .sizes .height → x + p .sizes .n ≤ p .sizes .width → Best p w y x (best p w y x)
+  pub best-is : y + p .setting .n ≤ p .setting .height → x + p .setting .n ≤ p .setting .width → Best p w y x (best p w y x)
   unfolding best
   best-is hy hx =
       best-below _ (leastOf-pick costs passes vectorCount (pick-head passes 1088 (still-passes hy hx) .0))

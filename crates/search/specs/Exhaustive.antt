@@ -18,24 +18,24 @@ use Rattle.signed.specs.Values.{unbias}
 use Rattle.order.specs.declared.Vector.{Vector}
 use Rattle.order.specs.Vectors.{vec, Precedes, same?, vectorCount}
 use Rattle.order.specs.Preference.{preferred}
-use Rattle.frame.specs.declared.Sizes.{Sizes}
+use Rattle.frame.specs.declared.Setting.{Setting}
 use Rattle.frame.specs.Pictures.{Pair}
 use Rattle.frame.specs.Candidates.{Candidate, candidate}
 use Rattle.distortion.specs.Blocks.{distortion}
 
 pub record Best (p : Pair) (w y x : ℕ) (v : Vector) : Type 0 where
-  pub candidate : Candidate (p .sizes) w y x v
-  pub least : (u : Vector) → Candidate (p .sizes) w y x u → distortion p y x v ≤ distortion p y x u
-  pub first : (u : Vector) → Candidate (p .sizes) w y x u → distortion p y x u ≡ distortion p y x v → (u ≡ v → ⊥) → Precedes v u
+  pub candidate : Candidate (p .setting) w y x v
+  pub least : (u : Vector) → Candidate (p .setting) w y x u → distortion p y x v ≤ distortion p y x u
+  pub first : (u : Vector) → Candidate (p .setting) w y x u → distortion p y x u ≡ distortion p y x v → (u ≡ v → ⊥) → Precedes v u
 
 abbrev pub passing : (Vector → Bool) → List ℕ
 passing test = pick (λ k. test (preferred k)) vectorCount
 
-abbrev pub places : Sizes → ℕ → ℕ → ℕ → List ℕ
+abbrev pub places : Setting → ℕ → ℕ → ℕ → List ℕ
 places s w y x = passing (candidate s w y x)
 
 unfoldable pub best : Pair → ℕ → ℕ → ℕ → Vector
-best p w y x = preferred (leastOf (λ k. distortion p y x (preferred k)) (places (p .sizes) w y x))
+best p w y x = preferred (leastOf (λ k. distortion p y x (preferred k)) (places (p .setting) w y x))
 
 unfoldable pub howOften : Vector → List ℕ → ℕ
 howOften v [] = 0
@@ -45,5 +45,5 @@ howOften v (k ∷ ks) = cond (same? (preferred k) v) 1 0 + howOften v ks
 abbrev pub gridVector : ℕ → ℕ → Vector
 gridVector i j = vec (unbias 16 i) (unbias 16 j)
 
-unfoldable pub candidates : Sizes → ℕ → ℕ → ℕ → ℕ
+unfoldable pub candidates : Setting → ℕ → ℕ → ℕ → ℕ
 candidates s w y x = sumOver 33 33 (λ i j. cond (candidate s w y x (gridVector i j)) 1 0)

@@ -24,7 +24,7 @@ use Rattle.search.specs.declared.MeasuredCandidate.{MeasuredCandidate}
 use Rattle.search.specs.declared.MeasuredCandidate.the-variants.{Distortion, NotCandidate}
 
 pub record Ready (older newer : List ℕ) (b : SearchBlock) : Type 0 where
-  pub placed : Placed (length older) (length newer) (b .sizes) (b .y) (b .x)
+  pub placed : Placed (length older) (length newer) (b .setting) (b .y) (b .x)
   pub window : b .w ≤ 16
 
 -- at + d lies at or behind `from`
@@ -39,11 +39,11 @@ pub record Target : Type 0 where
   pub cost : Vector → ℕ
 
 abbrev pub target : Pair → ℕ → ℕ → ℕ → Target
-target p w y x = record { candidate = candidate (p .sizes) w y x; cost = distortion p y x }
+target p w y x = record { candidate = candidate (p .setting) w y x; cost = distortion p y x }
 
 -- the target that code searches: two lent frames and a block
 abbrev pub targetOf : List ℕ → List ℕ → SearchBlock → Target
-targetOf older newer b = target (pairOf older newer (b .sizes)) (b .w) (b .y) (b .x)
+targetOf older newer b = target (pairOf older newer (b .setting)) (b .w) (b .y) (b .x)
 
 unfoldable pub measureCandidate : Target → Vector → MeasuredCandidate
 measureCandidate t v = cond (t .candidate v) (Distortion (t .cost v)) NotCandidate
@@ -68,15 +68,15 @@ module _ (t : Target) (v : Vector) where
 
 -- (0,0) compares the block with the older block at the same place
 pub still-cost : (p : Pair) (y x : ℕ)
-    → distortion p y x (vec (pos 0) (pos 0)) ≡ distortionBy absolute (p .sizes .n) (newerBlock p y x) (blockAt (p .older) (p .sizes .width) y x)
+    → distortion p y x (vec (pos 0) (pos 0)) ≡ distortionBy absolute (p .setting .n) (newerBlock p y x) (blockAt (p .older) (p .setting .width) y x)
 unfolding distortion
 still-cost p y x = rw (add-zero y, add-zero x)
 
 -- where the older block of a candidate stands
-pub candidate-past : (older newer : List ℕ) (b : SearchBlock) (v : Vector) → Ready older newer b → T (candidate (b .sizes) (b .w) (b .y) (b .x) v)
+pub candidate-past : (older newer : List ℕ) (b : SearchBlock) (v : Vector) → Ready older newer b → T (candidate (b .setting) (b .w) (b .y) (b .x) v)
     → Past (v .dy) (b .y) 0 × Past (v .dx) (b .x) 0
 candidate-past older newer b v r t =
-    let o = candidate-older (b .sizes) (b .w) (b .y) (b .x) v t in
+    let o = candidate-older (b .setting) (b .w) (b .y) (b .x) v t in
     let f = r .placed .paired .fitting in (
       record { window = omega (arith, o .window .down, r .window); is = o .row; behind = omega arith; small = omega (arith, o .down, f .high) },
       record { window = omega (arith, o .window .across, r .window); is = o .column; behind = omega arith; small = omega (arith, o .across, f .wide) },

@@ -55,7 +55,7 @@ pub fn measure_candidate(
     requires { ⌜ Ready (now older) (now newer) b ⌝ }
     ensures { λ r. ⌜ r ≡ measureCandidate (targetOf (now (older .entry)) (now (newer .entry)) b) (vec dy dx) ⌝ }
 {
-    let s = b.sizes;
+    let s = b.setting;
     let y = b.y;
     let x = b.x;
     let Older::At(r, c) = frame::older_at(s, b.w, y, x, dy, dx) else {

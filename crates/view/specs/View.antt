@@ -12,16 +12,16 @@ use lib.Dec.{leb, eqb, leb→le}
 use lib.ListN.{length, take, drop}
 use borrow.Author.Tests.{ne-eqb, eq-eqb, eqb-true}
 use Rattle.base.specs.Tests.{le-both}
-use Rattle.frame.specs.declared.Sizes.{Sizes}
+use Rattle.frame.specs.declared.Setting.{Setting}
 use Rattle.view.specs.declared.RowView.{RowView}
 use Rattle.frame.specs.Pictures.{Pair, row-inside}
 use Rattle.refusals.specs.Refusals.{unless, firstRefusal, unless-zero, first-refusal-zero, pairRefusal, Paired, paired}
 
 -- 7 row view: the N pels not inside one row of the frame asked for
-abbrev pub rowOk : Sizes → ℕ → ℕ → Bool
+abbrev pub rowOk : Setting → ℕ → ℕ → Bool
 rowOk s row column = leb (row + 1) (s .height) && leb (column + s .n) (s .width)
 
-unfoldable pub viewRefusal : ℕ → ℕ → Sizes → ℕ → ℕ → ℕ → ℕ
+unfoldable pub viewRefusal : ℕ → ℕ → Setting → ℕ → ℕ → ℕ → ℕ
 viewRefusal older newer s side row column =
     firstRefusal (pairRefusal older newer s)
     (unless (leb side 1) 12
@@ -32,9 +32,9 @@ abbrev pub sideOf : Pair → ℕ → List ℕ
 sideOf p side = cond (eqb side 0) (p .older) (p .newer)
 
 abbrev pub refusalAt : Pair → ℕ → ℕ → ℕ → ℕ
-refusalAt p side row column = viewRefusal (length (p .older)) (length (p .newer)) (p .sizes) side row column
+refusalAt p side row column = viewRefusal (length (p .older)) (length (p .newer)) (p .setting) side row column
 
-unfoldable pub viewPlace : ℕ → ℕ → Sizes → ℕ → ℕ → ℕ → RowView
+unfoldable pub viewPlace : ℕ → ℕ → Setting → ℕ → ℕ → ℕ → RowView
 viewPlace older newer s side row column =
     let refusal = viewRefusal older newer s side row column in
     cond (eqb refusal 0)
@@ -43,7 +43,7 @@ viewPlace older newer s side row column =
 
 unfoldable pub rowView : Pair → ℕ → ℕ → ℕ → List ℕ
 rowView p side row column =
-    cond (eqb (refusalAt p side row column) 0) (take (p .sizes .n) (drop (row * p .sizes .width + column) (sideOf p side))) []
+    cond (eqb (refusalAt p side row column) 0) (take (p .setting .n) (drop (row * p .setting .width + column) (sideOf p side))) []
 
 -- a start in memory is a block of memory and an offset in it: those of the two frames are given, and the part begins `place` pels on in the frame asked for
 abbrev pub partStart : (older newer : ℕ × ℕ) → ℕ → ℕ → ℕ × ℕ
@@ -51,14 +51,14 @@ partStart older newer side place = let start = cond (eqb side 0) older newer in 
 
 -- ---- what an accepted view may go by
 
-pub record Viewed (older newer : ℕ) (s : Sizes) (side row column : ℕ) : Type 0 where
+pub record Viewed (older newer : ℕ) (s : Setting) (side row column : ℕ) : Type 0 where
   pub paired : Paired older newer s
   pub known : side ≤ 1
   pub down : row < s .height
   pub across : column + s .n ≤ s .width
   pub ends : row * s .width + column + s .n ≤ s .height * s .width
 
-pub viewed : (older newer : ℕ) (s : Sizes) (side row column : ℕ) → viewRefusal older newer s side row column ≡ 0 → Viewed older newer s side row column
+pub viewed : (older newer : ℕ) (s : Setting) (side row column : ℕ) → viewRefusal older newer s side row column ≡ 0 → Viewed older newer s side row column
 unfolding viewRefusal
 viewed older newer s side row column e =
     let a = first-refusal-zero (pairRefusal older newer s) _ e in
@@ -77,21 +77,21 @@ viewed older newer s side row column e =
 module _ (p : Pair) (side row column : ℕ) where
   abbrev answer : Bool → RowView
   answer b =
-      cond b (record { refusal = 0; place = row * p .sizes .width + column; length = p .sizes .n })
+      cond b (record { refusal = 0; place = row * p .setting .width + column; length = p .setting .n })
       (record { refusal = refusalAt p side row column; place = 0; length = 0 })
 
   answer-ends : (b : Bool) → eqb (refusalAt p side row column) 0 ≡ b
       → (answer b .place + answer b .length ≤ length (p .older)) × (answer b .place + answer b .length ≤ length (p .newer))
-  answer-ends true e = let i = viewed _ _ (p .sizes) side row column (eqb-true _ 0 e) in (omega arith, omega arith)
+  answer-ends true e = let i = viewed _ _ (p .setting) side row column (eqb-true _ 0 e) in (omega arith, omega arith)
   answer-ends false e = (omega arith, omega arith)
 
   part-is : (b : Bool) (f : List ℕ)
-      → take (answer b .length) (drop (answer b .place) f) ≡ cond b (take (p .sizes .n) (drop (row * p .sizes .width + column) f)) []
+      → take (answer b .length) (drop (answer b .place) f) ≡ cond b (take (p .setting .n) (drop (row * p .setting .width + column) f)) []
   part-is true f = refl
   part-is false f = refl
 
   -- v is what `viewPlace` says
-  module _ (v : RowView) (is : v ≡ viewPlace (length (p .older)) (length (p .newer)) (p .sizes) side row column) where
+  module _ (v : RowView) (is : v ≡ viewPlace (length (p .older)) (length (p .newer)) (p .setting) side row column) where
     -- it ends inside either frame
     pub view-ends : (v .place + v .length ≤ length (p .older)) × (v .place + v .length ≤ length (p .newer))
     unfolding viewPlace

@@ -5,7 +5,7 @@ ghost use lib.ListN.{length};
 ghost use denote.Ref.{ptr};
 ghost use Rattle.frame.specs.Pictures.{pairOf};
 ghost use Rattle.view.specs.View.{viewRefusal, viewPlace, rowView, partStart};
-use frame::Sizes;
+use frame::Setting;
 
 // A row view as a place in its frame: where the part begins, and how many pels it has.
 #[repr(C)]
@@ -19,7 +19,7 @@ pub struct RowView {
 pub fn view_refusal(
     older: usize,
     newer: usize,
-    s: Sizes,
+    s: Setting,
     side: u32,
     row: usize,
     column: usize,
@@ -48,7 +48,7 @@ pub fn view_refusal(
 pub fn view_place(
     older: usize,
     newer: usize,
-    s: Sizes,
+    s: Setting,
     side: u32,
     row: usize,
     column: usize,
@@ -74,7 +74,7 @@ pub fn view_place(
 pub fn row_view<'a>(
     older: &'a [u8],
     newer: &'a [u8],
-    s: Sizes,
+    s: Setting,
     side: u32,
     row: usize,
     column: usize,
@@ -96,7 +96,7 @@ pub fn row_view<'a>(
 pub fn row_view_refusal(
     older: &[u8],
     newer: &[u8],
-    s: Sizes,
+    s: Setting,
     side: u32,
     row: usize,
     column: usize,

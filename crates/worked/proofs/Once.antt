@@ -20,7 +20,7 @@ use Rattle.refusals.specs.declared.Request.{Request}
 use Rattle.frame.specs.Pictures.{Pair, pairOf}
 use Rattle.frame.specs.Grid.{blocks, blockRow, blockColumn}
 use Rattle.frame.specs.Candidates.{candidate}
-use Rattle.refusals.specs.Refusals.{sizesOf, requestOf}
+use Rattle.refusals.specs.Refusals.{settingOf, requestOf}
 use Rattle.distortion.specs.Blocks.{absolute}
 use Rattle.search.specs.declared.SearchResult.{SearchResult}
 use Rattle.search.specs.Target.{target}
@@ -54,13 +54,13 @@ module _ (p : Pair) (w y x : ℕ) where
   D = placeDistortion p y x
 
   abbrev pruningOf : List ℕ → Pruning
-  pruningOf = prune (stillDistortion p y x) D (placeDistance p y x) (absolute .limit) (p .sizes .n) (resolutions (p .sizes .n))
+  pruningOf = prune (stillDistortion p y x) D (placeDistance p y x) (absolute .limit) (p .setting .n) (resolutions (p .setting .n))
 
   abbrev chosenOf : List ℕ → ℕ
-  chosenOf = prunedBest (stillDistortion p y x) D (placeDistance p y x) (absolute .limit) (p .sizes .n) (resolutions (p .sizes .n))
+  chosenOf = prunedBest (stillDistortion p y x) D (placeDistance p y x) (absolute .limit) (p .setting .n) (resolutions (p .setting .n))
 
   abbrev once : {A : Type 0} → (List ℕ → A) → A
-  once = after (walkPlaces (candidate (p .sizes) w y x) 0 preference)
+  once = after (walkPlaces (candidate (p .setting) w y x) 0 preference)
 
   abbrev bestOnce : Vector
   bestOnce = once (λ ks. preferred (leastOf D ks))
@@ -73,15 +73,15 @@ module _ (p : Pair) (w y x : ℕ) where
 
   best-once : best p w y x ≡ bestOnce
   unfolding best
-  best-once = by-walk (p .sizes) w y x _
+  best-once = by-walk (p .setting) w y x _
 
   full-once : fullSearch p w y x ≡ fullOnce
   unfolding fullSearch best
-  full-once = by-walk (p .sizes) w y x _
+  full-once = by-walk (p .setting) w y x _
 
   pruned-once : prunedSearch p w y x ≡ prunedOnce
   unfolding prunedSearch pruning prunedPlace
-  pruned-once = by-walk (p .sizes) w y x _
+  pruned-once = by-walk (p .setting) w y x _
 
 module _ (p : Pair) (q : Request) (y x : ℕ) where
   -- the requested search, by the answers f and g of searches 1 and 2
@@ -104,20 +104,20 @@ module _ (older newer : List ℕ) (q : Request) (y x : ℕ) where
   blockBy f = let refusal = searchRefusal (length older) (length newer) q y x in cond (eqb refusal 0) f (refusedSearch refusal)
 
   abbrev pub blockOnce : SearchResult
-  blockOnce = blockBy (searchedOnce (pairOf older newer (sizesOf q)) q y x)
+  blockOnce = blockBy (searchedOnce (pairOf older newer (settingOf q)) q y x)
 
   pub block-once : searchBlock older newer q y x ≡ blockOnce
   unfolding searchBlock
-  block-once = ap blockBy (searched-once (pairOf older newer (sizesOf q)) q y x)
+  block-once = ap blockBy (searched-once (pairOf older newer (settingOf q)) q y x)
 
 -- ---- a field
 
 module _ (older newer : List ℕ) (q : Request) (list : List ℤ) (table : List ℕ) where
   abbrev pair : Pair
-  pair = pairOf older newer (sizesOf q)
+  pair = pairOf older newer (settingOf q)
 
   abbrev n : ℕ
-  n = blocks (pair .sizes)
+  n = blocks (pair .setting)
 
   -- the call, by its blocks' answers and the reading's vector
   abbrev fieldBy : (ℕ → SearchResult) → Vector → FieldResult
@@ -125,11 +125,11 @@ module _ (older newer : List ℕ) (q : Request) (list : List ℤ) (table : List 
       let refusal = fieldRefusal (length older) (length newer) q (length list) (length table) in
       cond (eqb refusal 0)
       (fieldResult (reads v (votes (λ k. vectorIn (found k)) n v) (countsOver found n) (droppedOver found n))
-      (entriesOf found n ++ drop (listSize (pair .sizes)) list) (filledTable older q table))
+      (entriesOf found n ++ drop (listSize (pair .setting)) list) (filledTable older q table))
       (fieldResult (refusedField refusal) list table)
 
   abbrev foundOnce : ℕ → SearchResult
-  foundOnce k = searchedOnce pair q (blockRow (pair .sizes) k) (blockColumn (pair .sizes) k)
+  foundOnce k = searchedOnce pair q (blockRow (pair .setting) k) (blockColumn (pair .setting) k)
 
   abbrev pub fieldOnce : FieldResult
   fieldOnce = fieldBy foundOnce (majorityOnce (λ k. vectorIn (foundOnce k)) n)
@@ -144,16 +144,16 @@ module _ (older newer : List ℕ) (q : Request) (list : List ℤ) (table : List 
 
 module _ (p : Pair) (w : ℕ) where
   abbrev bestsOnce : ℕ → Vector
-  bestsOnce k = bestOnce p w (blockRow (p .sizes) k) (blockColumn (p .sizes) k)
+  bestsOnce k = bestOnce p w (blockRow (p .setting) k) (blockColumn (p .setting) k)
 
   abbrev pub travelOnce : Vector
-  travelOnce = turned (majorityOnce bestsOnce (blocks (p .sizes)))
+  travelOnce = turned (majorityOnce bestsOnce (blocks (p .setting)))
 
   pub travel-once : travel p w ≡ travelOnce
   unfolding travel
   travel-once =
-      ap (λ (has : ℕ → Vector). turned (majority has (blocks (p .sizes)))) (fun-ext (λ k. best-once p w _ _))
-      ∙ ap turned (majority-once bestsOnce (blocks (p .sizes)))
+      ap (λ (has : ℕ → Vector). turned (majority has (blocks (p .setting)))) (fun-ext (λ k. best-once p w _ _))
+      ∙ ap turned (majority-once bestsOnce (blocks (p .setting)))
 
 -- ---- calls on a track
 
@@ -172,12 +172,12 @@ module _ (t : Track) (older newer : List ℕ) (q : Request) (list : List ℤ) (t
 
 abbrev callOnce : Track → Call → Result
 callOnce t (home y x) = homing (trackHome t y x)
-callOnce t (step p w threshold list table) = stepping (stepOnce t (p .older) (p .newer) (requestOf (p .sizes) 2 w threshold) list table)
+callOnce t (step p w threshold list table) = stepping (stepOnce t (p .older) (p .newer) (requestOf (p .setting) 2 w threshold) list table)
 
 call-once : (t : Track) (c : Call) → answerTo t c ≡ callOnce t c
 unfolding answerTo
 call-once t (home y x) = refl
-call-once t (step p w threshold list table) = ap stepping (step-once t (p .older) (p .newer) (requestOf (p .sizes) 2 w threshold) list table)
+call-once t (step p w threshold list table) = ap stepping (step-once t (p .older) (p .newer) (requestOf (p .setting) 2 w threshold) list table)
 
 abbrev pub runOnce : List Call → List Result
 runOnce cs = runFrom callOnce trackIn trackNew cs

@@ -15,7 +15,7 @@ use Rattle.order.specs.declared.Vector.{Vector}
 use Rattle.order.specs.Vectors.{vec, vectorCount}
 use Rattle.order.specs.Preference.{preference, preferred}
 use Rattle.order.proofs.Order.{length-preference}
-use Rattle.frame.specs.declared.Sizes.{Sizes}
+use Rattle.frame.specs.declared.Setting.{Setting}
 use Rattle.frame.specs.Candidates.{candidate}
 use Rattle.search.specs.Exhaustive.{places}
 
@@ -32,7 +32,7 @@ walk-is test p z k (v ∷ vs) h =
     ap₂ (λ (t : Bool) (ks : List ℕ). consIf t k ks) (rw add-zero at (h 0))
     (walk-is test p z (suc k) vs (λ i. let e : suc k + i ≡ k + suc i = omega arith in ap p e ∙ h (suc i)))
 
-places-walk : (s : Sizes) (w y x : ℕ) → places s w y x ≡ walkPlaces (candidate s w y x) 0 preference
+places-walk : (s : Setting) (w y x : ℕ) → places s w y x ≡ walkPlaces (candidate s w y x) 0 preference
 places-walk s w y x =
     let p : ℕ → Bool = λ k. candidate s w y x (preferred k) in
     pick-from p vectorCount
@@ -50,5 +50,5 @@ after-is [] f = refl
 after-is (k ∷ ks) f = after-is ks (λ rest. f (k ∷ rest))
 
 -- whatever is made of a block's candidates is made of those that the walk lists
-pub by-walk : {A : Type 0} (s : Sizes) (w y x : ℕ) (f : List ℕ → A) → f (places s w y x) ≡ after (walkPlaces (candidate s w y x) 0 preference) f
+pub by-walk : {A : Type 0} (s : Setting) (w y x : ℕ) (f : List ℕ → A) → f (places s w y x) ≡ after (walkPlaces (candidate s w y x) 0 preference) f
 by-walk s w y x f = ap f (places-walk s w y x) ∙ after-is _ f

@@ -19,7 +19,7 @@ use Rattle.base.specs.Lists.{concatTo}
 use Rattle.order.specs.declared.Vector.{Vector}
 use Rattle.order.specs.Vectors.{vec}
 use Rattle.refusals.specs.declared.Request.{Request}
-use Rattle.frame.specs.Pictures.{Pair, pairOf, sizes}
+use Rattle.frame.specs.Pictures.{Pair, pairOf, setting}
 use Rattle.measuring.specs.declared.Measured.{Measured}
 use Rattle.distortion.specs.Blocks.{absolute, newerBlock, olderBlock}
 use Rattle.measuring.specs.Measured.{measure}
@@ -51,33 +51,33 @@ twice rows = rows ++ rows
 
 -- A* "4×4, N 4, .. newer all 10, older all 12"
 unfoldable pub pairA : Pair
-pairA = pairOf (replicate 16 12) (replicate 16 10) (sizes 4 4 4)
+pairA = pairOf (replicate 16 12) (replicate 16 10) (setting 4 4 4)
 
 -- B* "width 5, height 4, N 4, .. older rows 0 10 20 30 40, newer rows 10 20 30 40 99"
 unfoldable pub pairB : Pair
-pairB = pairOf (twice (twice (0 ∷ 10 ∷ 20 ∷ 30 ∷ 40 ∷ []))) (twice (twice (10 ∷ 20 ∷ 30 ∷ 40 ∷ 99 ∷ []))) (sizes 5 4 4)
+pairB = pairOf (twice (twice (0 ∷ 10 ∷ 20 ∷ 30 ∷ 40 ∷ []))) (twice (twice (10 ∷ 20 ∷ 30 ∷ 40 ∷ 99 ∷ []))) (setting 5 4 4)
 
 -- C* "8×8, all 7, N 4"
 unfoldable pub pairC : Pair
-pairC = pairOf (replicate 64 7) (replicate 64 7) (sizes 8 8 4)
+pairC = pairOf (replicate 64 7) (replicate 64 7) (setting 8 8 4)
 
 -- D* "4×4, newer alternating 0 and 20 along and down, older all 10"
 unfoldable pub pairD : Pair
-pairD = pairOf (replicate 16 10) (twice (0 ∷ 20 ∷ 0 ∷ 20 ∷ 20 ∷ 0 ∷ 20 ∷ 0 ∷ [])) (sizes 4 4 4)
+pairD = pairOf (replicate 16 10) (twice (0 ∷ 20 ∷ 0 ∷ 20 ∷ 20 ∷ 0 ∷ 20 ∷ 0 ∷ [])) (setting 4 4 4)
 
 -- ---- the requests
 
 abbrev pub full : ℕ → Pair → Request
-full w p = requestOf (p .sizes) 1 w 0
+full w p = requestOf (p .setting) 1 w 0
 
 abbrev pub pruned : ℕ → Pair → Request
-pruned w p = requestOf (p .sizes) 2 w 0
+pruned w p = requestOf (p .setting) 2 w 0
 
 abbrev pub fourStep : Pair → Request
-fourStep p = requestOf (p .sizes) 3 7 0
+fourStep p = requestOf (p .setting) 3 7 0
 
 abbrev pub cross : ℕ → ℕ → Pair → Request
-cross w t p = requestOf (p .sizes) 4 w t
+cross w t p = requestOf (p .setting) 4 w t
 
 abbrev pub minus : ℕ → ℤ
 minus n = negℤ (pos n)
@@ -124,7 +124,7 @@ pub data Answer : Type 0 where
 abbrev pub answer : Query → Answer
 answer (search p q y x) = found (searchBlock (p .older) (p .newer) (q p) y x)
 answer (measuring p v) = amount (measure p 0 0 v)
-answer (distance p m) = apart (distanceBy absolute (p .sizes .n) m (newerBlock p 0 0) (olderBlock p 0 0 origin))
+answer (distance p m) = apart (distanceBy absolute (p .setting .n) m (newerBlock p 0 0) (olderBlock p 0 0 origin))
 answer (everyBlock p q list table) = filled (field (p .older) (p .newer) (q p) list table)
 answer (travelling p w) = travels (travel p w)
 answer (calls cs) = results (run cs)
@@ -214,7 +214,7 @@ homedAndStepped y x t a =
 
 -- the head of a pair searched by search 2 with w 1
 abbrev pub headOf : Pair → Head
-headOf p = record { width = p .sizes .width; height = p .sizes .height; n = p .sizes .n; w = 1; search = 2 }
+headOf p = record { width = p .setting .width; height = p .setting .height; n = p .setting .n; w = 1; search = 2 }
 
 -- "search 2's log above": `01 00 05 00 04 04 01 02 02 00 01 00 00 04 00 00 00 01`
 abbrev pub logB : List ℕ

@@ -13,7 +13,7 @@ use Rattle.block.proofs.pruned_alone.Tie as tie
 standing : (s : tie.Start) → Standing (s .args .b)
 standing s = ready-standing _ _ _ (s .pre .0)
 
-whole : (s : tie.Start) → s .args .b .sizes .height * s .args .b .sizes .width ≤ length (now (s .args .older))
+whole : (s : tie.Start) → s .args .b .setting .height * s .args .b .setting .width ≤ length (now (s .args .older))
 whole s = omega (arith, s .pre .0 .placed .paired .older-whole)
 
 search-window-requires : tie.Need-search-window-requires

@@ -4,7 +4,7 @@ use native.Mathlib.Omega.{arith}
 use borrow.Author.Needs.{needs}
 use denote.Ref.{now}
 use lib.ListN.{length}
-use Rattle.refusals.specs.Refusals.{windowOk, sizesOf, window-small}
+use Rattle.refusals.specs.Refusals.{windowOk, settingOf, window-small}
 use Rattle.frame.specs.Pictures.{pairOf}
 use Rattle.search.specs.Target.{Ready}
 use Rattle.block.specs.Block.{searchRefusal, searchBlock, searchBy, searched-full, searched-pruned}
@@ -12,7 +12,7 @@ use Rattle.block.specs.Block.{searched-four-step, searched-cross, search
 use Rattle.block.proofs.search_block.Statement.{statement}
 use Rattle.block.proofs.search_block.Tie as tie
 
-abbrev sized : tie.After-table → tie.After-sizes-of
+abbrev sized : tie.After-table → tie.After-setting-of
 sized c = c .before .before .before .before .before
 
 -- past the chain
@@ -21,17 +21,17 @@ zero-is : (e : tie.Else1) →
     searchRefusal (length (now (a .older))) (length (now (a .newer))) (a .q) (a .y) (a .x) ≡ 0
 zero-is e = sym (e .before .search-refusal .ensures) ∙ e .if1 .left
 
-ready : (c : tie.After-sizes-of) →
+ready : (c : tie.After-setting-of) →
     let a = c .before .before .before .before .before .args in
-    Ready (now (a .older)) (now (a .newer)) (record { sizes = c .sizes-of .result; w = a .q .w; y = a .y; x = a .x })
+    Ready (now (a .older)) (now (a .newer)) (record { setting = c .setting-of .result; w = a .q .w; y = a .y; x = a .x })
 ready c =
     let s = searchable _ _ _ _ _ (zero-is (c .before)) in
-    record { placed = rw (c .sizes-of .ensures) (s .placed); window = window-small _ _ (s .requested .window) }
+    record { placed = rw (c .setting-of .ensures) (s .placed); window = window-small _ _ (s .requested .window) }
 
-accepted : (c : tie.After-sizes-of) →
+accepted : (c : tie.After-setting-of) →
     let a = c .before .before .before .before .before .args in
     searchBlock (now (a .older)) (now (a .newer)) (a .q) (a .y) (a .x)
-    ≡ searchBy (pairOf (now (a .older)) (now (a .newer)) (sizesOf (a .q))) (a .q) (a .y) (a .x)
+    ≡ searchBy (pairOf (now (a .older)) (now (a .newer)) (settingOf (a .q))) (a .q) (a .y) (a .x)
 accepted c = block-accepted _ _ _ _ _ (zero-is (c .before))
 
 search-refusal-requires : tie.Need-search-refusal-requires
@@ -45,8 +45,8 @@ returns c =
     let r = c .before .before .search-refusal .ensures in
     c .refused-search .ensures ∙ rw r (sym (block-refused _ _ _ _ _ (λ e. c .before .if1 .taken (r ∙ e))))
 
-sizes-of-requires : tie.Need-sizes-of-requires
-sizes-of-requires c κs = search needs
+setting-of-requires : tie.Need-setting-of-requires
+setting-of-requires c κs = search needs
 
 search-requires : tie.Need-search-requires
 search-requires c κs = ready (c .before .before)
@@ -54,7 +54,7 @@ search-requires c κs = ready (c .before .before)
 returns-2 : tie.Need-returns-2
 returns-2 c =
     let z = c .before .before .before in
-    (rw (z .sizes-of .ensures) at (c .search .ensures)) ∙ sym (accepted z ∙ searched-four-step _ _ _ _ (c .before .if2 .taken))
+    (rw (z .setting-of .ensures) at (c .search .ensures)) ∙ sym (accepted z ∙ searched-four-step _ _ _ _ (c .before .if2 .taken))
 
 search-requires-2 : tie.Need-search-requires-2
 unfolding windowOk
@@ -65,7 +65,7 @@ search-requires-2 c κs =
 returns-3 : tie.Need-returns-3
 returns-3 c =
     let z = c .before .before .before .before .before in
-    (rw (z .sizes-of .ensures) at (c .search2 .ensures)) ∙ sym (accepted z ∙ searched-cross _ _ _ _ (c .before .if3 .taken))
+    (rw (z .setting-of .ensures) at (c .search2 .ensures)) ∙ sym (accepted z ∙ searched-cross _ _ _ _ (c .before .if3 .taken))
 
 table-requires : tie.Need-table-requires
 table-requires c κs = search needs
@@ -76,7 +76,7 @@ pruned-alone-requires c κs = (ready (sized (c .before .before .before)), c .bef
 returns-4 : tie.Need-returns-4
 returns-4 c =
     let z = sized (c .before .before .before .before) in
-    (rw (z .sizes-of .ensures) at (c .pruned-alone .ensures)) ∙ sym (accepted z ∙ searched-pruned _ _ _ _ (c .before .before .if4 .taken))
+    (rw (z .setting-of .ensures) at (c .pruned-alone .ensures)) ∙ sym (accepted z ∙ searched-pruned _ _ _ _ (c .before .before .if4 .taken))
 
 search-requires-3 : tie.Need-search-requires-3
 search-requires-3 c κs = (ready (sized (c .before .before .before)), c .before .before .before .table .ensures)
@@ -95,7 +95,7 @@ returns-5 c =
       d .before .before .before .if3 .left,
       d .before .before .before .before .before .if2 .left,
     ) in
-    (rw (z .sizes-of .ensures) at (c .search3 .ensures)) ∙ sym (accepted z ∙ searched-full _ _ _ _ one)
+    (rw (z .setting-of .ensures) at (c .search3 .ensures)) ∙ sym (accepted z ∙ searched-full _ _ _ _ one)
 
 pub search-block-spec : {M : Type 1} → statement M
 search-block-spec =
@@ -104,7 +104,7 @@ search-block-spec =
     search-refusal-requires
     refused-search-requires
     returns
-    sizes-of-requires
+    setting-of-requires
     search-requires
     returns-2
     search-requires-2

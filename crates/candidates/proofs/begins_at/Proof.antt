@@ -26,7 +26,7 @@ place c =
     (omega (arith, row), omega (arith, column))
 
 -- at most 2 ^ 20
-small : (c : tie.After-past2) → c .before .before .past .result * start (c .before) .args .b .sizes .width ≤ 1024 * 1024
+small : (c : tie.After-past2) → c .before .before .past .result * start (c .before) .args .b .setting .width ≤ 1024 * 1024
 small c = mul-le-mul (c .before .before .past .ensures .1) (start (c .before) .pre .0 .wide)
 
 vector-at-requires : tie.Need-vector-at-requires

@@ -16,10 +16,10 @@ start c = c .before .before .before .before .before
 -- the two blocks can be compared
 pair-in : (s : tie.Start) → let b = s .args .b in
     let v = preferred (s .args .k) in
-    Comparable (now (s .args .older)) (now (s .args .newer)) (b .sizes) (b .y) (b .x) (olderRow (b .y) v) (olderColumn (b .x) v)
+    Comparable (now (s .args .older)) (now (s .args .newer)) (b .setting) (b .y) (b .x) (olderRow (b .y) v) (olderColumn (b .x) v)
 pair-in s = comparable _ _ _ _ (s .pre .0 .0) (s .pre .1 .1)
 
-first : (s : tie.Start) → let b = s .args .b in b .y * b .sizes .width + b .x ≤ length (now (s .args .newer))
+first : (s : tie.Start) → let b = s .args .b in b .y * b .setting .width + b .x ≤ length (now (s .args .newer))
 first s = begins _ _ _ _ _ _ _ (pair-in s) .0
 
 mul-here : tie.Need-mul-here

@@ -2,7 +2,8 @@
 use Prim.Native.Nat.{_+_, _*_, _≤_}
 use native.Mathlib.Omega.{arith}
 use lib.ListN.{length}
-use Rattle.distortion.specs.Blocks.{absolute, block-rows, begins, block-inside, distortion-small}
+use Rattle.measures.specs.Measures.{measureOf}
+use Rattle.distortion.specs.Blocks.{block-rows, begins, block-inside, distortion-small}
 use Rattle.distortion.proofs.block_distortion.Statement.{statement}
 use Rattle.distortion.proofs.block_distortion.Tie as tie
 
@@ -29,7 +30,8 @@ returns : tie.Need-returns
 returns c =
     let s = c .before .before .before in
     let d = c .distortion-from .ensures in
-    rw (block-rows absolute) (d .0 .below (omega (arith, d .1, distortion-small _ _ _ _ _ _ _ (s .pre))), d .1)
+    rw (block-rows (measureOf (s .args .s .measure)))
+    (d .0 .below (omega (arith, d .1, distortion-small (s .args .s .measure) (s .args .s .n) (s .pre .placed .paired .allowed))), d .1)
 
 pub block-distortion-spec : {M : Type 1} → statement M
 block-distortion-spec = tie.close (tie.spec mul-a add-a mul-b add-b distortion-from-requires returns)

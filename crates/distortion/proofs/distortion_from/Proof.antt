@@ -1,33 +1,21 @@
--- `distortion_from`: at each allowed N the block's N rows are N / 4 groups of four.
-use mathlib.Core.Path.{_≡_, refl}
-use native.Mathlib.Omega.{arith}
-use Rattle.distortion.specs.Blocks.{absolute}
-use Rattle.distortion.proofs.Rows.{rows-up-to, by-four, last-size}
+-- `distortion_from`: the rows by each measure's own code; all numbers but 1 have that of squares.
+use mathlib.Core.Path.{sym}
+use borrow.Author.Needs.{needs}
+use Rattle.measures.specs.Measures.{measureOf, measure-other}
 use Rattle.distortion.proofs.distortion_from.Statement.{statement}
 use Rattle.distortion.proofs.distortion_from.Tie as tie
 
-left : (d : tie.Else2) → d .before .before .before .before .args .n ≡ 4
-left d = last-size _ (d .before .before .before .before .pre .allowed) (d .before .if1 .left) (d .if2 .left)
-
-rows-by-four-requires : tie.Need-rows-by-four-requires
-rows-by-four-requires c κs = by-four _ _ _ _ _ _ 16 4 (c .before .before .before .pre) (c .if1 .taken) refl (omega arith)
+rows-by-size-requires : tie.Need-rows-by-size-requires
+rows-by-size-requires c κs = search needs
 
 returns : tie.Need-returns
-returns c = rw (c .before .if1 .taken) (rows-up-to absolute _ _ _ _ _ _ _ _ _ (c .rows-by-four .ensures .0), omega arith, c .rows-by-four .ensures .0)
+returns c = rw (c .before .if1 .taken) (c .rows-by-size .ensures)
 
-rows-by-four-requires-2 : tie.Need-rows-by-four-requires-2
-rows-by-four-requires-2 c κs = by-four _ _ _ _ _ _ 8 2 (c .before .before .before .before .pre) (c .if2 .taken) refl (omega arith)
+rows-by-size-requires-2 : tie.Need-rows-by-size-requires-2
+rows-by-size-requires-2 c κs = search needs
 
 returns-2 : tie.Need-returns-2
-returns-2 c = rw (c .before .if2 .taken) (rows-up-to absolute _ _ _ _ _ _ _ _ _ (c .rows-by-four2 .ensures .0), omega arith, c .rows-by-four2 .ensures .0)
-
-rows-by-four-requires-3 : tie.Need-rows-by-four-requires-3
-rows-by-four-requires-3 c κs = by-four _ _ _ _ _ _ 4 1 (c .before .before .before .before .pre) (left c) refl (omega arith)
-
-returns-3 : tie.Need-returns-3
-returns-3 c = rw (left (c .before)) (rows-up-to absolute _ _ _ _ _ _ _ _ _ (c .rows-by-four3 .ensures .0), omega arith, c .rows-by-four3 .ensures .0)
+returns-2 c = rw (← (measure-other _ (c .before .if1 .left))) (c .rows-by-size2 .ensures)
 
 pub distortion-from-spec : {M : Type 1} → statement M
-distortion-from-spec =
-    tie.close
-    (tie.spec rows-by-four-requires returns rows-by-four-requires-2 returns-2 rows-by-four-requires-3 returns-3)
+distortion-from-spec = tie.close (tie.spec rows-by-size-requires returns rows-by-size-requires-2 returns-2)

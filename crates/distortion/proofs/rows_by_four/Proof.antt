@@ -4,16 +4,18 @@ use mathlib.Core.Path.{_≡_, sym, ap₂, _∙_}
 use native.Mathlib.Nat.{zero-mul, add-mul, mul-le-mul, mul-le-mul-right}
 use native.Mathlib.Omega.{arith}
 use Rattle.base.specs.Index.{row-next}
-use Rattle.distortion.specs.Blocks.{absolute, rowsUpTo, sumUpTo-none, sumUpTo-more, sumUpTo-reached}
+use Rattle.measures.specs.Measures.{measureOf, most-small}
+use Rattle.distortion.specs.Blocks.{rowsUpTo, sumUpTo-none, sumUpTo-more, sumUpTo-reached}
 use Rattle.distortion.proofs.rows_by_four.Statement.{statement}
 use Rattle.distortion.proofs.rows_by_four.Tie as tie
 
 abbrev Inv-loop : tie.InvT-loop
-Inv-loop older newer width a b n groups ceiling sum₀ p₀ q₀ g₀ sum p q g =
-    (g ≤ groups) × (p ≡ a + 4 * g * width) × (q ≡ b + 4 * g * width) × (sum ≤ g * (1020 * n)) × (sum ≡ rowsUpTo absolute ceiling older newer width a b n g)
+Inv-loop older newer measure width a b n groups ceiling sum₀ p₀ q₀ g₀ sum p q g =
+    (g ≤ groups) × (p ≡ a + 4 * g * width) × (q ≡ b + 4 * g * width) × (sum ≤ g * (4 * (n * measureOf measure .most)))
+    × (sum ≡ rowsUpTo (measureOf measure) ceiling older newer width a b n g)
 
 abbrev μ-loop : tie.MeasureT-loop
-μ-loop older newer width a b n groups ceiling sum₀ p₀ q₀ g₀ sum p q g = groups - g
+μ-loop older newer measure width a b n groups ceiling sum₀ p₀ q₀ g₀ sum p q g = groups - g
 
 abbrev start : tie.At-loop Inv-loop μ-loop → tie.Start Inv-loop μ-loop
 start c = c .before .before .before
@@ -31,25 +33,28 @@ turn i =
 -- the sum with a turn's rows more, and that it fits
 more : (i : tie.In-loop Inv-loop μ-loop) → let a = i .before .before .before .before .args in
     let g = i .before .loop .g in
-    ((g + 1) * (1020 * a .n) ≡ g * (1020 * a .n) + 1020 * a .n) × ((g + 1) * (1020 * a .n) ≤ 256 * 1044480)
+    let four = 4 * (a .n * measureOf (a .measure) .most) in
+    ((g + 1) * four ≡ g * four + four) × ((g + 1) * four ≤ 16 * 16646400)
 more i =
     let a = i .before .before .before .before .args in
     let g = i .before .loop .g in
     let r = i .before .before .before .before .pre in
-    (row-next g (1020 * a .n), mul-le-mul {n₂ = 256} {m₂ = 1044480} (omega (arith, r .few)) (omega (arith, r .thin)))
+    let line = mul-le-mul (r .thin) (most-small (a .measure)) in
+    (row-next g (4 * (a .n * measureOf (a .measure) .most)), mul-le-mul {n₂ = 16} {m₂ = 16646400} (omega (arith, r .few)) (omega (arith, line)))
 
 loop-holds : tie.Need-loop-holds Inv-loop μ-loop
 loop-holds c =
     let a = c .before .before .args in
     let z = zero-mul (a .width) in
-    (omega arith, omega (arith, z), omega (arith, z), omega (arith, zero-mul (1020 * a .n)), sym (sumUpTo-none _ _))
+    (omega arith, omega (arith, z), omega (arith, z), omega (arith, zero-mul (4 * (a .n * measureOf (a .measure) .most))), sym (sumUpTo-none _ _))
 
 returns : tie.Need-returns Inv-loop μ-loop
 returns c =
     let l = c .before .before .loop in
     let a = c .before .before .before .before .before .args in
     let all : a .groups ≡ l .g + (a .groups - l .g) = omega arith in
-    let most : l .g * (1020 * a .n) ≤ a .groups * (1020 * a .n) = mul-le-mul-right (1020 * a .n) (l .inv .0) in
+    let four = 4 * (a .n * measureOf (a .measure) .most) in
+    let most : l .g * four ≤ a .groups * four = mul-le-mul-right four (l .inv .0) in
     let stopped = sumUpTo-reached (a .ceiling) _ (l .g) (a .groups - l .g) (rw (l .inv .4) at (c .if1 .taken)) in
     (l .inv .4 ∙ sym (rw (← all) at stopped), omega arith)
 

@@ -5,7 +5,7 @@ use mir.Facts.{toZ-ofZ}
 use denote.Ref.{now}
 use lib.ListN.{length}
 use Rattle.frame.specs.Pictures.{pairOf}
-use Rattle.refusals.specs.Refusals.{sizesOf}
+use Rattle.refusals.specs.Refusals.{settingOf}
 use Rattle.reading.proofs.Tally.{tally-reading}
 use Rattle.field.proofs.Room.{summable, prepared}
 use Rattle.field.proofs.Turns.{answer-is}
@@ -52,7 +52,7 @@ returns c =
       toZ-ofZ (sfits-of (c .struct-told .given .1 .0 .1)),
       l .list,
       t .fill-table .ensures,
-      answer-is (pairOf (now (a .older)) (now (a .newer)) (sizesOf (a .q))) (a .q) (f .fill-list .result) (g .reading-of .result) (l .sums) r,
+      answer-is (pairOf (now (a .older)) (now (a .newer)) (settingOf (a .q))) (a .q) (f .fill-list .result) (g .reading-of .result) (l .sums) r,
     )
 
 pub fill-spec : {M : Type 1} → statement M

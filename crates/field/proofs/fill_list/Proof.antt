@@ -10,7 +10,7 @@ use mir.Val.{SFits, toZ, ofZ}
 use lib.IntN.{ℤ, pos, negsuc, natAbs}
 use Rattle.frame.specs.Grid.{blocks, blocks-few}
 use Rattle.frame.specs.Pictures.{pairOf, Fitting}
-use Rattle.refusals.specs.Refusals.{sizesOf, requested}
+use Rattle.refusals.specs.Refusals.{settingOf, requested}
 use Rattle.reading.proofs.Tally.{tally-room}
 use Rattle.field_block.specs.Blocks.{searchAt}
 use Rattle.field.specs.Filling.{BlocksFilled}
@@ -20,7 +20,7 @@ use Rattle.field.proofs.fill_list.Tie as tie
 
 abbrev Inv-loop : tie.InvT-loop
 Inv-loop older newer order q table list₀ votes₀ n total₀ k₀ list votes total k =
-    (k ≤ n) × (n ≡ blocks (sizesOf q)) × BlocksFilled (searchAt (pairOf older newer (sizesOf q)) q) k list₀ list votes total
+    (k ≤ n) × (n ≡ blocks (settingOf q)) × BlocksFilled (searchAt (pairOf older newer (settingOf q)) q) k list₀ list votes total
 
 abbrev μ-loop : tie.MeasureT-loop
 μ-loop older newer order q table list₀ votes₀ n total₀ k₀ list votes total k = n - k
@@ -35,19 +35,19 @@ put c = c .before .before .before .before
 abbrev found : tie.After-put-entry Inv-loop μ-loop → tie.After-search-at Inv-loop μ-loop
 found c = c .before .before .before .before
 
-fitting : (s : tie.Start Inv-loop μ-loop) → Fitting (sizesOf (s .args .q))
+fitting : (s : tie.Start Inv-loop μ-loop) → Fitting (settingOf (s .args .q))
 fitting s = requested _ _ _ (s .pre .0 .0 .fine) .paired .fitting
 
-sizes-of-requires : tie.Need-sizes-of-requires Inv-loop μ-loop
-sizes-of-requires c κs = search needs
+setting-of-requires : tie.Need-setting-of-requires Inv-loop μ-loop
+setting-of-requires c κs = search needs
 
 block-count-requires : tie.Need-block-count-requires Inv-loop μ-loop
-block-count-requires c κs = rw (c .sizes-of .ensures) (fitting (c .before .before .before .before))
+block-count-requires c κs = rw (c .setting-of .ensures) (fitting (c .before .before .before .before))
 
 loop-holds : tie.Need-loop-holds Inv-loop μ-loop
 loop-holds c =
     let s = c .before .before .before .before .before in
-    (omega arith, c .block-count .ensures ∙ ap blocks (c .before .sizes-of .ensures), filled-first _ _ _ (s .pre .1 .1))
+    (omega arith, c .block-count .ensures ∙ ap blocks (c .before .setting-of .ensures), filled-first _ _ _ (s .pre .1 .1))
 
 search-at-requires : tie.Need-search-at-requires Inv-loop μ-loop
 search-at-requires c κs = let s = start (c .before) in (s .pre .0 .0, s .pre .0 .1, omega (arith, c .before .loop .inv .1))
@@ -119,7 +119,7 @@ same-length c = c .before .loop .inv .2 .long
 returns : tie.Need-returns Inv-loop μ-loop
 returns c =
     let l = c .before .loop in
-    let e : l .k ≡ blocks (sizesOf (start (c .before) .args .q)) = omega (arith, l .inv .1) in
+    let e : l .k ≡ blocks (settingOf (start (c .before) .args .q)) = omega (arith, l .inv .1) in
     rw e at (l .inv .2)
 
 pub fill-list-spec : {M : Type 1} → statement M
@@ -128,7 +128,7 @@ fill-list-spec =
     (tie.spec
     Inv-loop
     μ-loop
-    sizes-of-requires
+    setting-of-requires
     block-count-requires
     loop-holds
     search-at-requires

@@ -6,15 +6,15 @@ use denote.Ref.{now}
 use lib.ListN.{length}
 use borrow.Author.Needs.{needs}
 use Rattle.frame.specs.Grid.{blockRow, blockColumn, block-down, block-across}
-use Rattle.refusals.specs.Refusals.{sizesOf, Requested, requested, window-small}
+use Rattle.refusals.specs.Refusals.{settingOf, Requested, requested, window-small}
 use Rattle.pruned_region.proofs.Windows.{covers-frame}
 use Rattle.block.specs.Block.{search-fine, block-accepted, searched-pruned}
 use Rattle.field_block.proofs.Sound.{Bytes, block-is}
 use Rattle.field_block.proofs.search_at.Statement.{statement}
 use Rattle.field_block.proofs.search_at.Tie as tie
 
-sizes-of-requires : tie.Need-sizes-of-requires
-sizes-of-requires c κs = search needs
+setting-of-requires : tie.Need-setting-of-requires
+setting-of-requires c κs = search needs
 
 request-at : (c : tie.After-shared-slice-known3) →
     let a = c .before .before .before .args in
@@ -28,10 +28,10 @@ bytes c = (
 )
 
 block-row-requires : tie.Need-block-row-requires
-block-row-requires c κs = let k = c .before in rw (c .sizes-of .ensures) (request-at k .paired .fitting, k .before .before .before .pre .2)
+block-row-requires c κs = let k = c .before in rw (c .setting-of .ensures) (request-at k .paired .fitting, k .before .before .before .pre .2)
 
 block-column-requires : tie.Need-block-column-requires
-block-column-requires c κs = let k = c .before .before in rw (c .before .sizes-of .ensures) (request-at k .paired .fitting, k .before .before .before .pre .2)
+block-column-requires c κs = let k = c .before .before in rw (c .before .setting-of .ensures) (request-at k .paired .fitting, k .before .before .before .pre .2)
 
 whole-frame-requires : tie.Need-whole-frame-requires
 whole-frame-requires c κs = search needs
@@ -39,18 +39,18 @@ whole-frame-requires c κs = search needs
 row-is : (b : tie.After-block-column) →
     let z = b .before .before in
     let a = z .before .before .before .before .args in
-    b .before .block-row .result ≡ blockRow (sizesOf (a .q)) (a .k)
+    b .before .block-row .result ≡ blockRow (settingOf (a .q)) (a .k)
 row-is b =
     let z = b .before .before in
-    b .before .block-row .ensures ∙ ap (λ s. blockRow s (z .before .before .before .before .args .k)) (z .sizes-of .ensures)
+    b .before .block-row .ensures ∙ ap (λ s. blockRow s (z .before .before .before .before .args .k)) (z .setting-of .ensures)
 
 column-is : (b : tie.After-block-column) →
     let z = b .before .before in
     let a = z .before .before .before .before .args in
-    b .block-column .result ≡ blockColumn (sizesOf (a .q)) (a .k)
+    b .block-column .result ≡ blockColumn (settingOf (a .q)) (a .k)
 column-is b =
     let z = b .before .before in
-    b .block-column .ensures ∙ ap (λ s. blockColumn s (z .before .before .before .before .args .k)) (z .sizes-of .ensures)
+    b .block-column .ensures ∙ ap (λ s. blockColumn s (z .before .before .before .before .args .k)) (z .setting-of .ensures)
 
 -- block k lies inside
 lies : (b : tie.After-block-column) →
@@ -69,10 +69,10 @@ search-requires c κs =
     let z = b .before .before in
     let s = z .before .before .before .before in
     let a = request-at (z .before) in
-    rw (z .sizes-of .ensures, c .whole-frame .ensures) (
+    rw (z .setting-of .ensures, c .whole-frame .ensures) (
       record {
         ready = record { placed = record { paired = a .paired; down = lies b .0; across = lies b .1 }; window = window-small _ _ (a .window) };
-        covers = covers-frame (record { sizes = sizesOf (s .args .q); w = s .args .q .w; y = b .before .block-row .result; x = b .block-column .result });
+        covers = covers-frame (record { setting = settingOf (s .args .q); w = s .args .q .w; y = b .before .block-row .result; x = b .block-column .result });
         table = s .pre .0 .sums (c .before .if1 .taken);
       },
       s .pre .1,
@@ -82,7 +82,7 @@ returns : tie.Need-returns
 returns c =
     let b = c .before .before .before .before in
     let z = b .before .before in
-    let e = rw (z .sizes-of .ensures, row-is b, column-is b) at (c .search .ensures) in
+    let e = rw (z .setting-of .ensures, row-is b, column-is b) at (c .search .ensures) in
     block-is _ _ _ (bytes (z .before)) (request-at (z .before)) _ (z .before .before .before .before .pre .2) _
     (e ∙ sym (searched-pruned _ _ _ _ (c .before .before .if1 .taken)))
 
@@ -101,7 +101,7 @@ pub search-at-spec : {M : Type 1} → statement M
 search-at-spec =
     tie.close
     (tie.spec
-    sizes-of-requires
+    setting-of-requires
     block-row-requires
     block-column-requires
     whole-frame-requires

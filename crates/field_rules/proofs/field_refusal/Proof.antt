@@ -11,7 +11,7 @@ use Rattle.field_rules.specs.Rules.{fieldRefusal, tableOk}
 use Rattle.base.specs.Tests.{or-true}
 use Rattle.frame.specs.Grid.{blocks, blocks-few}
 use Rattle.frame.specs.Pictures.{Fitting}
-use Rattle.refusals.specs.Refusals.{first-refusal-none, first-refusal-some, sizesOf, requestRefusal, requested}
+use Rattle.refusals.specs.Refusals.{first-refusal-none, first-refusal-some, settingOf, requestRefusal, requested}
 use borrow.Author.Needs.{needs}
 use Rattle.field_rules.proofs.field_refusal.Statement.{statement}
 use Rattle.field_rules.proofs.field_refusal.Tie as tie
@@ -27,7 +27,7 @@ returns c = c .before .request-refusal .ensures ∙ sym (first-refusal-some _ _ 
 zero-is : (c : tie.Else1) → let a = c .before .before .args in requestRefusal (a .older) (a .newer) (a .q) ≡ 0
 zero-is c = sym (c .before .request-refusal .ensures) ∙ c .if1 .left
 
-fine : (c : tie.Else1) → Fitting (sizesOf (c .before .before .args .q))
+fine : (c : tie.Else1) → Fitting (settingOf (c .before .before .args .q))
 fine c = requested _ _ _ (zero-is c) .paired .fitting
 
 area : (h w : ℕ) → h ≤ 1024 → w ≤ 1024 → (h + 1) * (w + 1) ≤ 1050625
@@ -51,17 +51,17 @@ returns-2 c =
     let t = c .before .before .before in
     sym (first-refusal-none _ _ (zero-is (t .before .before)) ∙ rw (eq-eqb _ 2 (t .if2 .taken), lt-leb _ _ (c .if3 .taken)))
 
-sizes-of-requires : tie.Need-sizes-of-requires
-sizes-of-requires c κs = search needs
+setting-of-requires : tie.Need-setting-of-requires
+setting-of-requires c κs = search needs
 
 block-count-requires : tie.Need-block-count-requires
-block-count-requires c κs = rw (c .sizes-of .ensures) (fine (c .before .before .before))
+block-count-requires c κs = rw (c .setting-of .ensures) (fine (c .before .before .before))
 
 abbrev start : tie.After-block-count → tie.Start
 start c = let j = c .before .before in j .before .before .before .before
 
-count-is : (c : tie.After-block-count) → c .block-count .result ≡ blocks (sizesOf (start c .args .q))
-count-is c = c .block-count .ensures ∙ ap blocks (c .before .sizes-of .ensures)
+count-is : (c : tie.After-block-count) → c .block-count .result ≡ blocks (settingOf (start c .args .q))
+count-is c = c .block-count .ensures ∙ ap blocks (c .before .setting-of .ensures)
 
 mul-if4 : tie.Need-mul-if4
 mul-if4 c = omega (arith, count-is c, blocks-few _ (fine (c .before .before .before .before)))
@@ -94,7 +94,7 @@ field-refusal-spec =
     add-if3-2
     mul-if3
     returns-2
-    sizes-of-requires
+    setting-of-requires
     block-count-requires
     mul-if4
     returns-3

@@ -13,10 +13,10 @@ abbrev start : tie.After-struct-known → tie.Start
 start c = c .before .before .before .before
 
 -- the block against the older one at the same place
-at-its-place : (s : tie.Start) → let b = s .args .b in Comparable (now (s .args .older)) (now (s .args .newer)) (b .sizes) (b .y) (b .x) (b .y) (b .x)
+at-its-place : (s : tie.Start) → let b = s .args .b in Comparable (now (s .args .older)) (now (s .args .newer)) (b .setting) (b .y) (b .x) (b .y) (b .x)
 at-its-place s = let p = s .pre .0 .0 .placed in record { placed = p; down = p .down; across = p .across }
 
-first : (s : tie.Start) → let b = s .args .b in b .y * b .sizes .width + b .x ≤ length (now (s .args .newer))
+first : (s : tie.Start) → let b = s .args .b in b .y * b .setting .width + b .x ≤ length (now (s .args .newer))
 first s = begins _ _ _ _ _ _ _ (at-its-place s) .0
 
 choose-requires : tie.Need-choose-requires

@@ -25,7 +25,7 @@ some g =
     let s = g .before .before .before .before in
     let r = s .pre .0 in
     let b = s .args .b in
-    let still = still-passes (pairOf (now (s .args .older)) (now (s .args .newer)) (b .sizes)) (b .w) (b .y) (b .x) (r .window) (r .placed .down)
+    let still = still-passes (pairOf (now (s .args .older)) (now (s .args .newer)) (b .setting)) (b .w) (b .y) (b .x) (r .window) (r .placed .down)
     (r .placed .across) in
     omega (arith, g .gather .ensures .many, pick-head (candidateAt b) 1088 still .0)
 

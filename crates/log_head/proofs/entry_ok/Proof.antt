@@ -3,7 +3,7 @@ use mathlib.Core.Path.{_≡_}
 use native.Mathlib.Omega.{arith}
 use borrow.Author.Needs.{needs}
 use Rattle.base.specs.Tests.{passed, failed}
-use Rattle.log_head.specs.Heads.{entryOk, candidateOk, headed, sizesIn}
+use Rattle.log_head.specs.Heads.{entryOk, candidateOk, headed, settingIn}
 use mir.Facts.{toZ-ofZ}
 use Rattle.log_head.proofs.entry_ok.Statement.{statement}
 use Rattle.log_head.proofs.entry_ok.Tie as tie
@@ -11,17 +11,17 @@ use Rattle.log_head.proofs.entry_ok.Tie as tie
 -- what `candidate_ok` answers
 answered : (c : tie.After-candidate-ok) →
     let a = c .before .before .args in
-    c .candidate-ok .result ≡ candidateOk (sizesIn (a .h)) (a .h .w) (a .k) (a .dy) (a .dx)
+    c .candidate-ok .result ≡ candidateOk (settingIn (a .h)) (a .h .w) (a .k) (a .dy) (a .dx)
 answered c =
     let z = c .before in
     let s = z .before in
-    rw (← (z .sizes-in .ensures)) (rw (toZ-ofZ (s .fits .dy), toZ-ofZ (s .fits .dx)) at (c .candidate-ok .ensures))
+    rw (← (z .setting-in .ensures)) (rw (toZ-ofZ (s .fits .dy), toZ-ofZ (s .fits .dx)) at (c .candidate-ok .ensures))
 
-sizes-in-requires : tie.Need-sizes-in-requires
-sizes-in-requires c κs = search needs
+setting-in-requires : tie.Need-setting-in-requires
+setting-in-requires c κs = search needs
 
 candidate-ok-requires : tie.Need-candidate-ok-requires
-candidate-ok-requires c κs = let a = c .before in rw (c .sizes-in .ensures) (headed (a .args .h) (a .pre .0) .fitting, a .pre .1)
+candidate-ok-requires c κs = let a = c .before in rw (c .setting-in .ensures) (headed (a .args .h) (a .pre .0) .fitting, a .pre .1)
 
 returns : tie.Need-returns
 unfolding entryOk
@@ -43,4 +43,4 @@ returns-2 c =
 pub entry-ok-spec : {M : Type 1} → statement M
 entry-ok-spec =
     tie.close
-    (tie.spec sizes-in-requires candidate-ok-requires returns distortion-ok-requires returns-2)
+    (tie.spec setting-in-requires candidate-ok-requires returns distortion-ok-requires returns-2)

@@ -3,7 +3,7 @@ use mathlib.Core.Path.{_≡_, ap, _∙_}
 use borrow.Author.Needs.{needs}
 use mathlib.Core.Bool.{true}
 use Rattle.base.specs.Tests.{passed, failed}
-use Rattle.log_head.specs.Heads.{headRefusal, sizesIn}
+use Rattle.log_head.specs.Heads.{headRefusal, settingIn}
 use Rattle.refusals.specs.Refusals.{sideOk, blockOk, searchOk}
 use Rattle.log_head.proofs.head_refusal.Statement.{statement}
 use Rattle.log_head.proofs.head_refusal.Tie as tie
@@ -28,8 +28,8 @@ wide d = passed (d .before .side-ok .ensures) (d .if1 .left)
 high : (d : tie.Else2) → sideOk (start (at-width d) .args .h .height) ≡ true
 high d = passed (d .before .side-ok2 .ensures) (d .if2 .left)
 
-fits : (d : tie.Else3) → blockOk (sizesIn (start (at-width (at-height d)) .args .h)) ≡ true
-fits d = passed (d .before .block-ok .ensures ∙ ap blockOk (d .before .before .sizes-in .ensures)) (d .if3 .left)
+fits : (d : tie.Else3) → blockOk (settingIn (start (at-width (at-height d)) .args .h)) ≡ true
+fits d = passed (d .before .block-ok .ensures ∙ ap blockOk (d .before .before .setting-in .ensures)) (d .if3 .left)
 
 side-ok-requires : tie.Need-side-ok-requires
 side-ok-requires c κs = search needs
@@ -45,8 +45,8 @@ returns-2 : tie.Need-returns-2
 unfolding headRefusal
 returns-2 c = rw (wide (c .before .before), failed (c .before .side-ok2 .ensures) (c .if2 .taken))
 
-sizes-in-requires : tie.Need-sizes-in-requires
-sizes-in-requires c κs = search needs
+setting-in-requires : tie.Need-setting-in-requires
+setting-in-requires c κs = search needs
 
 block-ok-requires : tie.Need-block-ok-requires
 block-ok-requires c κs = search needs
@@ -56,7 +56,7 @@ unfolding headRefusal
 returns-3 c =
     let b = c .before in
     let d = b .before .before in
-    rw (wide (at-width d), high d, failed (b .block-ok .ensures ∙ ap blockOk (b .before .sizes-in .ensures)) (c .if3 .taken))
+    rw (wide (at-width d), high d, failed (b .block-ok .ensures ∙ ap blockOk (b .before .setting-in .ensures)) (c .if3 .taken))
 
 search-ok-requires : tie.Need-search-ok-requires
 search-ok-requires c κs = search needs
@@ -99,7 +99,7 @@ head-refusal-spec =
     returns
     side-ok-requires-2
     returns-2
-    sizes-in-requires
+    setting-in-requires
     block-ok-requires
     returns-3
     search-ok-requires

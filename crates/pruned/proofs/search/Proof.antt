@@ -32,7 +32,7 @@ use Rattle.pruned.proofs.search.Tie as tie
 
 abbrev Inv-loop : tie.InvT-loop
 Inv-loop older newer order b sums a remaining₀ dist₀ n blocksums total r₀ m₀ remaining dist r m =
-    Going (stillDistortion (pairOf older newer (b .sizes)) (b .y) (b .x)) (distortionOf older newer b) (distanceOf older newer b) (b .sizes .n)
+    Going (stillDistortion (pairOf older newer (b .setting)) (b .y) (b .x)) (distortionOf older newer b) (distanceOf older newer b) (b .setting .n)
     (candidateAt b) m remaining dist r × (length (pick (candidateAt b) vectorCount) ≡ total)
 
 abbrev μ-loop : tie.MeasureT-loop
@@ -122,7 +122,7 @@ loop-holds c =
     let d = filled-is _ _ _ _ _ (c .before .before .before .fill-distances .ensures) refl (gathered-few _ a) in
     let t = c .sifted .ensures in
     let r = s .pre .0 .ready in
-    let p = pairOf (now (s .args .older)) (now (s .args .newer)) (s .args .b .sizes) in (
+    let p = pairOf (now (s .args .older)) (now (s .args .newer)) (s .args .b .setting) in (
       going-first _ _ _ _ refl a f _
           (λ h e. rw (t .1) (sift-done _ _ h e (omega (arith, h .long, gathered-few _ a, f .count)) (omega (arith, f .slot)) (rw (f .count) d) (t .0)))
           (d .long)
@@ -166,7 +166,7 @@ loop-again c =
     let h : 2 ≤ i .loop .m = omega (arith, c .before .before .before .before .loop-test .taken) in
     let few = going-listed g .few in
     let s = start (tabled i) in (
-      going-more g _ _ _ (safe-at (pairOf (now (s .args .older)) (now (s .args .newer)) (s .args .b .sizes)) _ _) h
+      going-more g _ _ _ (safe-at (pairOf (now (s .args .older)) (now (s .args .newer)) (s .args .b .setting)) _ _) h
           (level-done _ (distanceOf (now (s .args .older)) (now (s .args .newer)) (s .args .b)) _ (c .level .ensures) (g .wide) (going-some g) few
           (omega (arith, going-room g h)))
           (level-wide _ _ (c .level .ensures) (g .wide) (going-some g) few),

@@ -49,7 +49,7 @@ news c k = newer-bytes (given (c .before)) k
 -- the newer block's squares
 squares : (c : tie.After-cut) →
     let a = start c .args in
-    Cut (blockAt (now (a .newer)) (a .b .sizes .width) (a .b .y) (a .b .x)) (a .m) (a .b .sizes .n / a .m) (a .a .columns + 1)
+    Cut (blockAt (now (a .newer)) (a .b .setting .width) (a .b .y) (a .b .x)) (a .m) (a .b .setting .n / a .m) (a .a .columns + 1)
     (c .cut .last .1 .1 .0) (c .cut .last .1 .1 .1 .0)
 squares c = cut-is _ _ _ _ (start c .pre .3) refl (tested c .whole) _ _ _ _ (c .cut .ensures .0) (c .cut .ensures .1)
 
@@ -73,7 +73,7 @@ cut-requires c κs =
     let s = entry (given c) in
     let t = s .pre .2 in
     let small = size _ _ _ _ _ _ _ _ t in
-    let few = squares-few (s .args .b .sizes .n / s .args .m) (s .args .m) (t .two) (omega (arith, t .whole, small)) in
+    let few = squares-few (s .args .b .setting .n / s .args .m) (s .args .m) (t .two) (omega (arith, t .whole, small)) in
     let narrows = narrow _ _ _ _ _ _ _ _ t in
     (cuttable _ _ _ _ (s .pre .3) refl (t .whole) small narrows (λ i j. newer-bytes (given c) _), few, few)
 

@@ -37,12 +37,12 @@ tested : (c : tie.After-corner-region) →
     Tested (now (a .older)) (now (a .newer)) (a .b) (now (a .sums)) (a .a) (a .m) (now (a .remaining)) (a .count)
 tested c = start c .pre .0 .2
 
-whole : (c : tie.After-corner-region) → start c .args .k * start c .args .m ≡ start c .args .b .sizes .n
+whole : (c : tie.After-corner-region) → start c .args .k * start c .args .m ≡ start c .args .b .setting .n
 whole c = start c .pre .1 .0
 
 squares : (c : tie.After-corner-region) →
     let a = start c .args in
-    Cut (blockAt (now (a .newer)) (a .b .sizes .width) (a .b .y) (a .b .x)) (a .m) (a .k) (a .a .columns + 1) (now (a .block)) (now (a .steps))
+    Cut (blockAt (now (a .newer)) (a .b .setting .width) (a .b .y) (a .b .x)) (a .m) (a .k) (a .a .columns + 1) (now (a .block)) (now (a .steps))
 squares c = start c .pre .1 .1
 
 -- a pel is a byte

@@ -19,7 +19,7 @@ distortion-of-requires c κs =
       (
         omega arith,
         true-T (candidateAt (s .args .b) 0)
-            (still-passes (pairOf (now (s .args .older)) (now (s .args .newer)) (s .args .b .sizes)) _ _ _ (r .window) (r .placed .down) (r .placed .across)),
+            (still-passes (pairOf (now (s .args .older)) (now (s .args .newer)) (s .args .b .setting)) _ _ _ (r .window) (r .placed .down) (r .placed .across)),
       ),
     )
 
@@ -32,7 +32,7 @@ returns c =
     let a = c .before .before .before .before .before .args in
     record {
       bound = e .0 .below (e .1)
-          ∙ ap (distortion (pairOf (now (a .older)) (now (a .newer)) (a .b .sizes)) (a .b .y) (a .b .x)) first-still;
+          ∙ ap (distortion (pairOf (now (a .older)) (now (a .newer)) (a .b .setting)) (a .b .y) (a .b .x)) first-still;
       count = refl;
       slot = c .first-slot .ensures;
       counts = refl;

@@ -21,14 +21,14 @@ vectorIn s = vec (s .args .dy) (s .args .dx)
 -- what the call for the older block answers
 found : (o : tie.After-older-at) →
     let s = o .before .before .before .before in
-    o .older-at .result ≡ olderAt (s .args .b .sizes) (s .args .b .w) (s .args .b .y) (s .args .b .x) (vectorIn s)
+    o .older-at .result ≡ olderAt (s .args .b .setting) (s .args .b .w) (s .args .b .y) (s .args .b .x) (vectorIn s)
 found o =
     let s = o .before .before .before .before in
     rw (toZ-ofZ (s .fits .dy), toZ-ofZ (s .fits .dx)) at (o .older-at .ensures)
 
 at-candidate : (k : tie.After-r) →
     let s = start (k .before) in
-    T (candidate (s .args .b .sizes) (s .args .b .w) (s .args .b .y) (s .args .b .x) (vectorIn s))
+    T (candidate (s .args .b .setting) (s .args .b .w) (s .args .b .y) (s .args .b .x) (vectorIn s))
     × (k .r .given .0 .0 ≡ olderRow (s .args .b .y) (vectorIn s))
     × (k .r .given .0 .1 .0 ≡ olderColumn (s .args .b .x) (vectorIn s))
 at-candidate k = older-is _ _ _ _ _ _ _ (sym (found (k .before .before)) ∙ k .r .given .1)
@@ -53,7 +53,7 @@ block-distortion-requires c κs =
     let k = c .before in
     let s = start (k .before) in
     let h = at-candidate k in
-    let i = candidate-older (s .args .b .sizes) _ (s .args .b .y) (s .args .b .x) (vectorIn s) (h .0) in
+    let i = candidate-older (s .args .b .setting) _ (s .args .b .y) (s .args .b .x) (vectorIn s) (h .0) in
     record { placed = s .pre .placed; down = rw (h .1) (i .down); across = rw (h .2) (i .across) }
 
 returns-2 : tie.Need-returns-2
@@ -62,7 +62,7 @@ returns-2 c =
     let k = c .before .before in
     let s = start (k .before) in
     let h = at-candidate k in
-    let yes = T-true (candidate (s .args .b .sizes) (s .args .b .w) (s .args .b .y) (s .args .b .x) (vectorIn s)) (h .0) in
+    let yes = T-true (candidate (s .args .b .setting) (s .args .b .w) (s .args .b .y) (s .args .b .x) (vectorIn s)) (h .0) in
     rw (c .block-distortion .ensures .0, h .1, h .2, yes)
 
 pub measure-candidate-spec : {M : Type 1} → statement M
