@@ -5,8 +5,9 @@ use mathlib.Core.Path.{_≡_}
 use mathlib.Core.List.{List}
 use lib.Dec.{T}
 use Rattle.order.specs.Preference.{preferred}
+use Rattle.measures.specs.Measures.{measureOf}
 use Rattle.frame.specs.Candidates.{olderRow, olderColumn, candidate-older}
-use Rattle.distortion.specs.Blocks.{absolute, distortion, rowsFrom, Comparable, block-rows}
+use Rattle.distortion.specs.Blocks.{distortion, rowsFrom, Comparable, block-rows}
 use Rattle.frame.specs.declared.SearchBlock.{SearchBlock}
 use Rattle.search.specs.Target.{Ready, candidate-past}
 use Rattle.candidates.specs.Gathered.{candidateAt}
@@ -23,6 +24,6 @@ module _ (older newer : List ℕ) (b : SearchBlock) (k : ℕ) where
       record { placed = r .placed; down = o .down; across = o .across }
 
   pub by-rows : distortionOf older newer b k ≡
-      rowsFrom absolute older newer (b .setting .width) (b .y * b .setting .width + b .x) (beginsAt b k) (b .setting .n) (b .setting .n)
+      rowsFrom (measureOf (b .setting .measure)) older newer (b .setting .width) (b .y * b .setting .width + b .x) (beginsAt b k) (b .setting .n) (b .setting .n)
   unfolding distortion
-  by-rows = block-rows absolute older newer (b .setting .width) (b .y) (b .x) (olderRow (b .y) (preferred k)) (olderColumn (b .x) (preferred k)) (b .setting .n)
+  by-rows = block-rows (measureOf (b .setting .measure)) older newer (b .setting .width) (b .y) (b .x) (olderRow (b .y) (preferred k)) (olderColumn (b .x) (preferred k)) (b .setting .n)

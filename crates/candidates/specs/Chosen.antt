@@ -12,10 +12,11 @@ use lib.ListN.{take}
 use Rattle.base.specs.Least.{leastOf}
 use Rattle.order.specs.Preference.{preferred}
 use Rattle.order.specs.Vectors.{vectorCount}
+use Rattle.measures.specs.Measures.{measureOf}
 use Rattle.frame.specs.declared.SearchBlock.{SearchBlock}
 use Rattle.frame.specs.Pictures.{pairOf}
 use Rattle.frame.specs.Candidates.{olderRow, olderColumn}
-use Rattle.distortion.specs.Blocks.{absolute, distortion, rowsUpTo}
+use Rattle.distortion.specs.Blocks.{distortion, rowsUpTo}
 use Rattle.search.specs.Target.{Past}
 use Rattle.candidates.specs.declared.Chosen.{Chosen}
 
@@ -34,7 +35,7 @@ distortionOf older newer b k = distortion (pairOf older newer (b .setting)) (b .
 abbrev pub distortionUpTo : List ℕ → List ℕ → SearchBlock → ℕ → ℕ → ℕ
 distortionUpTo older newer b k ceiling =
     let s = b .setting in
-    rowsUpTo absolute ceiling older newer (s .width) (b .y * s .width + b .x) (beginsAt b k) (s .n) (s .n / 4)
+    rowsUpTo (measureOf (s .measure)) ceiling older newer (s .width) (b .y * s .width + b .x) (beginsAt b k) (s .n) (s .n / 4)
 
 unfoldable pub improved : Chosen → ℕ → ℕ → Chosen
 improved best k d = cond (ltb d (best .distortion)) (record { place = k; distortion = d }) best

@@ -18,7 +18,7 @@ use Rattle.order.specs.Vectors.{vec}
 use Rattle.frame.specs.Pictures.{Pair, pairOf}
 use Rattle.frame.specs.Candidates.{candidate, candidate-older}
 use Rattle.refusals.specs.Refusals.{Placed}
-use Rattle.distortion.specs.Blocks.{absolute, blockAt, newerBlock, distortionBy, distortion}
+use Rattle.distortion.specs.Blocks.{blockAt, newerBlock, measureIn, distortionBy, distortion}
 use Rattle.frame.specs.declared.SearchBlock.{SearchBlock}
 use Rattle.search.specs.declared.MeasuredCandidate.{MeasuredCandidate}
 use Rattle.search.specs.declared.MeasuredCandidate.the-variants.{Distortion, NotCandidate}
@@ -68,7 +68,7 @@ module _ (t : Target) (v : Vector) where
 
 -- (0,0) compares the block with the older block at the same place
 pub still-cost : (p : Pair) (y x : ℕ)
-    → distortion p y x (vec (pos 0) (pos 0)) ≡ distortionBy absolute (p .setting .n) (newerBlock p y x) (blockAt (p .older) (p .setting .width) y x)
+    → distortion p y x (vec (pos 0) (pos 0)) ≡ distortionBy (measureIn p) (p .setting .n) (newerBlock p y x) (blockAt (p .older) (p .setting .width) y x)
 unfolding distortion
 still-cost p y x = rw (add-zero y, add-zero x)
 
