@@ -7,7 +7,8 @@ use native.Mathlib.Nat.{zero-add}
 use lib.ListN.{length, getD}
 use Rattle.base.specs.Sum.{sumOver-ext}
 use Rattle.base.specs.Lists.{listTo, concatTo, length-listTo, getD-listTo, length-concatTo, getD-concatTo}
-use Rattle.distortion.specs.Blocks.{Measure, rowFrom, rowsApart, rowsFrom}
+use Rattle.measures.specs.Measures.{Measure}
+use Rattle.distortion.specs.Blocks.{rowFrom, rowsApart, rowsFrom}
 
 unfoldable pub blockCopy : List ℕ → ℕ → ℕ → ℕ → List ℕ
 blockCopy newer width a n = concatTo (λ i. listTo (λ j. getD newer (a + i * width + j) 0) n) n

@@ -6,7 +6,8 @@ use native.Mathlib.Omega.{arith}
 use lib.Dec.{T}
 use lib.ListN.{length}
 use Rattle.base.specs.Index.{frame-small}
-use Rattle.distortion.specs.Blocks.{absolute, rowsFrom, rowsApart, begins, block-inside}
+use Rattle.measures.specs.Measures.{measureOf}
+use Rattle.distortion.specs.Blocks.{rowsFrom, rowsApart, begins, block-inside}
 use Rattle.block_copy.specs.Copy.{copy-rows}
 use Rattle.frame.specs.declared.SearchBlock.{SearchBlock}
 use Rattle.search.specs.Target.{Ready}
@@ -17,12 +18,12 @@ use Rattle.full.specs.Full.{CopyOf}
 
 module _ (older newer : List ℕ) (b : SearchBlock) (k : ℕ) where
   pub by-copy : (block : List ℕ) → CopyOf newer b block
-      → rowsApart absolute older block 16 (b .setting .width) 0 (beginsAt b k) 16 16 ≡ distortionOf older newer b k
+      → rowsApart (measureOf (b .setting .measure)) older block 16 (b .setting .width) 0 (beginsAt b k) 16 16 ≡ distortionOf older newer b k
   by-copy block c =
       let width = b .setting .width in
       let here = b .y * width + b .x in
-      rw (c .same) (copy-rows absolute older newer width here (beginsAt b k) 16)
-      ∙ sym (by-rows older newer b k ∙ ap (λ (n : ℕ). rowsFrom absolute older newer width here (beginsAt b k) n n) (c .sixteen))
+      rw (c .same) (copy-rows (measureOf (b .setting .measure)) older newer width here (beginsAt b k) 16)
+      ∙ sym (by-rows older newer b k ∙ ap (λ (n : ℕ). rowsFrom (measureOf (b .setting .measure)) older newer width here (beginsAt b k) n n) (c .sixteen))
 
   -- what code may ask of the place where it begins
   module _ (r : Ready older newer b) (t : T (candidateAt b k)) where

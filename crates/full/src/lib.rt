@@ -29,7 +29,7 @@ fn copied_distortion_of(
 {
     let s = b.setting;
     let there = candidates::begins_at(order, b, k);
-    block_copy::copy_distortion(older, block, s.width, there as u32)
+    block_copy::copy_distortion(older, block, s.measure, s.width, there as u32)
 }
 
 // Of the listed candidates of a block of N 16, the first of least distortion, from a copy of the block: faster where there are many candidates.

@@ -19,7 +19,7 @@ use Rattle.order.specs.declared.Vector.{Vector}
 use Rattle.order.specs.Vectors.{vec, Within, same?, inWindow}
 use Rattle.frame.specs.Pictures.{Pair}
 use Rattle.frame.specs.Candidates.{candidate, candidate-older}
-use Rattle.distortion.specs.Blocks.{absolute, blockAt, newerBlock, distortionBy}
+use Rattle.distortion.specs.Blocks.{blockAt, newerBlock, measureIn, distortionBy}
 use Rattle.frame.specs.declared.SearchBlock.{SearchBlock}
 use Rattle.search.specs.declared.MeasuredCandidate.the-variants.{Distortion, NotCandidate}
 use Rattle.search.specs.Target.{Target, target, measureCandidate, measure-candidate-none, measure-candidate-some, still-cost}
@@ -39,7 +39,7 @@ holds-same o e = record { is = e; down = o .down; across = o .across; few = omeg
 
 -- ---- (0,0): the older block stands where the newer one stands
 
-pub at-origin-is : (p : Pair) (w y x d : ℕ) → d ≡ distortionBy absolute (p .setting .n) (newerBlock p y x) (blockAt (p .older) (p .setting .width) y x)
+pub at-origin-is : (p : Pair) (w y x d : ℕ) → d ≡ distortionBy (measureIn p) (p .setting .n) (newerBlock p y x) (blockAt (p .older) (p .setting .width) y x)
     → seen (point 16 16) d 1 ≡ atOrigin (target p w y x)
 unfolding atOrigin unbias
 at-origin-is p w y x d e = rw (still-cost p y x, e)
