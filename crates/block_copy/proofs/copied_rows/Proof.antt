@@ -12,7 +12,7 @@ use Rattle.block_copy.proofs.copied_rows.Tie as tie
 
 abbrev Inv-loop : tie.InvT-loop
 Inv-loop older block measure width b sum₀ q₀ g₀ sum q g =
-    (g ≤ 4) × (q ≡ b + 4 * g * width) × (sum ≤ g * (64 * measureOf measure .most))
+    (g ≤ 4) × (q ≡ b + 4 * g * width) × (sum ≤ g * 4161600)
     × (sum ≡ rowsApart (measureOf measure) older block 16 width 0 b 16 (4 * g))
 
 abbrev μ-loop : tie.MeasureT-loop
@@ -62,7 +62,7 @@ loop-again c =
     let p : 64 * l .g ≡ 0 + 4 * l .g * 16 = omega arith in
     let cut = rows-cut (measureOf (a .measure)) (a .older .now) (a .block .now) 16 (a .width) 0 (a .b) 16 (4 * l .g) 4 in
     let four = rw (l .inv .1, p) at (c .four-rows .ensures .0) in
-    (omega arith, omega (arith, turn i), omega (arith, c .four-rows .ensures .1), rw e (omega (arith, cut, four, l .inv .3)))
+    (omega arith, omega (arith, turn i), omega (arith, c .four-rows .ensures .1, most-small (a .measure)), rw e (omega (arith, cut, four, l .inv .3)))
 
 returns : tie.Need-returns Inv-loop μ-loop
 returns c =
