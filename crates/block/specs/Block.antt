@@ -1,5 +1,5 @@
 -- 01, "Field, reading, track": "A single-block search takes neither list nor table; its block stands at any pel row and column."
---   searchRefusal   1 2 3 4 5 6 7: a request, and the block's place
+--   searchRefusal   1 2 3 4 51 5 6 7: a request, and the block's place
 --   searchBlock     the answer: the number and zeros, or what the requested search finds
 -- The counts of four-step where a block stands clear of every border: proofs/Unclipped.antt.
 use Prim.Native.Nat.{ℕ, _+_, _≤_}
@@ -42,7 +42,7 @@ searchBlock older newer q y x =
 
 -- ---- what an accepted call may go by
 
--- 1 2 3 4 5 6 7: the request is one that its search takes, and the block lies in the newer frame
+-- 1 2 3 4 51 5 6 7: the request is one that its search takes, and the block lies in the newer frame
 pub record Searchable (older newer : ℕ) (q : Request) (y x : ℕ) : Type 0 where
   pub requested : Requested older newer q
   pub placed : Placed older newer (settingOf q) y x

@@ -1,4 +1,4 @@
-// The single-block call: refusals 1 to 7, then the requested search, of a block at any pel row and column.
+// The single-block call: refusals 1 to 7 and 51, then the requested search, of a block at any pel row and column.
 
 ghost use mathlib.Core.Path.{_≡_};
 ghost use Rattle.order.specs.Preference.{preference, flat};
@@ -11,7 +11,7 @@ use frame::SearchBlock;
 use refusals::Request;
 use search::SearchResult;
 
-// The first of 1 2 3 4 5 6 7 that applies, or 0.
+// The first of 1 2 3 4 51 5 6 7 that applies, or 0.
 pub fn search_refusal(older: usize, newer: usize, q: Request, y: usize, x: usize) -> u32
     ensures { λ r. ⌜ r ≡ searchRefusal older newer q y x ⌝ }
 {

@@ -1,4 +1,4 @@
--- Every search's answer is sound: its vector is a candidate, so it lies in window 16; a distortion of bytes is at most 65,280; and no search counts more
+-- Every search's answer is sound: its vector is a candidate, so it lies in window 16; a distortion of bytes is at most 65,025 × N² by either measure; and no search counts more
 -- than the 1,089 vectors of window 16.
 use Prim.Native.Nat.{ℕ, zero, suc, _+_, _*_, _≤_, _<_}
 use mathlib.Core.Path.{_≡_, refl}
@@ -12,12 +12,13 @@ use Rattle.base.specs.Picks.{pick-few}
 use Rattle.order.specs.declared.Vector.{Vector}
 use Rattle.order.specs.Vectors.{Within, vectorCount}
 use Rattle.base.specs.AtMost.{one-most, zeros-most, append-most}
+use Rattle.measures.specs.Measures.{squares, measureOf, most-small}
 use Rattle.refusals.specs.declared.Request.{Request}
-use Rattle.frame.specs.Pictures.{Pair, pairOf, largestDistortion, lastCount}
+use Rattle.frame.specs.Pictures.{Pair, pairOf, largestN, lastCount}
 use Rattle.frame.specs.Candidates.{Candidate, candidate, candidate-yes}
 use Rattle.refusals.specs.Cross.{crossWindow, cross as cross-is}
 use Rattle.refusals.specs.Refusals.{settingOf, blockSizeOk, block-size-elim, Requested, window-small, windowOk}
-use Rattle.distortion.specs.Blocks.{distortion, distortion-bound}
+use Rattle.distortion.specs.Blocks.{distortion, distortion-most}
 use Rattle.search.specs.declared.SearchResult.{SearchResult}
 use Rattle.search.specs.SearchResult.{searchResult, onlyAtOne}
 use Rattle.search.specs.Target.{target}
@@ -41,7 +42,7 @@ abbrev pub Bytes : List ℕ → Type 0
 Bytes l = (i : ℕ) → getD l i 0 ≤ 255
 
 -- an answer that counts at m = 1 alone
-sound-at-one : (v : Vector) (d n : ℕ) → Within 16 v → d ≤ largestDistortion → n ≤ vectorCount → Sound (searchResult v d (onlyAtOne n) 0)
+sound-at-one : (v : Vector) (d n : ℕ) → Within 16 v → d ≤ largestN * (largestN * squares .most) → n ≤ vectorCount → Sound (searchResult v d (onlyAtOne n) 0)
 sound-at-one v d n near few h = record {
   within = near;
   distortion = few;
@@ -53,12 +54,14 @@ places-few : (p : Pair) (w y x : ℕ) → length (places (p .setting) w y x) ≤
 places-few p w y x = pick-few _ vectorCount
 
 module _ (p : Pair) (bytes : Bytes (p .older) × Bytes (p .newer)) (allowed : T (blockSizeOk (p .setting .n))) where
-  distortion-few : (y x : ℕ) (v : Vector) → distortion p y x v ≤ largestDistortion
+  distortion-few : (y x : ℕ) (v : Vector) → distortion p y x v ≤ largestN * (largestN * squares .most)
   unfolding distortion
   distortion-few y x v =
       le-trans
-      (distortion-bound 255 (p .setting .n) _ _ (λ i j hi hj. (bytes .1 _, bytes .0 _)))
-      (block-size-elim (λ (n : ℕ). n * (n * 255) ≤ largestDistortion) (omega arith) (omega arith) (omega arith) (p .setting .n) allowed)
+      (distortion-most (p .setting .measure) (p .setting .n) _ _ (λ i j hi hj. (bytes .1 _, bytes .0 _)))
+      (let h = most-small (p .setting .measure) in
+      block-size-elim (λ (n : ℕ). n * (n * measureOf (p .setting .measure) .most) ≤ largestN * (largestN * squares .most)) (omega (arith, h)) (omega (arith, h))
+      (omega (arith, h)) (p .setting .n) allowed)
 
   module _ (w y x : ℕ) (small : w ≤ 16) (down : y + p .setting .n ≤ p .setting .height) (across : x + p .setting .n ≤ p .setting .width) where
     near : (v : Vector) → Candidate (p .setting) w y x v → Within 16 v

@@ -10,7 +10,8 @@ use lib.ListN.{length, getD}
 use Rattle.order.specs.declared.Vector.{Vector}
 use Rattle.order.specs.Vectors.{Within, vectorCount}
 use Rattle.base.specs.Lists.{listTo}
-use Rattle.frame.specs.Pictures.{Pair, largestDistortion, countNumber}
+use Rattle.measures.specs.Measures.{squares}
+use Rattle.frame.specs.Pictures.{Pair, largestN, countNumber}
 use Rattle.frame.specs.Grid.{blockRow, blockColumn}
 use Rattle.refusals.specs.declared.Request.{Request}
 use Rattle.refusals.specs.Refusals.{requestRefusal}
@@ -34,7 +35,7 @@ pub record Prepared (older newer : List ℕ) (q : Request) (table : List ℕ) : 
 
 pub record Sound (f : SearchResult) : Type 0 where
   pub within : Within 16 (vectorIn f)
-  pub distortion : f .distortion ≤ largestDistortion
+  pub distortion : f .distortion ≤ largestN * (largestN * squares .most)
   pub count : (i : ℕ) → getD (f .counts) i 0 ≤ vectorCount
   pub dropped : f .dropped ≤ vectorCount
 

@@ -2,7 +2,7 @@
 -- a field's tests as one chain.
 --   tableSize, listSize     places of the table and of the list that are used
 --   tableOk 9 · listOk 10   what each number asks for
---   fieldRefusal            1 2 3 4 5 6 9 10: a request, and the lengths of table and list
+--   fieldRefusal            1 2 3 4 51 5 6 9 10: a request, and the lengths of table and list
 --   HasRoom                 what an accepted field call may go by: has-room
 use Prim.Native.Nat.{ℕ, _+_, _*_, _≤_}
 use mathlib.Core.Path.{_≡_}

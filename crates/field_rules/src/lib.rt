@@ -4,7 +4,7 @@ ghost use mathlib.Core.Path.{_≡_};
 ghost use Rattle.field_rules.specs.Rules.{fieldRefusal};
 use refusals::Request;
 
-// The first of 1 2 3 4 5 6 9 10 that applies, or 0; list and table by their lengths.
+// The first of 1 2 3 4 51 5 6 9 10 that applies, or 0; list and table by their lengths.
 pub fn field_refusal(older: usize, newer: usize, q: Request, list: usize, table: usize) -> u32
     ensures { λ r. ⌜ r ≡ fieldRefusal older newer q list table ⌝ }
 {

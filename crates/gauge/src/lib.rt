@@ -6,7 +6,7 @@ ghost use lib.ListN.{length};
 ghost use Rattle.order.specs.Vectors.{vec};
 ghost use Rattle.frame.specs.Pictures.{setting, pairOf};
 ghost use Rattle.view.specs.View.{viewPlace};
-ghost use Rattle.measuring.specs.Measured.{measure};
+ghost use Rattle.measuring.specs.Measured.{measureVector};
 ghost use Rattle.block.specs.Block.{searchBlock};
 ghost use Rattle.field.specs.Field.{fieldResult, field};
 ghost use Rattle.track.specs.Track.{trackNew, trackHome, stepResult, trackStep};
@@ -31,7 +31,7 @@ use track::Stepped;
 use track::Track;
 use view::RowView;
 
-// Measures one vector: the distortion of the newer block at a row and a column for (dy, dx).
+// Measures one vector: the distortion of the newer block at a row and a column for (dy, dx), by the measure.
 #[no_mangle]
 pub extern "C" fn gauge_measure(
     older: &[u8],
@@ -43,14 +43,20 @@ pub extern "C" fn gauge_measure(
     column: usize,
     dy: i32,
     dx: i32,
+    measure: u32,
 ) -> Measured
-    ensures { λ r. ⌜ r ≡ measure (pairOf (now (older .entry)) (now (newer .entry)) (setting width height n)) row column (vec dy dx) ⌝ }
+    ensures { λ r. ⌜ r ≡ measureVector (pairOf (now (older .entry)) (now (newer .entry)) (setting width height n measure)) row column (vec dy dx) ⌝ }
 {
-    let s = Setting { width, height, n };
+    let s = Setting {
+        width,
+        height,
+        n,
+        measure,
+    };
     measuring::measure(older, newer, s, row, column, dy, dx)
 }
 
-// The row view: where in its frame the N pels stand.
+// The row view: where in its frame the N pels stand. It measures nothing, so the measure that goes with its pair is any one.
 #[no_mangle]
 pub extern "C" fn gauge_row_view(
     older: &[u8],
@@ -62,9 +68,14 @@ pub extern "C" fn gauge_row_view(
     row: usize,
     column: usize,
 ) -> RowView
-    ensures { λ r. ⌜ r ≡ viewPlace (length (now (older .entry))) (length (now (newer .entry))) (setting width height n) side row column ⌝ }
+    ensures { λ r. ⌜ r ≡ viewPlace (length (now (older .entry))) (length (now (newer .entry))) (setting width height n 1) side row column ⌝ }
 {
-    let s = Setting { width, height, n };
+    let s = Setting {
+        width,
+        height,
+        n,
+        measure: 1,
+    };
     view::view_place(older.len(), newer.len(), s, side, row, column)
 }
 

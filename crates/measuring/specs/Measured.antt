@@ -1,7 +1,7 @@
 -- 01, "Field, reading, track": "The measuring call takes a pair, N, such a place and one vector, and answers with the distortion." Such a place is any
 -- pel row and column at which a block may stand.
---   measureRefusal   1 2 3 7 8: a pair, N, the block's place, and the vector
---   measure          the answer: the number and 0, or 0 and the distortion
+--   measureRefusal   1 2 3 51 7 8: a pair, N, the measure, the block's place, and the vector
+--   measureVector    the answer: the number and 0, or 0 and the distortion
 use Prim.Native.Nat.{ℕ}
 use mathlib.Core.Path.{_≡_}
 use mathlib.Core.Bool.{true, false, cond}
@@ -23,8 +23,8 @@ measureRefusal older newer s y x v = firstRefusal (placedRefusal older newer s y
 abbrev pub refusedBy : ℕ → Measured
 refusedBy refusal = record { refusal = refusal; distortion = 0 }
 
-unfoldable pub measure : Pair → ℕ → ℕ → Vector → Measured
-measure p y x v =
+unfoldable pub measureVector : Pair → ℕ → ℕ → Vector → Measured
+measureVector p y x v =
     let refusal = measureRefusal (length (p .older)) (length (p .newer)) (p .setting) y x v in
     cond (eqb refusal 0)
     (record { refusal = 0; distortion = distortion p y x v })
@@ -36,14 +36,14 @@ module _ (p : Pair) (y x : ℕ) (v : Vector) where
   abbrev before : ℕ
   before = placedRefusal (length (p .older)) (length (p .newer)) (p .setting) y x
 
-  pub measured-refused : (before ≡ 0 → ⊥) → measure p y x v ≡ refusedBy before
-  unfolding measure measureRefusal
+  pub measured-refused : (before ≡ 0 → ⊥) → measureVector p y x v ≡ refusedBy before
+  unfolding measureVector measureRefusal
   measured-refused h = rw (first-refusal-some before _ h, ne-eqb before 0 h)
 
-  pub measured-outside : before ≡ 0 → candidate (p .setting) 16 y x v ≡ false → measure p y x v ≡ refusedBy 8
-  unfolding measure measureRefusal
+  pub measured-outside : before ≡ 0 → candidate (p .setting) 16 y x v ≡ false → measureVector p y x v ≡ refusedBy 8
+  unfolding measureVector measureRefusal
   measured-outside h e = rw (first-refusal-none before _ h, e)
 
-  pub measured-at : before ≡ 0 → candidate (p .setting) 16 y x v ≡ true → measure p y x v ≡ record { refusal = 0; distortion = distortion p y x v }
-  unfolding measure measureRefusal
+  pub measured-at : before ≡ 0 → candidate (p .setting) 16 y x v ≡ true → measureVector p y x v ≡ record { refusal = 0; distortion = distortion p y x v }
+  unfolding measureVector measureRefusal
   measured-at h e = rw (first-refusal-none before _ h, e)

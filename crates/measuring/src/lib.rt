@@ -3,7 +3,7 @@
 ghost use mathlib.Core.Path.{_≡_};
 ghost use Rattle.order.specs.Vectors.{vec};
 ghost use Rattle.frame.specs.Pictures.{pairOf};
-ghost use Rattle.measuring.specs.Measured.{measure, refusedBy};
+ghost use Rattle.measuring.specs.Measured.{measureVector, refusedBy};
 use frame::Older;
 use frame::Setting;
 
@@ -34,7 +34,7 @@ pub fn measure(
     dy: i32,
     dx: i32,
 ) -> Measured
-    ensures { λ m. ⌜ m ≡ measure (pairOf (now (older .entry)) (now (newer .entry)) s) y x (vec dy dx) ⌝ }
+    ensures { λ m. ⌜ m ≡ measureVector (pairOf (now (older .entry)) (now (newer .entry)) s) y x (vec dy dx) ⌝ }
 {
     let refusal = refusals::placed_refusal(older.len(), newer.len(), s, y, x);
     if refusal != 0 {

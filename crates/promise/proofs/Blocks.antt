@@ -71,7 +71,7 @@ module _ (p : Pair) (w : ℕ) (f : Fine p w) where
   module _ (y x : ℕ) (hy : y + p .setting .n ≤ p .setting .height) (hx : x + p .setting .n ≤ p .setting .width) where
     request-two : requestChain p 2 w 0 ≡ 0
     unfolding windowOk thresholdOk
-    request-two = request-any p 2 w 0 (f .pair) tt (le→leb w 16 (f .small)) tt
+    request-two = request-any p 2 w 0 f tt (le→leb w 16 (f .small)) tt
 
     single-is : blockOn p 2 w 0 y x ≡ prunedSearch p w y x
     single-is =

@@ -9,6 +9,7 @@ use lib.Dec.{T, eqb}
 use lib.IntN.{ℤ}
 use lib.ListN.{length}
 use Rattle.base.specs.Tests.{T-true}
+use Rattle.measures.specs.Measures.{measureOk}
 use Rattle.frame.specs.Pictures.{Pair}
 use Rattle.refusals.specs.Refusals.{unless, firstRefusal, first-refusal-zero, searchOk, windowOk, thresholdOk, requestOf}
 use Rattle.refusals.specs.Refusals.{pairRefusal, requestRefusal, Paired, paired, window-small}
@@ -44,9 +45,10 @@ module _ (p : Pair) where
   abbrev pub fieldChain : (s w t list table : ℕ) → ℕ
   fieldChain s w t list table = fieldRefusal (length (p .older)) (length (p .newer)) (requestOf (p .setting) s w t) list table
 
-  -- what an accepted step's pair and window have
+  -- what an accepted step's pair, measure and window have
   pub record Fine (w : ℕ) : Type 0 where
     pub pair : pairChain ≡ 0
+    pub measure : T (measureOk (p .setting .measure))
     pub small : w ≤ 16
 
   pub fine-paired : {w : ℕ} → Fine w → Paired (length (p .older)) (length (p .newer)) (p .setting)
@@ -55,20 +57,24 @@ module _ (p : Pair) where
   pub request-fine : (s w t : ℕ) → requestChain s w t ≡ 0 → Fine w
   unfolding requestRefusal
   request-fine s w t e =
-      record {
-        pair = first-refusal-zero pairChain _ e .0;
-        small = window-small s w (refusals.requested (length (p .older)) (length (p .newer)) (requestOf (p .setting) s w t) e .window);
-      }
+      let r = refusals.requested (length (p .older)) (length (p .newer)) (requestOf (p .setting) s w t) e in
+      record { pair = first-refusal-zero pairChain _ e .0; measure = r .measure; small = window-small s w (r .window) }
 
   pub field-request : (s w t list table : ℕ) → fieldChain s w t list table ≡ 0 → requestChain s w t ≡ 0
   unfolding fieldRefusal
   field-request s w t list table e = first-refusal-zero (requestChain s w t) _ e .0
 
-  -- the same pair, for any search with a window and a threshold that it takes
-  pub request-any : (s w t : ℕ) → pairChain ≡ 0 → T (searchOk s) → T (windowOk s w) → T (thresholdOk s t) → requestChain s w t ≡ 0
+  -- the same pair by the same measure, for any search with a window and a threshold that it takes
+  pub request-any : (s w t : ℕ) {v : ℕ} → Fine v → T (searchOk s) → T (windowOk s w) → T (thresholdOk s (p .setting .measure) t) → requestChain s w t ≡ 0
   unfolding requestRefusal firstRefusal
-  request-any s w t e r o h =
-      rw (e, T-true (searchOk s) r, T-true (windowOk s w) o, T-true (thresholdOk s t) h)
+  request-any s w t f r o h =
+      rw (
+        f .pair,
+        T-true (searchOk s) r,
+        T-true (measureOk (p .setting .measure)) (f .measure),
+        T-true (windowOk s w) o,
+        T-true (thresholdOk s (p .setting .measure) t) h,
+      )
 
   -- searches 3 and 4 use no table
   pub field-any : (s w t : ℕ) (list : List ℤ) (table : List ℕ) → requestChain s w t ≡ 0 → eqb s 2 ≡ false → listSize (p .setting) ≤ length list

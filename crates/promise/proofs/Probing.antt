@@ -44,13 +44,13 @@ module _ (p : Pair) (w : ℕ) (f : Fine p w) where
   pub four-step-runs : Runs p 3 7 0
   unfolding windowOk thresholdOk resultOf
   four-step-runs =
-      runs 3 7 0 (request-any p 3 7 0 (f .pair) tt tt tt) refl
+      runs 3 7 0 (request-any p 3 7 0 f tt tt tt) refl
       (λ y x. ap (λ (r : SearchResult). r .refusal) (searched-four-step p (requestOf (p .setting) 3 7 0) y x refl))
 
-  pub cross-runs : (u t : ℕ) → T (crossWindow u) → t ≤ largestDistortion → Runs p 4 u t
+  pub cross-runs : (u t : ℕ) → T (crossWindow u) → t ≤ largestDistortion (p .setting .measure) → Runs p 4 u t
   unfolding windowOk thresholdOk resultOf
   cross-runs u t c h =
-      runs 4 u t (request-any p 4 u t (f .pair) tt c (le→leb t largestDistortion h)) refl
+      runs 4 u t (request-any p 4 u t f tt c (le→leb t (largestDistortion (p .setting .measure)) h)) refl
       (λ y x. ap (λ (r : SearchResult). r .refusal) (searched-cross p (requestOf (p .setting) 4 u t) y x refl))
 
   -- ---- they are held against the exhaustive best: once for both, from what a search owes at a place

@@ -47,8 +47,8 @@ use Rattle.track.specs.Track.{trackNew, homedAt, movedTo, trackHome, StepResult
 
 -- ---- 1. The calls
 
--- "They are Home and Step with search 2, whatever their inputs and whatever lent memory held." Home (y, x); Step by search 2: a pair, w, T, and what list
--- and table hold
+-- "They are Home and Step with search 2, whatever their inputs and whatever lent memory held." Home (y, x); Step by search 2: a pair (its frames with width, height, N
+-- and the measure), w, T, and what list and table hold
 pub data Call : Type 0 where
   home : (y x : ℤ) → Call
   step : (p : Pair) (w t : ℕ) (list : List ℤ) (table : List ℕ) → Call
@@ -259,9 +259,9 @@ pub record Promise (calls : List Call) : Type 0 where
       × (a .dropped + getD (a .counts) lastCount 0 ≡ overGrid p (λ y x. howMany (candidate (p .setting) w y x))))
   -- "Four-step and cross .. run, unrefused, by field or single block, on an accepted step's frames and N, cross with any T it takes."
   pub four-step-runs : EachStep calls (λ p w list s. Runs p 3 7 0)
-  pub cross-runs : EachStep calls (λ p w list s. (u t : ℕ) → T (crossWindow u) → t ≤ largestDistortion → Runs p 4 u t)
-  -- "Each is held against the exhaustive best, for that step's w, of the block at the same place": four-step, where w is 7 or more, never ends lower, within
-  -- 27 probes a block
+  pub cross-runs : EachStep calls (λ p w list s. (u t : ℕ) → T (crossWindow u) → t ≤ largestDistortion (p .setting .measure) → Runs p 4 u t)
+  -- "Each is held against the exhaustive best, for that step's w, of the block at the same place", and 02, request 1: "by the same measure": four-step,
+  -- where w is 7 or more, never ends lower, within 27 probes a block
   pub four-step : EachStep calls (λ p w list s. 7 ≤ w → (t y x : ℕ) → blockOn p 3 7 t y x .refusal ≡ 0 → NotLower p w y x (blockOn p 3 7 t y x) 27)
   pub four-step-field : EachStep calls (λ p w list s. 7 ≤ w → (t : ℕ) (l : List ℤ) (table : List ℕ) → fieldOn p 3 7 t l table .answer .refusal ≡ 0
       → FieldNotLower p (s .list) (fieldOn p 3 7 t l table) 27)

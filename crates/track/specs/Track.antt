@@ -3,7 +3,7 @@
 -- end at 1,000,000. A refused call changes nothing in the track." "Travel is the reading with both signs turned."
 --   trackNew, homedAt, movedTo   the track: new, homed at a place, after a travel
 --   trackHome    what Home answers: 11, or the new place
---   stepRefusal  the refusals of a step that come before anything is filled: 1 2 3 4 5 6 9 10 31 32
+--   stepRefusal  the refusals of a step that come before anything is filled: 1 2 3 4 51 5 6 9 10 31 32
 --   arrived      the travel added, or 33
 --   StepResult   what a step answers, with what list and table then hold: trackStep
 use Prim.Native.Nat.{ℕ, _+_}

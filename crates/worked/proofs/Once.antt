@@ -21,7 +21,7 @@ use Rattle.frame.specs.Pictures.{Pair, pairOf}
 use Rattle.frame.specs.Grid.{blocks, blockRow, blockColumn}
 use Rattle.frame.specs.Candidates.{candidate}
 use Rattle.refusals.specs.Refusals.{settingOf, requestOf}
-use Rattle.distortion.specs.Blocks.{absolute}
+use Rattle.distortion.specs.Blocks.{measureIn}
 use Rattle.search.specs.declared.SearchResult.{SearchResult}
 use Rattle.search.specs.Target.{target}
 use Rattle.search.specs.SearchResult.{searchResult, onlyAtOne, vectorIn, refusedSearch}
@@ -54,10 +54,10 @@ module _ (p : Pair) (w y x : ℕ) where
   D = placeDistortion p y x
 
   abbrev pruningOf : List ℕ → Pruning
-  pruningOf = prune (stillDistortion p y x) D (placeDistance p y x) (absolute .limit) (p .setting .n) (resolutions (p .setting .n))
+  pruningOf = prune (stillDistortion p y x) D (placeDistance p y x) (measureIn p .limit) (p .setting .n) (resolutions (p .setting .n))
 
   abbrev chosenOf : List ℕ → ℕ
-  chosenOf = prunedBest (stillDistortion p y x) D (placeDistance p y x) (absolute .limit) (p .setting .n) (resolutions (p .setting .n))
+  chosenOf = prunedBest (stillDistortion p y x) D (placeDistance p y x) (measureIn p .limit) (p .setting .n) (resolutions (p .setting .n))
 
   abbrev once : {A : Type 0} → (List ℕ → A) → A
   once = after (walkPlaces (candidate (p .setting) w y x) 0 preference)

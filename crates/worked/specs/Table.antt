@@ -1,6 +1,6 @@
 -- 01, "Worked pairs": "Marked * belong to the proved set." These, A to I, stand here in one table, with one proof over it. A row has a query of a pair
 -- and the answer that is owed, in 01's words above it; it is right if the definitions that the contracts cite give that answer.
---   pairA, pairB, pairC, pairD   the frames with their sizes; E and F have C's, G and H have B's
+--   pairA, pairB, pairC, pairD   the frames with their setting, by the absolute measure; E and F have C's, G and H have B's; bySquares: by squares
 --   full, pruned, fourStep, cross   a request for a search of a pair
 --   headOf, logB, logC   a head by search 2 with w 1; the logs of B and C
 --   heldList, heldTable, heldBuffer   what lent memory held
@@ -21,8 +21,8 @@ use Rattle.order.specs.Vectors.{vec}
 use Rattle.refusals.specs.declared.Request.{Request}
 use Rattle.frame.specs.Pictures.{Pair, pairOf, setting}
 use Rattle.measuring.specs.declared.Measured.{Measured}
-use Rattle.distortion.specs.Blocks.{absolute, newerBlock, olderBlock}
-use Rattle.measuring.specs.Measured.{measure}
+use Rattle.distortion.specs.Blocks.{measureIn, newerBlock, olderBlock}
+use Rattle.measuring.specs.Measured.{measureVector}
 use Rattle.search.specs.declared.SearchResult.{SearchResult}
 use Rattle.search.specs.SearchResult.{searchResult, onlyAtOne}
 use Rattle.probe.specs.Probe.{origin}
@@ -51,19 +51,23 @@ twice rows = rows ++ rows
 
 -- A* "4×4, N 4, .. newer all 10, older all 12"
 unfoldable pub pairA : Pair
-pairA = pairOf (replicate 16 12) (replicate 16 10) (setting 4 4 4)
+pairA = pairOf (replicate 16 12) (replicate 16 10) (setting 4 4 4 1)
 
 -- B* "width 5, height 4, N 4, .. older rows 0 10 20 30 40, newer rows 10 20 30 40 99"
 unfoldable pub pairB : Pair
-pairB = pairOf (twice (twice (0 ∷ 10 ∷ 20 ∷ 30 ∷ 40 ∷ []))) (twice (twice (10 ∷ 20 ∷ 30 ∷ 40 ∷ 99 ∷ []))) (setting 5 4 4)
+pairB = pairOf (twice (twice (0 ∷ 10 ∷ 20 ∷ 30 ∷ 40 ∷ []))) (twice (twice (10 ∷ 20 ∷ 30 ∷ 40 ∷ 99 ∷ []))) (setting 5 4 4 1)
 
 -- C* "8×8, all 7, N 4"
 unfoldable pub pairC : Pair
-pairC = pairOf (replicate 64 7) (replicate 64 7) (setting 8 8 4)
+pairC = pairOf (replicate 64 7) (replicate 64 7) (setting 8 8 4 1)
 
 -- D* "4×4, newer alternating 0 and 20 along and down, older all 10"
 unfoldable pub pairD : Pair
-pairD = pairOf (replicate 16 10) (twice (0 ∷ 20 ∷ 0 ∷ 20 ∷ 20 ∷ 0 ∷ 20 ∷ 0 ∷ [])) (setting 4 4 4)
+pairD = pairOf (replicate 16 10) (twice (0 ∷ 20 ∷ 0 ∷ 20 ∷ 20 ∷ 0 ∷ 20 ∷ 0 ∷ [])) (setting 4 4 4 1)
+
+-- the same frames, measured by squares (02, request 1)
+abbrev pub bySquares : Pair → Pair
+bySquares p = pairOf (p .older) (p .newer) (setting (p .setting .width) (p .setting .height) (p .setting .n) 2)
 
 -- ---- the requests
 
@@ -123,8 +127,8 @@ pub data Answer : Type 0 where
 -- by the definitions
 abbrev pub answer : Query → Answer
 answer (search p q y x) = found (searchBlock (p .older) (p .newer) (q p) y x)
-answer (measuring p v) = amount (measure p 0 0 v)
-answer (distance p m) = apart (distanceBy absolute (p .setting .n) m (newerBlock p 0 0) (olderBlock p 0 0 origin))
+answer (measuring p v) = amount (measureVector p 0 0 v)
+answer (distance p m) = apart (distanceBy (measureIn p) (p .setting .n) m (newerBlock p 0 0) (olderBlock p 0 0 origin))
 answer (everyBlock p q list table) = filled (field (p .older) (p .newer) (q p) list table)
 answer (travelling p w) = travels (travel p w)
 answer (calls cs) = results (run cs)
@@ -214,7 +218,7 @@ homedAndStepped y x t a =
 
 -- the head of a pair searched by search 2 with w 1
 abbrev pub headOf : Pair → Head
-headOf p = record { width = p .setting .width; height = p .setting .height; n = p .setting .n; w = 1; search = 2 }
+headOf p = record { width = p .setting .width; height = p .setting .height; n = p .setting .n; w = 1; search = 2; measure = p .setting .measure }
 
 -- "search 2's log above": `01 00 05 00 04 04 01 02 02 00 01 00 00 04 00 00 00 01`
 abbrev pub logB : List ℕ
@@ -286,6 +290,16 @@ table =
     ∷ (distance pairD 4 gives apart 0)
     ∷ (distance pairD 2 gives apart 0)
     ∷ (measuring pairD origin gives measures 160)
+    -- D by squares: each pel differs by 10
+    ∷ (distance (bySquares pairD) 4 gives apart 0)
+    ∷ (distance (bySquares pairD) 2 gives apart 0)
+    ∷ (measuring (bySquares pairD) origin gives measures 1600)
+    ∷ (search (bySquares pairD) (full 16) 0 0 gives finds origin 1600 (onlyAtOne 1) 0)
+    ∷ (search (bySquares pairD) (pruned 16) 0 0 gives finds origin 1600 (0 ∷ 0 ∷ 1 ∷ 1 ∷ 1 ∷ []) 0)
+    -- B by squares: at 4 the distance of (0,0), 25,600, is just 4² × E, so it is dropped at 2 and not before
+    ∷ (distance (bySquares pairB) 4 gives apart 25600)
+    ∷ (measuring (bySquares pairB) origin gives measures 1600)
+    ∷ (search (bySquares pairB) (pruned 1) 0 0 gives finds vectorB 0 (0 ∷ 0 ∷ 2 ∷ 2 ∷ 1 ∷ []) 1)
     -- E* "C's frames, block (2,2): four-step 17; cross w 2, T 0: 9; T 1: 1"
     ∷ (search pairC fourStep 2 2 gives stillAfter 17)
     ∷ (search pairC (cross 2 0) 2 2 gives stillAfter 9)
