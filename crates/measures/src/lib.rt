@@ -52,11 +52,11 @@ pub fn sum_difference(measure: u32, a: u32, b: u32) -> u64
     requires { ⌜ (a ≤ 2147483647) × (b ≤ 2147483647) ⌝ }
     ensures { λ r. ⌜ r ≡ measureOf measure .diff a b ⌝ }
 {
-    let d = signed::abs_diff_u32(a, b) as u64;
+    let apart = signed::abs_diff_u32(a, b) as u64;
     if measure == ABSOLUTE {
-        return d;
+        return apart;
     }
-    d * d
+    apart * apart
 }
 
 // How far a distance at m may go for the bound e.

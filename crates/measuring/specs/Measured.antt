@@ -9,16 +9,21 @@ use lib.Dec.{eqb}
 use lib.ListN.{length}
 use borrow.Author.Tests.{ne-eqb}
 use Rattle.order.specs.declared.Vector.{Vector}
+use Rattle.measures.specs.Measures.{measureOk}
 use Rattle.frame.specs.declared.Setting.{Setting}
 use Rattle.frame.specs.Pictures.{Pair}
 use Rattle.frame.specs.Candidates.{candidate}
-use Rattle.refusals.specs.Refusals.{unless, firstRefusal, first-refusal-some, first-refusal-none, placedRefusal}
+use Rattle.refusals.specs.Refusals.{unless, firstRefusal, first-refusal-some, first-refusal-none, placeOk, pairRefusal}
 use Rattle.measuring.specs.declared.Measured.{Measured}
 use Rattle.distortion.specs.Blocks.{distortion}
 
 -- 8 measuring one vector: not a candidate of window 16
 unfoldable pub measureRefusal : ℕ → ℕ → Setting → ℕ → ℕ → Vector → ℕ
-measureRefusal older newer s y x v = firstRefusal (placedRefusal older newer s y x) (unless (candidate s 16 y x v) 8 0)
+measureRefusal older newer s y x v =
+    firstRefusal (pairRefusal older newer s)
+    (unless (measureOk (s .measure)) 51
+    (unless (placeOk s y x) 7
+    (unless (candidate s 16 y x v) 8 0)))
 
 abbrev pub refusedBy : ℕ → Measured
 refusedBy refusal = record { refusal = refusal; distortion = 0 }
@@ -34,16 +39,25 @@ measureVector p y x v =
 
 module _ (p : Pair) (y x : ℕ) (v : Vector) where
   abbrev before : ℕ
-  before = placedRefusal (length (p .older)) (length (p .newer)) (p .setting) y x
+  before = pairRefusal (length (p .older)) (length (p .newer)) (p .setting)
 
   pub measured-refused : (before ≡ 0 → ⊥) → measureVector p y x v ≡ refusedBy before
   unfolding measureVector measureRefusal
   measured-refused h = rw (first-refusal-some before _ h, ne-eqb before 0 h)
 
-  pub measured-outside : before ≡ 0 → candidate (p .setting) 16 y x v ≡ false → measureVector p y x v ≡ refusedBy 8
+  pub measured-unmeasured : before ≡ 0 → measureOk (p .setting .measure) ≡ false → measureVector p y x v ≡ refusedBy 51
   unfolding measureVector measureRefusal
-  measured-outside h e = rw (first-refusal-none before _ h, e)
+  measured-unmeasured h m = rw (first-refusal-none before _ h, m)
 
-  pub measured-at : before ≡ 0 → candidate (p .setting) 16 y x v ≡ true → measureVector p y x v ≡ record { refusal = 0; distortion = distortion p y x v }
+  pub measured-elsewhere : before ≡ 0 → measureOk (p .setting .measure) ≡ true → placeOk (p .setting) y x ≡ false → measureVector p y x v ≡ refusedBy 7
   unfolding measureVector measureRefusal
-  measured-at h e = rw (first-refusal-none before _ h, e)
+  measured-elsewhere h m i = rw (first-refusal-none before _ h, m, i)
+
+  module _ (h : before ≡ 0) (m : measureOk (p .setting .measure) ≡ true) (i : placeOk (p .setting) y x ≡ true) where
+    pub measured-outside : candidate (p .setting) 16 y x v ≡ false → measureVector p y x v ≡ refusedBy 8
+    unfolding measureVector measureRefusal
+    measured-outside e = rw (first-refusal-none before _ h, m, i, e)
+
+    pub measured-at : candidate (p .setting) 16 y x v ≡ true → measureVector p y x v ≡ record { refusal = 0; distortion = distortion p y x v }
+    unfolding measureVector measureRefusal
+    measured-at e = rw (first-refusal-none before _ h, m, i, e)

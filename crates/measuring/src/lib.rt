@@ -36,9 +36,15 @@ pub fn measure(
 ) -> Measured
     ensures { λ m. ⌜ m ≡ measureVector (pairOf (now (older .entry)) (now (newer .entry)) s) y x (vec dy dx) ⌝ }
 {
-    let refusal = refusals::placed_refusal(older.len(), newer.len(), s, y, x);
+    let refusal = refusals::pair_refusal(older.len(), newer.len(), s);
     if refusal != 0 {
         return refused(refusal);
+    }
+    if !measures::measure_ok(s.measure) {
+        return refused(51);
+    }
+    if !refusals::place_ok(s, y, x) {
+        return refused(7);
     }
     let Older::At(r, c) = frame::older_at(s, 16, y, x, dy, dx) else {
         return refused(8);

@@ -2,16 +2,15 @@
 -- as far as a call has the input." Each rule's own words stand at its test.
 --   sideOk 1 · frameOk 2 · blockOk 3 · searchOk 4 · windowOk 5 · thresholdOk 6 · placeOk 7   what each number asks for; measureOk 51: measures/specs/Measures.antt
 --   pairRefusal     1 2 3: what every call with a pair tests first
---   placedRefusal   1 2 3 51 7: a pair, N, the measure and a block's place
 --   requestRefusal  1 2 3 4 51 5 6: a pair and a search. 02, request 1: 51 is "tested after 4", and where a call has no search number after 3
--- A chain is 0 where the call is accepted; `paired`, `placed` and `requested` say all that follows. The frames come in by their lengths.
+-- A chain is 0 where the call is accepted; `paired` and `requested` say all that follows. The frames come in by their lengths.
 use Prim.Native.Nat.{ℕ, zero, suc, _+_, _*_, _≤_, _<_}
 use mathlib.Core.Path.{_≡_, refl}
 use mathlib.Core.Bool.{Bool, true, false, cond, _&&_, _||_}
 use mathlib.Core.Logic.{⊎-elim}
 use native.Mathlib.Omega.{arith}
 use lib.Dec.{T, leb, eqb, leb→le, eqb→eq}
-use Rattle.base.specs.Tests.{and-left, and-right, or-cases, le-both, eqb-subst}
+use Rattle.base.specs.Tests.{and-left, and-right, or-cases, le-both, true-T, eqb-subst}
 use Rattle.measures.specs.Measures.{measureOk}
 use Rattle.frame.specs.declared.Setting.{Setting}
 use Rattle.refusals.specs.declared.Request.{Request}
@@ -69,12 +68,6 @@ pairRefusal older newer s =
     (unless (frameOk s older && frameOk s newer) 2
     (unless (blockOk s) 3 0))
 
-unfoldable pub placedRefusal : ℕ → ℕ → Setting → ℕ → ℕ → ℕ
-placedRefusal older newer s y x =
-    firstRefusal (pairRefusal older newer s)
-    (unless (measureOk (s .measure)) 51
-    (unless (placeOk s y x) 7 0))
-
 abbrev pub settingOf : Request → Setting
 settingOf q = setting (q .width) (q .height) (q .n) (q .measure)
 
@@ -129,7 +122,7 @@ pub record Paired (older newer : ℕ) (s : Setting) : Type 0 where
   pub older-whole : older ≡ s .height * s .width
   pub newer-whole : newer ≡ s .height * s .width
 
--- 1 2 3 51 7: also, the block lies in the newer frame
+-- 1 2 3 7: also, the block lies in the newer frame
 pub record Placed (older newer : ℕ) (s : Setting) (y x : ℕ) : Type 0 where
   pub paired : Paired older newer s
   pub down : y + s .n ≤ s .height
@@ -171,13 +164,10 @@ paired older newer s e =
       newer-whole = eqb→eq newer (s .height * s .width) (and-right (frameOk s older) (frameOk s newer) (b .0));
     }
 
-pub placed : (older newer : ℕ) (s : Setting) (y x : ℕ) → placedRefusal older newer s y x ≡ 0 → Placed older newer s y x
-unfolding placedRefusal
-placed older newer s y x e =
-    let a = first-refusal-zero (pairRefusal older newer s) _ e in
-    let m = unless-zero (measureOk (s .measure)) 50 _ (a .1) in
-    let b = le-both (y + s .n) (s .height) (x + s .n) (s .width) (unless-zero (placeOk s y x) 6 0 (m .1) .0) in
-    record { paired = paired older newer s (a .0); down = b .0; across = b .1 }
+pub placed : (older newer : ℕ) (s : Setting) (y x : ℕ) → pairRefusal older newer s ≡ 0 → placeOk s y x ≡ true → Placed older newer s y x
+placed older newer s y x e t =
+    let b = le-both (y + s .n) (s .height) (x + s .n) (s .width) (true-T (placeOk s y x) t) in
+    record { paired = paired older newer s e; down = b .0; across = b .1 }
 
 pub requested : (older newer : ℕ) (q : Request) → requestRefusal older newer q ≡ 0 → Requested older newer q
 unfolding requestRefusal

@@ -5,7 +5,7 @@ ghost use Prim.Native.Nat.{_+_};
 ghost use lib.Dec.{leb};
 ghost use Rattle.refusals.specs.Cross.{crossWindow, log2};
 ghost use Rattle.refusals.specs.Refusals.{sideOk, blockSizeOk, blockOk, searchOk, windowOk};
-ghost use Rattle.refusals.specs.Refusals.{thresholdOk, placeOk, pairRefusal, placedRefusal, requestRefusal, settingOf};
+ghost use Rattle.refusals.specs.Refusals.{thresholdOk, placeOk, pairRefusal, requestRefusal, settingOf};
 use frame::Setting;
 
 // A request for a search: the frames' width and height, N, the search 1 to 4, its window w, the threshold T of search 4, and the measure.
@@ -157,23 +157,6 @@ pub fn pair_refusal(older: usize, newer: usize, s: Setting) -> u32
     }
     if !block_ok(s) {
         return 3;
-    }
-    0
-}
-
-// The first of 1 2 3 51 7 that applies to a block at row y, column x, or 0.
-pub fn placed_refusal(older: usize, newer: usize, s: Setting, y: usize, x: usize) -> u32
-    ensures { λ r. ⌜ r ≡ placedRefusal older newer s y x ⌝ }
-{
-    let refusal = pair_refusal(older, newer, s);
-    if refusal != 0 {
-        return refusal;
-    }
-    if !measures::measure_ok(s.measure) {
-        return 51;
-    }
-    if !place_ok(s, y, x) {
-        return 7;
     }
     0
 }

@@ -12,7 +12,7 @@ use Rattle.measures.specs.Measures.{measureOf}
 use Rattle.frame.specs.Grid.{rows, columns, blocks, blockRow, blockColumn}
 use Rattle.frame.specs.Candidates.{candidate}
 use Rattle.refusals.specs.Cross.{crossWindow}
-use Rattle.refusals.specs.Refusals.{firstRefusal, blockSizeOk, windowOk, thresholdOk, pairRefusal, placedRefusal, requestRefusal}
+use Rattle.refusals.specs.Refusals.{firstRefusal, blockSizeOk, windowOk, thresholdOk, pairRefusal, requestRefusal}
 use Rattle.distortion.specs.Blocks.{distortionBy, distortion}
 use Rattle.measuring.specs.Measured.{measureRefusal, measureVector}
 use Rattle.probe.specs.Probe.{countPoint, probePoint, probe, atOrigin, around, widened, isIn, fresh}
@@ -90,7 +90,7 @@ each (r ∷ rs) e =
 computed : answers table ≡ oweds table
 unfolding
     table pairA pairB pairC pairD
-    sumTo leastFrom leastOf preference candidate crossWindow firstRefusal blockSizeOk windowOk thresholdOk pairRefusal placedRefusal requestRefusal
+    sumTo leastFrom leastOf preference candidate crossWindow firstRefusal blockSizeOk windowOk thresholdOk pairRefusal requestRefusal
     measureOf distortionBy distortion measureRefusal measureVector countPoint probePoint probe atOrigin around widened isIn fresh resultOf
     square ring moved step1 step23 step4 from3 from2 fourStep diagonalCross plusCross pass allPasses diagonal onDiagonal ended finished cross
     squareSum distanceBy kept exceeding allRemaining lower sift rounds prune prunedBest counts halves

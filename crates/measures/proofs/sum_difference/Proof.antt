@@ -10,8 +10,8 @@ use Rattle.measures.proofs.sum_difference.Tie as tie
 abs-diff-u32-requires : tie.Need-abs-diff-u32-requires
 abs-diff-u32-requires c κs = search needs
 
-cast-d : tie.Need-cast-d
-cast-d c = search needs
+cast-apart : tie.Need-cast-apart
+cast-apart c = search needs
 
 returns : tie.Need-returns
 returns c = rw (measure-absolute _ (c .if1 .taken)) (c .before .abs-diff-u32 .ensures)
@@ -26,4 +26,4 @@ returns-2 : tie.Need-returns-2
 returns-2 c = rw (measure-squares _ (c .if1 .left), c .before .abs-diff-u32 .ensures)
 
 pub sum-difference-spec : {M : Type 1} → statement M
-sum-difference-spec = tie.close (tie.spec abs-diff-u32-requires cast-d returns mul-result returns-2)
+sum-difference-spec = tie.close (tie.spec abs-diff-u32-requires cast-apart returns mul-result returns-2)
