@@ -1,11 +1,12 @@
 -- The rules for a head's numbers, and for what a block may be in a log with that head. 01, "What the input can be turned away for": "15 head that 1,
 -- 3, 4 or 5 would turn away; 16 block vector no candidate, distortion below 0 or over 255 × N², or a still block as command 2".
 --   noHead        a head of zeros: what a refused call answers with
---   settingIn       the sizes of a head
---   headRefusal   1 3 4 5: what turns head numbers away, be it width or height, N, the search or w
---   headOk        15 lets the head pass
+--   settingIn     the setting of a head
+--   logMeasureOk  51 lets a log's measure pass
+--   headRefusal   1 3 4 51 5: what turns head numbers away, be it width or height, N, the search, the measure or w
+--   headOk        15 lets the head pass. A head that is read has measure 1, so that 51 never applies to it
 --   headBlocks    how many blocks the head's grid has
---   candidateOk   the vector is a candidate of window w for grid block k; distortionOk: 0 to 255 × N²
+--   candidateOk   the vector is a candidate of window w for grid block k; distortionOk: 0 to 255 × N²; largestLogged: that of the largest N
 --   entryOk       both: what 16 asks of the three numbers of grid block k
 --   isStill       a still block: (0,0) with distortion 0
 use Prim.Native.Nat.{ℕ, suc, _+_, _*_, _≤_, _<_}
@@ -15,7 +16,7 @@ use native.Mathlib.Nat.{le-trans}
 use native.Mathlib.Omega.{arith}
 use borrow.Author.Tests.{le-leb, lt-leb, ne-eqb}
 use mathlib.Core.Bool.{Bool, true, false, _&&_}
-use lib.Dec.{T, leb, eqb, leb→le}
+use lib.Dec.{T, leb, eqb, leb→le, eqb→eq}
 use lib.IntN.{ℤ, pos, negsuc, natAbs}
 use Rattle.base.specs.Tests.{and-left, and-right, le-both, true-T}
 use Rattle.signed.specs.declared.Shifted.the-variants.{At, Outside}
@@ -23,30 +24,38 @@ use Rattle.signed.specs.Int.{eqZ, up, dn}
 use Rattle.signed.specs.Values.{shiftedBy, shifted-is, shifted-no}
 use Rattle.order.specs.Vectors.{vec}
 use Rattle.frame.specs.declared.Setting.{Setting}
-use Rattle.frame.specs.Pictures.{setting, Fitting, largestN, largestDistortion}
+use Rattle.frame.specs.Pictures.{setting, Fitting, largestN}
 use Rattle.frame.specs.Grid.{blocks, blockRow, blockColumn}
 use Rattle.frame.specs.Candidates.{candidate, candidate-yes}
 use Rattle.refusals.specs.Refusals.{unless, sideOk, blockSizeOk, blockOk, searchOk, windowOk, unless-zero, block-size-elim, fitting, window-small}
 use Rattle.log_head.specs.declared.Head.{Head}
 
 abbrev pub noHead : Head
-noHead = record { width = 0; height = 0; n = 0; w = 0; search = 0 }
+noHead = record { width = 0; height = 0; n = 0; w = 0; search = 0; measure = 0 }
 
 abbrev pub settingIn : Head → Setting
-settingIn h = setting (h .width) (h .height) (h .n)
+settingIn h = setting (h .width) (h .height) (h .n) (h .measure)
+
+-- 51 measure not 1 or 2, "or a log to be written with measure 2": "Logs carry measure 1 only for now" (02, request 1; its request 4 lets measure 2 pass)
+abbrev pub logMeasureOk : ℕ → Bool
+logMeasureOk measure = eqb measure 1
 
 unfoldable pub headRefusal : Head → ℕ
 headRefusal h =
     unless (sideOk (h .width) && sideOk (h .height)) 1
     (unless (blockOk (settingIn h)) 3
     (unless (searchOk (h .search)) 4
-    (unless (windowOk (h .search) (h .w)) 5 0)))
+    (unless (logMeasureOk (h .measure)) 51
+    (unless (windowOk (h .search) (h .w)) 5 0))))
 
 abbrev pub headOk : Head → Bool
 headOk h = eqb (headRefusal h) 0
 
 abbrev pub headBlocks : Head → ℕ
 headBlocks h = blocks (settingIn h)
+
+abbrev pub largestLogged : ℕ
+largestLogged = 255 * (largestN * largestN)
 
 abbrev pub distortionOk : ℕ → ℤ → Bool
 distortionOk n (pos d) = leb d (255 * (n * n))
@@ -63,12 +72,13 @@ isStill dy dx distortion = eqZ dy (pos 0) && (eqZ dx (pos 0) && eqZ distortion (
 
 -- ---- what an accepted head may go by
 
--- its sizes fit, and all its numbers are small
+-- its setting fits, all its numbers are small, and its measure is 1
 pub record Headed (h : Head) : Type 0 where
   pub fitting : Fitting (settingIn h)
   pub size : h .n ≤ largestN
-  pub distortion : 255 * (h .n * h .n) ≤ largestDistortion
+  pub distortion : 255 * (h .n * h .n) ≤ largestLogged
   pub searching : h .search ≤ 4
+  pub measure : h .measure ≡ 1
   pub window : h .w ≤ 16
 
 pub headed : (h : Head) → headRefusal h ≡ 0 → Headed h
@@ -77,13 +87,15 @@ headed h e =
     let a = unless-zero (sideOk (h .width) && sideOk (h .height)) 0 _ e in
     let b = unless-zero (blockOk (settingIn h)) 2 _ (a .1) in
     let c = unless-zero (searchOk (h .search)) 3 _ (b .1) in
-    let d = unless-zero (windowOk (h .search) (h .w)) 4 0 (c .1) in
+    let m = unless-zero (logMeasureOk (h .measure)) 50 _ (c .1) in
+    let d = unless-zero (windowOk (h .search) (h .w)) 4 0 (m .1) in
     let l = and-left (blockSizeOk (h .n)) (leb (h .n) (h .width) && leb (h .n) (h .height)) (b .0) in
     record {
       fitting = fitting (settingIn h) (a .0) (b .0);
       size = block-size-elim (λ n. n ≤ largestN) (omega arith) (omega arith) (omega arith) (h .n) l;
-      distortion = block-size-elim (λ n. 255 * (n * n) ≤ largestDistortion) (omega arith) (omega arith) (omega arith) (h .n) l;
+      distortion = block-size-elim (λ n. 255 * (n * n) ≤ largestLogged) (omega arith) (omega arith) (omega arith) (h .n) l;
       searching = le-both 1 (h .search) (h .search) 4 (c .0) .1;
+      measure = eqb→eq (h .measure) 1 (m .0);
       window = window-small (h .search) (h .w) (d .0);
     }
 
@@ -92,7 +104,7 @@ pub record Entry (dy dx distortion : ℤ) : Type 0 where
   pub down : natAbs dy ≤ 16
   pub across : natAbs dx ≤ 16
   pub above : dn distortion ≡ 0
-  pub most : up distortion ≤ largestDistortion
+  pub most : up distortion ≤ largestLogged
 
 pub entry : (h : Head) → headRefusal h ≡ 0 → (k : ℕ) (dy dx distortion : ℤ) → entryOk h k dy dx distortion ≡ true → Entry dy dx distortion
 unfolding entryOk

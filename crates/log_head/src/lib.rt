@@ -4,7 +4,8 @@ ghost use mathlib.Core.Path.{_≡_};
 ghost use Prim.Native.Nat.{_≤_, _<_};
 ghost use Rattle.frame.specs.Pictures.{Fitting};
 ghost use Rattle.frame.specs.Grid.{blocks};
-ghost use Rattle.log_head.specs.Heads.{noHead, settingIn, headRefusal, headBlocks, candidateOk, distortionOk, entryOk, isStill};
+ghost use Rattle.log_head.specs.Heads.{noHead, settingIn, logMeasureOk, headRefusal, headBlocks};
+ghost use Rattle.log_head.specs.Heads.{candidateOk, distortionOk, entryOk, isStill};
 use frame::Setting;
 use signed::Shifted;
 
@@ -16,6 +17,7 @@ pub struct Head {
     pub n: usize,
     pub w: usize,
     pub search: u32,
+    pub measure: u32,
 }
 
 // A head of zeros.
@@ -28,17 +30,25 @@ pub fn no_head() -> Head
         n: 0,
         w: 0,
         search: 0,
+        measure: 0,
     }
 }
 
-// The sizes of a head.
+// The setting of a head.
 pub fn setting_in(h: Head) -> Setting
     ensures { λ r. ⌜ r ≡ settingIn h ⌝ }
 {
-    frame::setting_by(h.width, h.height, h.n)
+    frame::setting_by(h.width, h.height, h.n, h.measure)
 }
 
-// The first of 1 3 4 5 that applies to a head's numbers, or 0.
+// 51: the measure of a log is 1, for now.
+fn log_measure_ok(measure: u32) -> bool
+    ensures { λ r. ⌜ r ≡ logMeasureOk measure ⌝ }
+{
+    measure == measures::ABSOLUTE
+}
+
+// The first of 1 3 4 51 5 that applies to a head's numbers, or 0.
 pub fn head_refusal(h: Head) -> u32
     ensures { λ r. ⌜ r ≡ headRefusal h ⌝ }
 {
@@ -52,9 +62,13 @@ pub fn head_refusal(h: Head) -> u32
         return 3;
     }
     let search = refusals::search_ok(h.search);
+    let measure = log_measure_ok(h.measure);
     let window = refusals::window_ok(h.search, h.w);
     if !search {
         return 4;
+    }
+    if !measure {
+        return 51;
     }
     if !window {
         return 5;

@@ -1,4 +1,4 @@
--- `head_blocks`: the sizes of an accepted head fit.
+-- `head_blocks`: the setting of an accepted head fits.
 use mathlib.Core.Path.{refl}
 use borrow.Author.Needs.{needs}
 use Rattle.frame.specs.Grid.{blocks-few}

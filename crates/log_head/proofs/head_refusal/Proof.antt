@@ -3,7 +3,7 @@ use mathlib.Core.Path.{_≡_, ap, _∙_}
 use borrow.Author.Needs.{needs}
 use mathlib.Core.Bool.{true}
 use Rattle.base.specs.Tests.{passed, failed}
-use Rattle.log_head.specs.Heads.{headRefusal, settingIn}
+use Rattle.log_head.specs.Heads.{logMeasureOk, headRefusal, settingIn}
 use Rattle.refusals.specs.Refusals.{sideOk, blockOk, searchOk}
 use Rattle.log_head.proofs.head_refusal.Statement.{statement}
 use Rattle.log_head.proofs.head_refusal.Tie as tie
@@ -19,7 +19,7 @@ abbrev at-height : tie.Else3 → tie.Else2
 at-height c = c .before .before .before
 
 abbrev at-block : tie.Else4 → tie.Else3
-at-block c = c .before .before .before
+at-block c = c .before .before .before .before
 
 -- what was passed on the way, in the chain's words
 wide : (d : tie.Else1) → sideOk (start d .args .h .width) ≡ true
@@ -61,19 +61,22 @@ returns-3 c =
 search-ok-requires : tie.Need-search-ok-requires
 search-ok-requires c κs = search needs
 
+log-measure-ok-requires : tie.Need-log-measure-ok-requires
+log-measure-ok-requires c κs = search needs
+
 window-ok-requires : tie.Need-window-ok-requires
 window-ok-requires c κs = search needs
 
 returns-4 : tie.Need-returns-4
 unfolding headRefusal
 returns-4 c =
-    let s = c .before .before in
+    let s = c .before .before .before in
     let f = s .before in
     let d = at-height f in
     rw (wide (at-width d), high d, fits f, failed (s .search-ok .ensures) (c .if4 .taken))
 
 known : (d : tie.Else4) → searchOk (start (at-width (at-height (at-block d))) .args .h .search) ≡ true
-known d = passed (d .before .before .search-ok .ensures) (d .if4 .left)
+known d = passed (d .before .before .before .search-ok .ensures) (d .if4 .left)
 
 returns-5 : tie.Need-returns-5
 unfolding headRefusal
@@ -81,15 +84,28 @@ returns-5 c =
     let g = c .before in
     let f = at-block g in
     let d = at-height f in
-    rw (wide (at-width d), high d, fits f, known g, failed (g .before .window-ok .ensures) (c .if5 .taken))
+    rw (wide (at-width d), high d, fits f, known g, failed (g .before .before .log-measure-ok .ensures) (c .if5 .taken))
+
+carried : (d : tie.Else5) → logMeasureOk (start (at-width (at-height (at-block (d .before)))) .args .h .measure) ≡ true
+carried d = passed (d .before .before .before .log-measure-ok .ensures) (d .if5 .left)
 
 returns-6 : tie.Need-returns-6
 unfolding headRefusal
 returns-6 c =
-    let g = c .before in
+    let m = c .before in
+    let g = m .before in
     let f = at-block g in
     let d = at-height f in
-    rw (wide (at-width d), high d, fits f, known g, passed (g .before .window-ok .ensures) (c .if5 .left))
+    rw (wide (at-width d), high d, fits f, known g, carried m, failed (g .before .window-ok .ensures) (c .if6 .taken))
+
+returns-7 : tie.Need-returns-7
+unfolding headRefusal
+returns-7 c =
+    let m = c .before in
+    let g = m .before in
+    let f = at-block g in
+    let d = at-height f in
+    rw (wide (at-width d), high d, fits f, known g, carried m, passed (g .before .window-ok .ensures) (c .if6 .left))
 
 pub head-refusal-spec : {M : Type 1} → statement M
 head-refusal-spec =
@@ -103,7 +119,9 @@ head-refusal-spec =
     block-ok-requires
     returns-3
     search-ok-requires
+    log-measure-ok-requires
     window-ok-requires
     returns-4
     returns-5
-    returns-6)
+    returns-6
+    returns-7)
