@@ -21,7 +21,7 @@ use Rattle.log_head.specs.Heads.{settingIn, headRefusal, headBlocks, headed}
 use Rattle.log_list.specs.declared.Verdict.{Verdict}
 use Rattle.log_list.specs.Listed.{listRefusal, listedOk, verdict, listVerdict, Writable, AllPass}
 
--- 1 3 4 5 10 let head and list pass
+-- 1 3 4 51 5 10 let head and list pass
 pub writable : (h : Head) (list : ℕ) → listRefusal h list ≡ 0 → Writable h list
 unfolding listRefusal
 writable h list e =

@@ -1,10 +1,11 @@
 -- Head numbers and a list of three numbers a block, tested as writing a log tests them. 01, "What the input can be turned away for": "Writing tests 1,
 -- 3, 4, 5, 10, then 16 with the block's number, from 0, as place": the head's numbers, the list's length, then each block.
+-- 02, request 1: 51 is "tested after 4".
 --   valueOf       the number at place i of block k's three
---   listRefusal   1 3 4 5 10
+--   listRefusal   1 3 4 51 5 10
 --   listedOk      16 lets block k pass: its three numbers are a candidate and its distortion
 --   listVerdict   the first that applies, or 0, with its place
---   Writable      1 3 4 5 10 let head and list pass; AllPass: 16 lets every block pass too
+--   Writable      1 3 4 51 5 10 let head and list pass; AllPass: 16 lets every block pass too
 use Prim.Native.Nat.{ℕ, _+_, _*_, _≤_, _<_}
 use mathlib.Core.Path.{_≡_}
 use mathlib.Core.List.{List}

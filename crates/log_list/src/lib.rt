@@ -1,4 +1,4 @@
-// Head numbers and a list of three numbers a block, as a field fills it: what writing a log tests of them, 1 3 4 5 10 16.
+// Head numbers and a list of three numbers a block, as a field fills it: what writing a log tests of them, 1 3 4 51 5 10 16.
 
 ghost use mathlib.Core.Path.{_≡_};
 ghost use Prim.Native.Nat.{_+_, _*_, _<_};
@@ -8,13 +8,13 @@ ghost use Rattle.log_head.specs.Heads.{headBlocks};
 ghost use Rattle.log_list.specs.Listed.{valueOf, listRefusal, listedOk, Writable, listVerdict};
 use log_head::Head;
 
-// The first refusal of 1 3 4 5 10 16 that applies, or 0, and its place.
+// The first refusal of 1 3 4 51 5 10 16 that applies, or 0, and its place.
 pub struct Verdict {
     pub refusal: u32,
     pub place: usize,
 }
 
-// The first of 1 3 4 5 10 that applies, or 0; the list by its length.
+// The first of 1 3 4 51 5 10 that applies, or 0; the list by its length.
 fn list_refusal(head: Head, list: usize) -> u32
     ensures { λ r. ⌜ r ≡ listRefusal head list ⌝ }
 {
@@ -66,7 +66,7 @@ fn first_wrong(head: Head, list: &[i32]) -> usize
     k
 }
 
-// 1 3 4 5 10, then 16 with the block's number as place.
+// 1 3 4 51 5 10, then 16 with the block's number as place.
 pub fn list_verdict(head: Head, list: &[i32]) -> Verdict
     ensures { λ r. ⌜ r ≡ listVerdict head (now (list .entry)) ⌝ }
 {

@@ -1,4 +1,4 @@
--- `list_verdict`: 1 3 4 5 10, then the first block that 16 turns away.
+-- `list_verdict`: 1 3 4 51 5 10, then the first block that 16 turns away.
 use mathlib.Core.Path.{sym, _∙_}
 use borrow.Author.Needs.{needs}
 use borrow.Author.Tests.{lt-ltb, le-ltb, eq-eqb, ne-eqb}
@@ -8,7 +8,7 @@ use Rattle.log_list.proofs.Sound.{writable}
 use Rattle.log_list.proofs.list_verdict.Statement.{statement}
 use Rattle.log_list.proofs.list_verdict.Tie as tie
 
--- past 1 3 4 5 10
+-- past 1 3 4 51 5 10
 past : (c : tie.Else1) → let a = c .before .before .args in Writable (a .head) (length (a .list .now))
 past c = writable _ _ (sym (c .before .list-refusal .ensures) ∙ c .if1 .left)
 
