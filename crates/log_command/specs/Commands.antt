@@ -1,5 +1,6 @@
 -- 01, "Log": the commands. "1 head, 2 block, 3 still block, 4 end". "Head: width and height (2 bytes each), N, w, search (1 each). Block: dy, dx as
 -- two's-complement bytes, distortion 2 bytes. Still block: no operand, for (0,0) with distortion 0 [...] End: number of blocks, 4 bytes."
+-- A head's measure is no operand and no value: "Logs carry measure 1 only for now" (02, request 1).
 --   commandNumber   the number of each case: the command byte, or the refusal's number
 --   commandValues   the values of each case, in the order in which they are written and printed: of a refusal its place
 --   commandBytes    the bytes of a command, its number first; a refusal has none

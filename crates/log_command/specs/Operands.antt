@@ -1,6 +1,6 @@
 -- 01, "Log": the operands of a command that stands at an offset. "Head: width and height (2 bytes each), N, w, search (1 each). Block: dy, dx as
 -- two's-complement bytes, distortion 2 bytes."
---   headIn                     a head's numbers
+--   headIn                     a head's numbers. "Logs carry measure 1 only for now" (02, request 1): the bytes do not say it
 --   dyIn, dxIn, distortionIn   a block's numbers; blockIn: the block that they make
 use Prim.Native.Nat.{ℕ, _+_}
 use mathlib.Core.List.{List}
@@ -14,7 +14,14 @@ use Rattle.log_command.specs.Numbers.{be2}
 
 unfoldable pub headIn : List ℕ → ℕ → Head
 headIn log at =
-    record { width = be2 log (at + 1); height = be2 log (at + 3); n = getD log (at + 5) 0; w = getD log (at + 6) 0; search = getD log (at + 7) 0 }
+    record {
+      width = be2 log (at + 1);
+      height = be2 log (at + 3);
+      n = getD log (at + 5) 0;
+      w = getD log (at + 6) 0;
+      search = getD log (at + 7) 0;
+      measure = 1;
+    }
 
 abbrev pub dyIn : List ℕ → ℕ → ℤ
 dyIn log at = signedByte (getD log (at + 1) 0)

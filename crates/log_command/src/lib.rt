@@ -146,7 +146,7 @@ pub fn four(log: &[u8], i: usize) -> usize
     two(log, i) * 65536 + two(log, i + 2)
 }
 
-// The numbers of a head command.
+// The numbers of a head command; its bytes have no measure, which is 1.
 pub fn head_in(log: &[u8], at: usize) -> Head
     requires { ⌜ at + 8 ≤ length (now log) ⌝ }
     ensures { λ r. ⌜ r ≡ headIn (now (log .entry)) at ⌝ }
@@ -157,5 +157,6 @@ pub fn head_in(log: &[u8], at: usize) -> Head
         n: signed::wide_u8(log[at + 5]) as usize,
         w: signed::wide_u8(log[at + 6]) as usize,
         search: signed::wide_u8(log[at + 7]),
+        measure: measures::ABSOLUTE,
     }
 }
