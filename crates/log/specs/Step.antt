@@ -37,7 +37,7 @@ use Rattle.log.specs.declared.WalkStep.{WalkStep}
 unfoldable pub judged : Bool → ℕ → List ℕ → ℕ → Command → Command
 judged due size log at rest = cond due (cond (leb (at + size) (length log)) rest (Cmd.Refused 13 at)) (Cmd.Refused 14 at)
 
--- "a head first and only there": at the start it is due
+-- "a head first and only there": at the start it is due. 15 is 1, 3, 4 and 5 alone: headIn gives every head measure 1, so that 51 never applies
 unfoldable pub headTaken : List ℕ → ℕ → Command
 headTaken log at = let h = headIn log at in cond (headOk h) (Cmd.Head h) (Cmd.Refused 15 at)
 
@@ -119,7 +119,7 @@ byPhase log at Ended = stepOf (afterEnd log at) at Over
 byPhase log at Over = refusedStep at 34 0
 
 -- "34 walker called after a refusal, or after its end with no byte left, or one built by hand whose place is past the log, whose head numbers (once a
--- head is read) 15 would turn away, or whose blocks exceed the grid; place 0"
+-- head is read) 15 would turn away, or whose blocks exceed the grid; place 0". A head built by hand with another measure than 1 is one of those.
 unfoldable pub stepAt : List ℕ → Cursor → WalkStep
 stepAt log c = cond (ltb (length log) (c .at)) (refusedStep (c .at) 34 0) (byPhase log (c .at) (c .phase))
 
