@@ -17,7 +17,7 @@ use Rattle.log.specs.declared.Cursor.{Cursor}
 use Rattle.log_command.specs.declared.Command.the-variants as Cmd
 use Rattle.log_command.specs.Numbers.{be2, be4}
 use Rattle.log_command.specs.Commands.{commandBytes}
-use Rattle.log_head.specs.Heads.{headRefusal, headBlocks, entryOk, isStill, entry}
+use Rattle.log_head.specs.Heads.{headRefusal, headed, headBlocks, entryOk, isStill, entry}
 use Rattle.log.specs.Step.{refusedStep, commandStep, judged, headTaken, blockTaken, endTaken}
 use Rattle.log.specs.Step.{startCommand, bodyCommand, bodyStep, standingOk, stepAt, startCursor}
 use Rattle.log_command.specs.Operands.{headIn}
@@ -121,9 +121,9 @@ unfolding stepAt
 ended-step log at e = rw (le-ltb (length log) at (omega arith), le-ltb at (length log) (omega arith))
 
 -- the head, at the start
-pub headIn-there : (h : Head) (rest : List ℕ) → headIn (commandBytes (Cmd.Head h) ++ rest) 0 ≡ h
+pub headIn-there : (h : Head) (rest : List ℕ) → h .measure ≡ 1 → headIn (commandBytes (Cmd.Head h) ++ rest) 0 ≡ h
 unfolding headIn be2
-headIn-there h rest = rw (div-add-mod' (h .width) 256, div-add-mod' (h .height) 256)
+headIn-there h rest e = rw (div-add-mod' (h .width) 256, div-add-mod' (h .height) 256, ← e)
 
 pub head-step : (h : Head) (rest : List ℕ) → headRefusal h ≡ 0
     → stepAt (commandBytes (Cmd.Head h) ++ rest) startCursor ≡ commandStep (Cmd.Head h) 0 (Body h 0)
@@ -134,6 +134,6 @@ head-step h rest ok =
       le-ltb (length log) 0 (omega arith),
       lt-leb (length log) 0 (omega arith),
       le-leb 8 (length log) (omega arith),
-      headIn-there h rest,
+      headIn-there h rest (headed h ok .measure),
       eq-eqb (headRefusal h) 0 ok,
     )
