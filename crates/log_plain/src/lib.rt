@@ -3,7 +3,7 @@
 ghost use mathlib.Core.Path.{_≡_};
 ghost use lib.IntN.{pos};
 ghost use Rattle.log_head.specs.Heads.{noHead};
-ghost use Rattle.log_plain.specs.Plain.{cursorOf, plainOf, answer, answerOf, walkFrom};
+ghost use Rattle.log_plain.specs.Plain.{logged, cursorOf, plainOf, answer, answerOf, walkFrom};
 use log::Cursor;
 use log::Phase;
 use log_command::Command;
@@ -34,13 +34,28 @@ pub struct Walked {
     pub next: Place,
 }
 
+// A head as a log has it: of measure 1, whatever a caller's head says.
+fn logged(head: Head) -> Head
+    ensures { λ r. ⌜ r ≡ logged head ⌝ }
+{
+    Head {
+        width: head.width,
+        height: head.height,
+        n: head.n,
+        w: head.w,
+        search: head.search,
+        measure: measures::ABSOLUTE,
+    }
+}
+
 // The cursor that plain numbers stand for.
 fn cursor_of(p: Place) -> Cursor
     ensures { λ r. ⌜ r ≡ cursorOf p ⌝ }
 {
     let at = p.at;
     let phase = p.phase;
-    let head = p.head;
+    let given = p.head;
+    let head = logged(given);
     match phase {
         0 => Cursor {
             at,
