@@ -15,8 +15,7 @@ use Rattle.log_command.specs.declared.Command.{Command}
 use Rattle.log_command.specs.declared.Command.the-variants as Cmd
 use Rattle.log.specs.declared.WalkStep.{WalkStep}
 use Rattle.log_command.specs.Commands.{commandNumber, isRefused, blockValues}
-use Rattle.frame.specs.Pictures.{largestDistortion}
-use Rattle.log_head.specs.Heads.{headBlocks, entry}
+use Rattle.log_head.specs.Heads.{headBlocks, largestLogged, entry}
 use Rattle.put.specs.Put.{StillToPut, rest-last, put-over, over-fits}
 use Rattle.log.specs.Step.{stepAt, startCursor}
 use Rattle.log.specs.Walk.{commandsFrom, commands-next, walk, logHead, lastOf}
@@ -55,10 +54,10 @@ end-first x log = last-after x (length log + 1) log startCursor (omega arith)
 
 -- ---- a command's distortion
 
-pub step-fits : (log : List ℕ) (c : Cursor) → storedDistortion (stepAt log c .command) ≤ largestDistortion
+pub step-fits : (log : List ℕ) (c : Cursor) → storedDistortion (stepAt log c .command) ≤ largestLogged
 step-fits log c = go (stepAt log c) (kinds log c)
   where
-    go : (s : WalkStep) → Kind log c s → storedDistortion (s .command) ≤ largestDistortion
+    go : (s : WalkStep) → Kind log c s → storedDistortion (s .command) ≤ largestLogged
     go s (Cases.refused number place a b w) = omega arith
     go s (Cases.head q t r) = omega arith
     go s (Cases.block h k q r g t o u) = entry h r k _ _ _ o .most

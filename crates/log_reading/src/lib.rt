@@ -6,7 +6,7 @@ ghost use Prim.Native.Nat.{_+_, _≤_};
 ghost use lib.IntN.{pos};
 ghost use lib.ListN.{length, drop};
 ghost use Rattle.put.specs.Put.{Put};
-ghost use Rattle.frame.specs.Pictures.{largestDistortion};
+ghost use Rattle.log_head.specs.Heads.{largestLogged};
 ghost use Rattle.log_command.specs.Commands.{blockValues};
 ghost use Rattle.log.specs.Walk.{walk, lastOf};
 ghost use Rattle.log_reading.specs.Reading.{fieldOf, refusedRead, refusedBy, logRead, readResult, readLog};
@@ -14,7 +14,7 @@ ghost use Rattle.log_reading.specs.Storing.{storedDistortion};
 use log_command::Command;
 use log_head::Head;
 
-// What reading answers: the head's numbers, or a refusal with its place.
+// What reading answers: the head's numbers, with measure 1, or a refusal with its place.
 #[repr(C)]
 pub struct LogRead {
     pub refusal: u32,
@@ -92,7 +92,7 @@ fn log_read(log: &[u8], list: usize) -> LogRead
 
 // The numbers of a command, if it is a block.
 fn store(list: &mut [i32], at: usize, command: Command) -> usize
-    requires { ⌜ (at + length (blockValues command) ≤ length (now list)) × (storedDistortion command ≤ largestDistortion) ⌝ }
+    requires { ⌜ (at + length (blockValues command) ≤ length (now list)) × (storedDistortion command ≤ largestLogged) ⌝ }
     ensures { λ r. ⌜ Put (now (list .entry)) at (blockValues command) (now (list .exit)) r ⌝ }
 {
     match command {
