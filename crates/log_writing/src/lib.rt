@@ -81,7 +81,7 @@ fn put_two(out: &mut [u8], at: usize, n: usize) -> usize
     put::put_byte(out, low, (n % 256) as u8)
 }
 
-// The head, at the buffer's start.
+// The head, at the buffer's start. Its measure is 1, which has no byte.
 fn put_head(out: &mut [u8], h: Head) -> usize
     requires { ⌜ headRefusal h ≡ 0 ⌝ }
     ensures { λ r. ⌜ Put (now (out .entry)) 0 (headBytes h) (now (out .exit)) r ⌝ }
