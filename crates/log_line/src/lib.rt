@@ -48,7 +48,7 @@ fn put_signed(out: &mut [u8], at: usize, z: i32, after: u8) -> usize
     put_field(out, at, n, after)
 }
 
-// The line of a head.
+// The line of a head, which does not show its measure.
 fn put_head(out: &mut [u8], at: usize, h: Head) -> usize
     requires { ⌜ at ≤ 1000000000 ⌝ }
     ensures { λ r. ⌜ (Put (now (out .entry)) at (worded (Cmd.Head h)) (now (out .exit)) r) × (r ≤ at + 105) ⌝ }
