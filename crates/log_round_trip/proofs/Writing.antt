@@ -1,4 +1,4 @@
--- Writing is accepted just where 1 3 4 5 10 16 19 let it pass, and then writes the log: the verdict and 19, read both ways.
+-- Writing is accepted just where 1 3 4 51 5 10 16 19 let it pass, and then writes the log: the verdict and 19, read both ways.
 use Prim.Native.Nat.{ℕ, _≤_}
 use mathlib.Core.Path.{_≡_, refl}
 use mathlib.Core.Bool.{Bool, true, false, cond, not}

@@ -31,7 +31,7 @@ pub record RoundTrip : Type 0 where
   -- A log that is written stands in the front of the buffer,
   pub written-log : (h : Head) (list : List ℤ) (buffer : List ℕ) → writeLog h list buffer .answer .refusal ≡ 0
       → take (writeLog h list buffer .answer .length) (writeLog h list buffer .buffer) ≡ logOf h list
-  -- and reads back as the same head and field, into every list that is long enough; places past the field keep what they held.
+  -- and reads back as the same head, its measure too, and field, into every list that is long enough; places past the field keep what they held.
   pub written-reads-back : (h : Head) (list : List ℤ) (buffer : List ℕ) → writeLog h list buffer .answer .refusal ≡ 0
       → (other : List ℤ) → 3 * headBlocks h ≤ length other
       → readLog (logOf h list) other ≡ readResult (acceptedRead h) (take (3 * headBlocks h) list ++ drop (3 * headBlocks h) other)
