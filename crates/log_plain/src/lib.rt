@@ -10,7 +10,7 @@ use log_command::Command;
 use log_head::Head;
 
 // Where a walk stands: the offset of the next command, and how far the walk is: 0 before the head, 1 among the blocks, 2 after the end,
-// any other number after a refusal. Head and blocks count among the blocks alone.
+// any other number after a refusal. Head and blocks count among the blocks alone, and the head's measure not there either.
 #[repr(C)]
 pub struct Place {
     pub at: usize,
