@@ -1,11 +1,13 @@
--- A block's distance at m is at most its distortion: the triangle inequality in each m × m square, and the squares make up the block.
+-- A block's distance at m is at most its distortion, or m² times that by squares: two sums differ by no more than their terms do in each m × m square,
+-- and the squares make up the block.
 use Prim.Native.Nat.{ℕ, zero, suc, _+_, _*_, _/_, _≤_, _∣_, zero-le}
 use mathlib.Core.Path.{_≡_, sym, ap, _∙_}
 use native.Mathlib.Nat.{le-trans, le-of-eq, mul-le-mul-left, one-mul, mul-assoc, div-zero, div-mul-cancel, mul-div-cancel, zero-lt-suc}
 use Rattle.base.specs.Sum.{sumTo, sumTo-mono, sumTo-scale, sumOver, sumOver-mono, sumOver-scale, sumOver-group}
-use Rattle.distortion.specs.Blocks.{Block, Measure, absolute, distortionBy}
+use Rattle.measures.specs.Measures.{Measure, absolute, squares, measureOf, measure-elim}
+use Rattle.distortion.specs.Blocks.{Block, distortionBy}
 use Rattle.pruned_rule.specs.Distance.{squareSum, distanceBy}
-use Rattle.pruned_rule.proofs.Diffs.{Shrinks, absDiff-shrinks}
+use Rattle.pruned_rule.proofs.Diffs.{Shrinks, absolute-shrinks, squares-shrink}
 
 -- one argument for every measure whose difference shrinks
 module _ (μ : Measure) (c : ℕ → ℕ) (s : Shrinks (μ .diff) c) where
@@ -32,13 +34,15 @@ module _ (μ : Measure) (c : ℕ → ℕ) (s : Shrinks (μ .diff) c) where
   pub distanceBy-le : (N m : ℕ) → m ∣ N → (a b : Block) → distanceBy μ N m a b ≤ c m * c m * distortionBy μ N a b
   distanceBy-le N m h = by-division N m (N / m) (sym (div-mul-cancel m h))
 
--- the distance at m is at most the distortion, for every N that m divides
-pub distance-le : (N m : ℕ) → m ∣ N → (a b : Block) → distanceBy absolute N m a b ≤ distortionBy absolute N a b
-distance-le N m h a b = le-trans (distanceBy-le absolute (λ n. 1) absDiff-shrinks N m h a b) (le-of-eq (one-mul _))
-
 -- a measure by which search 2 is right: a distortion up to e has its distances within the limit for e
 abbrev pub Lawful : Measure → Type 0
 Lawful μ = (N m : ℕ) → m ∣ N → (a b : Block) (e : ℕ) → distortionBy μ N a b ≤ e → distanceBy μ N m a b ≤ μ .limit m e
 
 pub absolute-lawful : Lawful absolute
-absolute-lawful N m h a b e l = le-trans (distance-le N m h a b) l
+absolute-lawful N m h a b e l = le-trans (distanceBy-le absolute (λ n. 1) absolute-shrinks N m h a b) (rw one-mul l)
+
+pub squares-lawful : Lawful squares
+squares-lawful N m h a b e l = le-trans (distanceBy-le squares (λ n. n) squares-shrink N m h a b) (mul-le-mul-left (m * m) l)
+
+pub measure-lawful : (measure : ℕ) → Lawful (measureOf measure)
+measure-lawful = measure-elim Lawful absolute-lawful squares-lawful

@@ -12,7 +12,8 @@ use lib.Dec.{ltb}
 use lib.ListN.{length}
 use Rattle.base.specs.Least.{_∈_, leastOf, mem-length}
 use Rattle.base.specs.Picks.{pick, BestBelow, leastOf-pick}
-use Rattle.distortion.specs.Blocks.{Block, Measure}
+use Rattle.measures.specs.Measures.{Measure}
+use Rattle.distortion.specs.Blocks.{Block}
 use Rattle.pruned_rule.specs.Distance.{distortions, distances}
 use Rattle.pruned_rule.specs.Prune.{Pruning, lower, sift, rounds, prune, prunedBest, halves, halvings, resolutions}
 use Rattle.pruned_rule.proofs.Blocks.{Lawful}

@@ -1,5 +1,6 @@
 -- 01, "The four searches", search 2, step by step, over a list of candidates in preference order. It is the search of Gharavi-Alkhansari's paper with
--- exponent 1; where the paper's Table 1 has window ends exchanged, loses earlier removals or stops at E = 0 with ties unsettled, these steps hold.
+-- exponent 1, or 2 by squares (02, request 1); where the paper's Table 1 has window ends exchanged, loses earlier removals or stops at E = 0 with ties
+-- unsettled, these steps hold.
 --   Pruning       where the search stands: E, the candidates that remain, those dropped, and how many were tested at each m so far
 --   allRemaining  "Begin with all candidates and E = distortion of (0,0)": that distortion is e
 --   lower         "find the remaining vector of least distance (equals: preference order), lower E to its distortion if that is less"
@@ -10,7 +11,7 @@
 --   counts        "Each count is how many were tested at that m. Measurements made only for E are not counted."
 --   resolutions   "For m = N/2, then halved each time, down to 2"
 -- e is the distortion of (0,0), D k that of candidate k and dist m k its distance at m. limit m e is how far a distance at m may go for E = e: the measure
--- says it (`limit` of Measure in distortion/specs/Blocks.antt), and for absolute differences it is e.
+-- says it (`limit` of Measure in measures/specs/Measures.antt). For absolute differences it is e; by squares a vector is dropped "when it exceeds m² × E".
 use Prim.Native.Nat.{ℕ, zero, suc, _-_, _/_, min}
 use mathlib.Core.Bool.{cond}
 use mathlib.Core.List.{List, [], _∷_, _++_}
