@@ -2,22 +2,19 @@
 use Prim.Native.Nat.{ℕ, _+_, _*_, _≤_}
 use mathlib.Core.Path.{_≡_, ap, _∙_}
 use mathlib.Core.List.{List}
-use native.Mathlib.Nat.{add-assoc, add-mul, mul-le-mul}
+use native.Mathlib.Nat.{add-assoc, add-mul}
 use native.Mathlib.Omega.{arith}
 use lib.ListN.{getD}
 use Rattle.base.specs.Sum.{sumOver, sumOver-bound, sumTo-ext, sumTo-add, sumTo-cut}
 use Rattle.base.specs.Index.{row-fits}
-use Rattle.frame.specs.Pictures.{largestN}
 use Rattle.distortion.specs.Blocks.{Block}
 use Rattle.pruned_sums.specs.Area.{area, SumsOf}
 use Rattle.pruned_sums.specs.Square.{squareAt, largestSquareSum, squareSumAt, HasSquare, IsSquare}
 
 -- m × m bytes
-pub square-small : (g : Block) (m r c : ℕ) → ((i j : ℕ) → g i j ≤ 255) → m ≤ largestN → squareAt g m r c ≤ largestSquareSum
+pub square-small : (g : Block) (m r c : ℕ) → ((i j : ℕ) → g i j ≤ 255) → squareAt g m r c ≤ largestSquareSum m
 unfolding squareAt
-square-small g m r c b h =
-    let k : m * (m * 255) ≤ largestSquareSum = mul-le-mul {n₂ = largestN} {m₂ = largestN * 255} h (omega arith) in
-    omega (arith, sumOver-bound 255 m m (λ i j. g (r + i) (c + j)) (λ i j hi hj. b _ _))
+square-small g m r c b = sumOver-bound 255 m m (λ i j. g (r + i) (c + j)) (λ i j hi hj. b _ _)
 
 module _ (g : Block) (r c m : ℕ) where
   -- the pels left of the square, in its rows
@@ -57,14 +54,14 @@ module _ (g : Block) (rows columns : ℕ) (sums : List ℕ) (t : SumsOf g rows c
   square-sum-at-is = omega (arith, left, right)
 
   -- of bytes
-  pub has-square : ((i j : ℕ) → g i j ≤ 255) → m ≤ largestN → HasSquare sums rowoffset m at
+  pub has-square : ((i j : ℕ) → g i j ≤ 255) → HasSquare sums rowoffset m at
   unfolding squareSumAt
-  has-square b small = record {
+  has-square b = record {
     inside = omega (arith, t .long, row-fits (r + m) (rows + 1) (columns + 1) (omega arith), lower);
     left = omega (arith, left);
     right = omega (arith, right);
     wider = omega (arith, left, right);
-    small = rw square-sum-at-is (square-small g m r c b small);
+    small = rw square-sum-at-is (square-small g m r c b);
   }
 
 pub is-square : (sums : List ℕ) (rowoffset m at : ℕ) → IsSquare sums rowoffset m at (squareSumAt sums rowoffset m at)

@@ -72,7 +72,7 @@ pub fn fill_sums(frame: &[u8], width: usize, a: Region, table: &mut [u32])
 // The sum of the square at place `at` of the table, by four look-ups; its lower edge stands `rowoffset` places behind its upper one.
 pub fn square_sum_at(sums: &[u32], rowoffset: usize, m: usize, at: usize) -> u32
     requires { ⌜ HasSquare (now sums) rowoffset m at ⌝ }
-    ensures { λ r. ⌜ (r ≡ squareSumAt (now (sums .entry)) rowoffset m at) × (r ≤ largestSquareSum) × IsSquare (now (sums .entry)) rowoffset m at r ⌝ }
+    ensures { λ r. ⌜ (r ≡ squareSumAt (now (sums .entry)) rowoffset m at) × (r ≤ largestSquareSum m) × IsSquare (now (sums .entry)) rowoffset m at r ⌝ }
 {
     let right = sums[at + rowoffset + m] - sums[at + m];
     let beside = sums[at + rowoffset] - sums[at];
