@@ -9,14 +9,16 @@ use lib.ListN.{getD, length-append}
 use Rattle.base.specs.Sum.{sumTo, sumTo-group, sumOver-ext}
 use Rattle.base.specs.Index.{row-fits}
 use Rattle.base.specs.Rows.{inRows, length-in-rows, in-rows-at}
-use Rattle.distortion.specs.Blocks.{Block, absolute}
+use Rattle.measures.specs.Measures.{measureOf, measure-elim, diff-most}
+use Rattle.distortion.specs.Blocks.{Block}
 use Rattle.pruned_rule.specs.Distance.{squareSum, distanceBy}
+use Rattle.signed.specs.Values.{absDiff}
 use Rattle.pruned_sums.specs.Area.{SumsOf}
 use Rattle.frame.specs.Pictures.{largestN}
 use Rattle.pruned_sums.specs.Square.{squareAt, largestSquareSum, squareSumAt, HasSquare}
 use Rattle.pruned_sums.proofs.Squares.{square-small, square-sum-at-is, has-square}
 use Rattle.pruned_subblocks.specs.declared.Subblocks.{Subblocks}
-use Rattle.pruned_subblocks.specs.Squares.{mostSquares, blockSquareSum, squareStep, Cuttable, Cut, differenceAt, Compared, IsDistance}
+use Rattle.pruned_subblocks.specs.Squares.{mostSquares, blockSquareSum, squareStep, Cuttable, Cut, differenceAt, largestDifference, Compared, IsDistance}
 
 -- what holds at each place of k rows of k holds at each number below k * k
 by-rows : (P : ℕ → Type 0) (k : ℕ) → ((p q : ℕ) → p < k → q < k → P (p * k + q)) → (s : ℕ) → s < k * k → P s
@@ -57,7 +59,7 @@ module _ (a : Block) (blocksums : List ℕ) (s : Subblocks) (n : ℕ) (t : SumsO
     narrow = narrow;
     each = λ p q hp hq. rw e
         (has-square a n n blocksums t (s .m) (p * s .m) (q * s .m) (omega (arith, row-fits p (s .k) (s .m) hp))
-        (omega (arith, row-fits q (s .k) (s .m) hq)) bytes (omega (arith, row-fits p (s .k) (s .m) hp)));
+        (omega (arith, row-fits q (s .k) (s .m) hq)) bytes);
   }
 
   -- lists that begin with the squares' sums and their steps
@@ -92,33 +94,52 @@ module _ (a g : Block) (rows columns m k : ℕ) (block steps sums : List ℕ) (t
         rw (cut .step p q hp hq, square-place p q)
         (square-sum-at-is g rows columns sums t m (r + p * m) (c + q * m) (omega (arith, row-fits p k m hp)) (omega (arith, row-fits q k m hq)))
 
-    pub distance-is : 0 < m
-        → sumTo (differenceAt block steps sums (m * (columns + 1)) m (corner r c)) (k * k) ≡ distanceBy absolute (k * m) m a (λ i j. g (r + i) (c + j))
+    pub distance-is : (measure : ℕ) → 0 < m
+        → sumTo (differenceAt measure block steps sums (m * (columns + 1)) m (corner r c)) (k * k)
+        ≡ distanceBy (measureOf measure) (k * m) m a (λ i j. g (r + i) (c + j))
     unfolding distanceBy
-    distance-is some =
+    distance-is measure some =
         sumTo-group _ k k
         ∙ rw (mul-div-cancel k some)
-        (sumOver-ext k k _ _ (λ p q hp hq. rw (cut .sum p q hp hq, at-square p q hp hq, square-within) refl))
+        (sumOver-ext k k _ _ (λ p q hp hq. ap₂ (measureOf measure .diff) (cut .sum p q hp hq) (at-square p q hp hq ∙ square-within g m r c p q)))
 
     -- of bytes, and N at most the largest: the numbers fit the code's
-    pub compared : ((i j : ℕ) → a i j ≤ 255) → ((i j : ℕ) → g i j ≤ 255) → 2 ≤ m → k * m ≤ largestN
+    pub compared : ((i j : ℕ) → a i j ≤ 255) → ((i j : ℕ) → g i j ≤ 255) → 2 ≤ m → m ≤ largestN → k * m ≤ largestN
         → Compared block steps sums (m * (columns + 1)) m (k * k) (corner r c)
-    compared ab gb two sixteen = record {
+    compared ab gb two side sixteen = record {
       few = squares-few k m two sixteen;
+      side = side;
       sums-long = cut .sums-long;
       steps-long = cut .steps-long;
       small =
-          by-rows (λ s. getD block s 0 ≤ largestSquareSum) k
-          (λ p q hp hq. rw (cut .sum p q hp hq, square-is) (square-small a m _ _ ab (omega (arith, row-fits p k m hp))));
+          by-rows (λ s. getD block s 0 ≤ largestSquareSum m) k
+          (λ p q hp hq. rw (cut .sum p q hp hq, square-is) (square-small a m _ _ ab));
       each = by-rows (λ s. HasSquare sums (m * (columns + 1)) m (corner r c + getD steps s 0)) k (λ p q hp hq.
           rw (cut .step p q hp hq, square-place p q)
           (has-square g rows columns sums t m (r + p * m) (c + q * m) (omega (arith, row-fits p k m hp)) (omega (arith, row-fits q k m hq))
-          gb (omega (arith, row-fits p k m hp))));
+          gb));
     }
 
 -- ---- what the contracts say of the numbers
 
-pub is-distance : (block steps sums : List ℕ) (rowoffset m count at : ℕ)
-    → IsDistance block steps sums rowoffset m count at (sumTo (differenceAt block steps sums rowoffset m at) count)
-is-distance block steps sums rowoffset m count at a g rows columns k y x cut t some ec el ea hy hx =
-    rw (ec, el, ea) (distance-is a g rows columns m k block steps sums t cut y x hy hx some)
+pub is-distance : (measure : ℕ) (block steps sums : List ℕ) (rowoffset m count at : ℕ)
+    → IsDistance measure block steps sums rowoffset m count at (sumTo (differenceAt measure block steps sums rowoffset m at) count)
+is-distance measure block steps sums rowoffset m count at a g rows columns k y x cut t some ec el ea hy hx =
+    rw (ec, el, ea) (distance-is a g rows columns m k block steps sums t cut y x hy hx measure some)
+
+-- numbers up to c differ by no more than c and 0 do
+pub diff-largest : (measure a b c : ℕ) → a ≤ c → b ≤ c → measureOf measure .diff a b ≤ measureOf measure .diff c 0
+diff-largest measure a b c ha hb =
+    let h : absDiff a b ≤ absDiff c 0 = omega arith in
+    measure-elim (λ μ. μ .diff a b ≤ μ .diff c 0) h (mul-le-mul h h) measure
+
+pub difference-largest : (measure : ℕ) {block steps sums : List ℕ} {rowoffset m count at : ℕ} → Compared block steps sums rowoffset m count at
+    → (s : ℕ) → s < count → differenceAt measure block steps sums rowoffset m at s ≤ largestDifference measure m
+difference-largest measure {m = m} c s h = diff-largest measure _ _ (largestSquareSum m) (c .small s h) (c .each s h .small)
+
+-- sums of pels fit 31 bits
+pub square-sum-fits : (m : ℕ) → m ≤ largestN → largestSquareSum m ≤ largestSquareSum largestN
+square-sum-fits m h = mul-le-mul {n₂ = largestN} {m₂ = largestN * 255} h (omega arith)
+
+pub largest-difference-fits : (measure m : ℕ) → m ≤ largestN → largestDifference measure m ≤ largestSquareSum largestN * largestSquareSum largestN
+largest-difference-fits measure m h = diff-most measure (largestSquareSum m) 0 (largestSquareSum largestN) (omega arith) (square-sum-fits m h) (omega arith)

@@ -88,24 +88,26 @@ pub fn block_region(b: SearchBlock) -> Region
     }
 }
 
-// The distance of one older block, its corner at place `at` of the table.
+// The distance of one older block, its corner at place `at` of the table, by a measure.
 pub fn distance_from(
     block: &[u32],
     steps: &[usize],
     sums: &[u32],
+    measure: u32,
     rowoffset: usize,
     m: usize,
     count: usize,
     at: usize,
-) -> u32
+) -> u64
     requires { ⌜ Compared (now block) (now steps) (now sums) rowoffset m count at ⌝ }
-    ensures { λ r. ⌜ (r ≡ sumTo (differenceAt (now (block .entry)) (now (steps .entry)) (now (sums .entry)) rowoffset m at) count)
-        × IsDistance (now (block .entry)) (now (steps .entry)) (now (sums .entry)) rowoffset m count at r ⌝ }
+    ensures { λ r. ⌜ (r ≡ sumTo (differenceAt measure (now (block .entry)) (now (steps .entry)) (now (sums .entry)) rowoffset m at) count)
+        × IsDistance measure (now (block .entry)) (now (steps .entry)) (now (sums .entry)) rowoffset m count at r ⌝ }
 {
-    let mut sum: u32 = 0;
+    let mut sum: u64 = 0;
     let mut s: usize = 0;
     while s < count {
-        sum += signed::abs_diff_u32(
+        sum += measures::sum_difference(
+            measure,
             block[s],
             pruned_sums::square_sum_at(sums, rowoffset, m, at + steps[s]),
         );
