@@ -1,4 +1,5 @@
-// The distances of all older blocks whose corners stand in so many rows and columns of the summed-area table, square by square.
+// The distances of all older blocks whose corners stand in so many rows and columns of the summed-area table, square by square, by a measure. They are
+// added in 32 bits, where they fit.
 
 ghost use mathlib.Core.Path.{_≡_};
 ghost use mathlib.Core.List.{_++_};
@@ -7,9 +8,10 @@ ghost use lib.ListN.{length, getD, drop};
 ghost use Rattle.base.specs.Sum.{sumTo};
 ghost use Rattle.base.specs.Lists.{fillTo};
 ghost use Rattle.base.specs.Rows.{inRows};
-ghost use Rattle.signed.specs.Values.{absDiff};
+ghost use Rattle.measures.specs.Measures.{measureOf};
+ghost use Rattle.frame.specs.Pictures.{largestN};
 ghost use Rattle.pruned_sums.specs.Square.{largestSquareSum, squareSumAt, HasSquare};
-ghost use Rattle.pruned_subblocks.specs.Squares.{mostSquares, differenceAt, Compared, IsDistance};
+ghost use Rattle.pruned_subblocks.specs.Squares.{differenceAt, largestDifference, Compared, IsDistance};
 ghost use Rattle.pruned_spread.specs.Spread.{raised};
 
 // Corners of older blocks in the summed-area table: the first stands at place `at`, and a row of them `stride` places behind the row before.
@@ -23,6 +25,7 @@ pub struct Corners {
 // Adds the differences at one square to `columns` places from `from` on.
 fn add_run(
     sums: &[u32],
+    measure: u32,
     rowoffset: usize,
     m: usize,
     at: usize,
@@ -31,31 +34,40 @@ fn add_run(
     part: &mut [u32],
     from: usize,
 )
-    requires { ⌜ (value ≤ largestSquareSum) × (from + columns ≤ length (now part)) ⌝ }
+    requires { ⌜ (value ≤ largestSquareSum m) × (m ≤ largestN) × (from + columns ≤ length (now part)) ⌝ }
     requires { ⌜ ((c : ℕ) → c < columns → HasSquare (now sums) rowoffset m (at + c)
-        × (getD (now part) (from + c) 0 ≤ mostSquares * largestSquareSum)) ⌝ }
+        × (getD (now part) (from + c) 0 + largestDifference measure m ≤ 4294967295)) ⌝ }
     ensures { λ _. ⌜ now (part .exit) ≡ fillTo (now (part .entry)) from
-        (λ c. getD (now (part .entry)) (from + c) 0 + absDiff value (squareSumAt (now (sums .entry)) rowoffset m (at + c))) columns ⌝ }
+        (λ c. getD (now (part .entry)) (from + c) 0 + measureOf measure .diff value (squareSumAt (now (sums .entry)) rowoffset m (at + c))) columns ⌝ }
 {
     let mut c: usize = 0;
     while c < columns {
         part[from + c] = part[from + c]
-            + signed::abs_diff_u32(
+            + measures::sum_difference(
+                measure,
                 value,
                 pruned_sums::square_sum_at(sums, rowoffset, m, at + c),
-            );
+            ) as u32;
         c += 1;
     }
 }
 
 // Adds the differences at one square to all places; the square of the first older block stands at `c.at`.
-fn add_square(sums: &[u32], rowoffset: usize, m: usize, c: Corners, value: u32, part: &mut [u32])
-    requires { ⌜ (value ≤ largestSquareSum) × (0 < c .columns) × (c .rows * c .columns ≤ length (now part)) × (c .stride ≤ 1025) ⌝ }
+fn add_square(
+    sums: &[u32],
+    measure: u32,
+    rowoffset: usize,
+    m: usize,
+    c: Corners,
+    value: u32,
+    part: &mut [u32],
+)
+    requires { ⌜ (value ≤ largestSquareSum m) × (m ≤ largestN) × (0 < c .columns) × (c .rows * c .columns ≤ length (now part)) × (c .stride ≤ 1025) ⌝ }
     requires { ⌜ ((i j : ℕ) → i < c .rows → j < c .columns → HasSquare (now sums) rowoffset m (c .at + i * c .stride + j)
-        × (getD (now part) (i * c .columns + j) 0 ≤ mostSquares * largestSquareSum)) ⌝ }
+        × (getD (now part) (i * c .columns + j) 0 + largestDifference measure m ≤ 4294967295)) ⌝ }
     ensures { λ _. ⌜ now (part .exit) ≡
-        inRows (raised (λ i j. absDiff value (squareSumAt (now (sums .entry)) rowoffset m (c .at + i * c .stride + j))) (c .columns) (now (part .entry)))
-        (c .rows) (c .columns) ++ drop (c .rows * c .columns) (now (part .entry)) ⌝ }
+        inRows (raised (λ i j. measureOf measure .diff value (squareSumAt (now (sums .entry)) rowoffset m (c .at + i * c .stride + j)))
+        (c .columns) (now (part .entry))) (c .rows) (c .columns) ++ drop (c .rows * c .columns) (now (part .entry)) ⌝ }
 {
     let at = c.at;
     let stride = c.stride;
@@ -65,7 +77,17 @@ fn add_square(sums: &[u32], rowoffset: usize, m: usize, c: Corners, value: u32, 
     let mut here = at;
     let mut from: usize = 0;
     while i < rows {
-        add_run(sums, rowoffset, m, here, value, columns, part, from);
+        add_run(
+            sums,
+            measure,
+            rowoffset,
+            m,
+            here,
+            value,
+            columns,
+            part,
+            from,
+        );
         here += stride;
         from += columns;
         i += 1;
@@ -77,20 +99,22 @@ pub fn spread(
     block: &[u32],
     steps: &[usize],
     sums: &[u32],
+    measure: u32,
     rowoffset: usize,
     m: usize,
     count: usize,
     c: Corners,
     part: &mut [u32],
 )
-    requires { ⌜ (0 < c .rows) × (0 < c .columns) × (c .rows * c .columns ≤ length (now part)) × (c .stride ≤ 1025) ⌝ }
+    requires { ⌜ (0 < c .rows) × (0 < c .columns) × (c .rows * c .columns ≤ length (now part)) × (c .stride ≤ 1025)
+        × (count * largestDifference measure m ≤ 4294967295) ⌝ }
     requires { ⌜ ((i j : ℕ) → i < c .rows → j < c .columns
         → Compared (now block) (now steps) (now sums) rowoffset m count (c .at + i * c .stride + j) × (getD (now part) (i * c .columns + j) 0 ≡ 0)) ⌝ }
     ensures { λ _. ⌜ (now (part .exit) ≡
-        inRows (λ i j. sumTo (differenceAt (now (block .entry)) (now (steps .entry)) (now (sums .entry)) rowoffset m (c .at + i * c .stride + j)) count)
+        inRows (λ i j. sumTo (differenceAt measure (now (block .entry)) (now (steps .entry)) (now (sums .entry)) rowoffset m (c .at + i * c .stride + j)) count)
         (c .rows) (c .columns) ++ drop (c .rows * c .columns) (now (part .entry)))
         × ((i j : ℕ) → i < c .rows → j < c .columns
-        → IsDistance (now (block .entry)) (now (steps .entry)) (now (sums .entry)) rowoffset m count (c .at + i * c .stride + j)
+        → IsDistance measure (now (block .entry)) (now (steps .entry)) (now (sums .entry)) rowoffset m count (c .at + i * c .stride + j)
         (getD (now (part .exit)) (i * c .columns + j) 0)) ⌝ }
 {
     let at = c.at;
@@ -106,7 +130,7 @@ pub fn spread(
             rows,
             columns,
         };
-        add_square(sums, rowoffset, m, square, block[s], part);
+        add_square(sums, measure, rowoffset, m, square, block[s], part);
         s += 1;
     }
 }

@@ -1,27 +1,28 @@
--- `spread`: after s turns each place holds the sum of the differences at the first s squares (`Rowed`), each at most a square's largest sum.
+-- `spread`: after s turns each place holds the sum of the differences at the first s squares (`Rowed`), each at most the largest at a square.
 use Prim.Native.Nat.{ℕ, _+_, _-_, _*_, _≤_, _<_}
 use mathlib.Core.Path.{_≡_, sym, ap}
-use native.Mathlib.Nat.{zero-mul, mul-le-mul}
+use native.Mathlib.Nat.{zero-mul}
 use native.Mathlib.Omega.{arith}
 use borrow.Author.Needs.{needs}
 use denote.Ref.{now}
 use lib.ListN.{length, getD}
 use Rattle.base.specs.Sum.{sumTo, sumTo-bound}
+use Rattle.base.specs.Index.{row-fits}
 use Rattle.base.specs.Rows.{Rowed, in-rows-at}
-use Rattle.signed.specs.Values.{absDiff}
-use Rattle.pruned_sums.specs.Square.{largestSquareSum, squareSumAt, HasSquare}
-use Rattle.pruned_subblocks.specs.Squares.{mostSquares, differenceAt, Compared}
-use Rattle.pruned_subblocks.proofs.Cuts.{is-distance}
+use Rattle.measures.specs.Measures.{measureOf}
+use Rattle.pruned_sums.specs.Square.{squareSumAt, HasSquare}
+use Rattle.pruned_subblocks.specs.Squares.{differenceAt, largestDifference, Compared}
+use Rattle.pruned_subblocks.proofs.Cuts.{is-distance, difference-largest}
 use Rattle.pruned_spread.proofs.Adding.{summed-first, summed-more}
 use Rattle.pruned_spread.proofs.spread.Statement.{statement}
 use Rattle.pruned_spread.proofs.spread.Tie as tie
 
 abbrev Inv-loop : tie.InvT-loop
-Inv-loop block steps sums rowoffset m count part₀ at stride rows columns s₀ part s =
-    (s ≤ count) × Rowed (λ i j. sumTo (differenceAt block steps sums rowoffset m (at + i * stride + j)) s) columns part₀ part rows
+Inv-loop block steps sums measure rowoffset m count part₀ at stride rows columns s₀ part s =
+    (s ≤ count) × Rowed (λ i j. sumTo (differenceAt measure block steps sums rowoffset m (at + i * stride + j)) s) columns part₀ part rows
 
 abbrev μ-loop : tie.MeasureT-loop
-μ-loop block steps sums rowoffset m count part₀ at stride rows columns s₀ part s = count - s
+μ-loop block steps sums measure rowoffset m count part₀ at stride rows columns s₀ part s = count - s
 
 abbrev start : tie.At-loop Inv-loop μ-loop → tie.Start Inv-loop μ-loop
 start l = l .before .before .before .before .before
@@ -46,20 +47,20 @@ square : (b : tie.In-loop Inv-loop μ-loop) →
     let l = h .loop in
     (i j : ℕ) → i < a .c .rows → j < a .c .columns →
     HasSquare (now (a .sums)) (a .rowoffset) (a .m) (a .c .at + getD (now (a .steps)) (l .s) 0 + i * a .c .stride + j)
-    × (getD (l .part) (i * a .c .columns + j) 0 ≤ mostSquares * largestSquareSum)
+    × (getD (l .part) (i * a .c .columns + j) 0 + largestDifference (a .measure) (a .m) ≤ 4294967295)
 square b i j hi hj =
     let h = b .before in
     let l = h .loop in
     let s = h .before .before .before .before .before in
     let a = s .args in
     let p = s .pre .1 i j hi hj .0 in
-    let few : l .s * largestSquareSum ≤ mostSquares * largestSquareSum =
-    mul-le-mul {n₂ = mostSquares} {m₂ = largestSquareSum} (omega (arith, p .few)) (omega arith) in
+    let most = largestDifference (a .measure) (a .m) in
+    let few = row-fits (l .s) (a .count) most (b .loop-test .taken) in
     let each =
-    sumTo-bound largestSquareSum
-    (differenceAt (now (a .block)) (now (a .steps)) (now (a .sums)) (a .rowoffset) (a .m) (a .c .at + i * a .c .stride + j)) (l .s)
-    (λ k h. let t : k < a .count = omega arith in omega (arith, p .small k t, p .each k t .small)) in
-    (rw (moved b i j) at (p .each (l .s) (b .loop-test .taken)), rw (l .inv .1 .filled, in-rows-at _ _ _ i j _ hi hj) (omega (arith, each, few)))
+    sumTo-bound most
+    (differenceAt (a .measure) (now (a .block)) (now (a .steps)) (now (a .sums)) (a .rowoffset) (a .m) (a .c .at + i * a .c .stride + j)) (l .s)
+    (λ k h. let t : k < a .count = omega arith in difference-largest (a .measure) p k t) in
+    (rw (moved b i j) at (p .each (l .s) (b .loop-test .taken)), rw (l .inv .1 .filled, in-rows-at _ _ _ i j _ hi hj) (omega (arith, each, few, s .pre .0 .4)))
 
 loop-holds : tie.Need-loop-holds Inv-loop μ-loop
 loop-holds c =
@@ -89,7 +90,7 @@ add-square-requires c κs =
     let b = c .before .before .before in
     let s = start (b .before) in
     let long : s .args .c .rows * s .args .c .columns ≤ length (b .before .loop .part) = omega (arith, b .before .loop .inv .1 .long, s .pre .0 .2) in
-    ((corner b .small (b .before .loop .s) (b .loop-test .taken), s .pre .0 .1, long, s .pre .0 .3), square b)
+    ((corner b .small (b .before .loop .s) (b .loop-test .taken), corner b .side, s .pre .0 .1, long, s .pre .0 .3), square b)
 
 add-s : tie.Need-add-s Inv-loop μ-loop
 add-s c = search needs
@@ -109,7 +110,8 @@ loop-again c =
       search needs,
       summed-more _ _ _ _ (start (b .before) .pre .0 .2) _ _ _ _ (l .inv .1) (c .before .before .add-square .ensures)
           (λ i j.
-          ap (λ (h : ℕ). absDiff (getD (now (a .block)) (l .s) 0) (squareSumAt (now (a .sums)) (a .rowoffset) (a .m) h)) (sym (moved b i j))),
+          ap (λ (h : ℕ). measureOf (a .measure) .diff (getD (now (a .block)) (l .s) 0) (squareSumAt (now (a .sums)) (a .rowoffset) (a .m) h))
+          (sym (moved b i j))),
     )
 
 same-length : tie.Need-same-length Inv-loop μ-loop
@@ -127,10 +129,12 @@ returns c =
           rw (
             sums,
             in-rows-at
-                (λ r q. sumTo (differenceAt (now (a .block)) (now (a .steps)) (now (a .sums)) (a .rowoffset) (a .m) (k .at + r * k .stride + q)) (a .count))
+                (λ r q.
+                sumTo (differenceAt (a .measure) (now (a .block)) (now (a .steps)) (now (a .sums)) (a .rowoffset) (a .m) (k .at + r * k .stride + q))
+                (a .count))
                 (k .columns) (k .rows) i j _ hi hj,
           )
-          (is-distance (now (a .block)) (now (a .steps)) (now (a .sums)) (a .rowoffset) (a .m) (a .count) (k .at + i * k .stride + j)),
+          (is-distance (a .measure) (now (a .block)) (now (a .steps)) (now (a .sums)) (a .rowoffset) (a .m) (a .count) (k .at + i * k .stride + j)),
     )
 
 pub spread-spec : {M : Type 1} → statement M
