@@ -12,7 +12,7 @@ ghost use Rattle.pruned_remaining.specs.Kept.{nearestOf, keptWithin, swe
 pub fn nearest(
     remaining: &[u16; order::VECTORS],
     count: usize,
-    dist: &[u32; order::VECTORS],
+    dist: &[u64; order::VECTORS],
 ) -> usize
     requires { ⌜ (length (now remaining) ≡ vectorCount) × (0 < count) × (count ≤ vectorCount) ⌝ }
     ensures { λ r. ⌜ r ≡ nearestOf (now (remaining .entry)) count (now (dist .entry)) ⌝ }
@@ -33,8 +33,8 @@ pub fn nearest(
 pub fn keep_within(
     remaining: &mut [u16; order::VECTORS],
     count: usize,
-    dist: &[u32; order::VECTORS],
-    limit: u32,
+    dist: &[u64; order::VECTORS],
+    limit: u64,
 ) -> usize
     requires { ⌜ (length (now remaining) ≡ vectorCount) × (count ≤ vectorCount) ⌝ }
     ensures { λ r. ⌜ Front (keptWithin limit (now (remaining .entry)) (now (dist .entry)) count)
