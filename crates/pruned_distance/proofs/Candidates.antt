@@ -15,7 +15,8 @@ use Rattle.order.specs.Preference.{preferred}
 use Rattle.order.specs.Vectors.{vectorCount}
 use Rattle.frame.specs.Pictures.{pel, largestN}
 use Rattle.frame.specs.Candidates.{olderRow, olderColumn, candidate-older}
-use Rattle.distortion.specs.Blocks.{Block, absolute, blockAt}
+use Rattle.measures.specs.Measures.{measureOf}
+use Rattle.distortion.specs.Blocks.{Block, blockAt}
 use Rattle.pruned_rule.specs.Distance.{distanceBy}
 use Rattle.frame.specs.declared.SearchBlock.{SearchBlock}
 use Rattle.frame.specs.declared.Region.{Region}
@@ -98,6 +99,14 @@ module _ (older newer : List ℕ) (b : SearchBlock) (sums : List ℕ) (a : Regio
   pub narrow : a .columns + 1 ≤ 1025
   narrow = omega (arith, t .lent .covers .wide, standing .wide)
 
+  -- a square's side
+  pub side : (k : ℕ) → k * m ≡ n → m ≤ largestN
+  side zero h = absurd (omega (arith, zero-mul m, t .lent .ready .placed .paired .fitting .some))
+  side (suc k) h = omega (arith, suc-mul k m, size)
+
+  abbrev measure : ℕ
+  measure = b .setting .measure
+
   abbrev origin : Origin
   origin = record { y = b .y; x = b .x; top = a .top; left = a .left; stride = a .columns + 1 }
 
@@ -105,29 +114,26 @@ module _ (older newer : List ℕ) (b : SearchBlock) (sums : List ℕ) (a : Regio
       (ob : (k : ℕ) → getD older k 0 ≤ 255) (nb : (k : ℕ) → getD newer k 0 ≤ 255) where
     -- a step of a square's height in the table
     pub rowoffset-small : m * (a .columns + 1) ≤ largestN * 1025
-    rowoffset-small = mul-le-mul {n₂ = largestN} {m₂ = 1025} (size-of k whole) narrow
-      where
-        size-of : (q : ℕ) → q * m ≡ n → m ≤ largestN
-        size-of zero h = absurd (omega (arith, zero-mul m, t .lent .ready .placed .paired .fitting .some))
-        size-of (suc q) h = omega (arith, suc-mul q m, size)
+    rowoffset-small = mul-le-mul {n₂ = largestN} {m₂ = 1025} (side k whole) narrow
 
     pub few-squares : k * k ≤ mostSquares
     few-squares = squares-few k m (t .two) (rw whole size)
 
     abbrev number : ℕ → ℕ
-    number at = sumTo (differenceAt block steps sums (m * (a .columns + 1)) m at) (k * k)
+    number at = sumTo (differenceAt measure block steps sums (m * (a .columns + 1)) m at) (k * k)
 
     module _ (r c : ℕ) (hr : r + n ≤ a .rows) (hc : c + n ≤ a .columns) where
       pub compared-at : Compared block steps sums (m * (a .columns + 1)) m (k * k) (r * (a .columns + 1) + c)
       compared-at =
           compared blocksums (blockAt older width (a .top) (a .left)) (a .rows) (a .columns) m k block steps sums (t .lent .table) cut r c
-          (rw (whole) hr) (rw (whole) hc) (λ i j. nb _) (λ i j. ob _) (t .two) (rw (whole) size)
+          (rw (whole) hr) (rw (whole) hc) (λ i j. nb _) (λ i j. ob _) (t .two) (side k whole) (rw (whole) size)
 
-      distance-at : number (r * (a .columns + 1) + c) ≡ distanceBy absolute n m blocksums (λ i j. blockAt older width (a .top) (a .left) (r + i) (c + j))
+      distance-at : number (r * (a .columns + 1) + c)
+          ≡ distanceBy (measureOf measure) n m blocksums (λ i j. blockAt older width (a .top) (a .left) (r + i) (c + j))
       distance-at =
           distance-is blocksums (blockAt older width (a .top) (a .left)) (a .rows) (a .columns) m k block steps sums (t .lent .table) cut r c
-          (rw (whole) hr) (rw (whole) hc) (omega (arith, t .two))
-          ∙ ap (λ (s : ℕ). distanceBy absolute s m blocksums (λ i j. blockAt older width (a .top) (a .left) (r + i) (c + j))) (whole)
+          (rw (whole) hr) (rw (whole) hc) measure (omega (arith, t .two))
+          ∙ ap (λ (s : ℕ). distanceBy (measureOf measure) s m blocksums (λ i j. blockAt older width (a .top) (a .left) (r + i) (c + j))) (whole)
 
     module _ (i : ℕ) (h : i < count) where
       abbrev R : ℕ
@@ -155,7 +161,7 @@ module _ (older newer : List ℕ) (b : SearchBlock) (sums : List ℕ) (a : Regio
       number-table =
           let p = held in
           distance-at (R - a .top) (C - a .left) (p .2) (p .3)
-          ∙ ap (distanceBy absolute n m blocksums)
+          ∙ ap (distanceBy (measureOf measure) n m blocksums)
           (fun-ext (λ j. fun-ext (λ k.
           ap₂ (pel older width) (row j) (column k))))
         where

@@ -1,2 +1,3 @@
 pub mod Turns
 pub mod Candidates
+pub mod Fits

@@ -1,17 +1,20 @@
 -- 01, "The four searches", search 2: "find the remaining vector of least distance (equals: preference order)", "drop each whose distance exceeds
 -- E". The candidates that remain, as places in the preference table, and the distance at m of each of them.
---   placeOf      the place of a candidate's older block as an Origin counts; Reached: it stands at or behind that origin
---   distanceOf   the distance at m of the candidate at place k of the preference table
---   Lent         the block ready, and the summed-area table of a part of the older frame that holds all older blocks
---   Tested       what working out the distances at m asks
+--   placeOf           the place of a candidate's older block as an Origin counts; Reached: it stands at or behind that origin
+--   distanceOf        the distance at m of the candidate at place k of the preference table
+--   largestDistance   no two blocks are further apart at m: how far a distance may go for the largest distortion
+--   Lent              the block ready, and the summed-area table of a part of the older frame that holds all older blocks
+--   Tested            what working out the distances at m asks
 use Prim.Native.Nat.{ℕ, _+_, _-_, _*_, _/_, _≤_}
 use mathlib.Core.Path.{_≡_}
 use mathlib.Core.List.{List}
 use Rattle.order.specs.declared.Vector.{Vector}
 use Rattle.order.specs.Preference.{preferred}
 use Rattle.frame.specs.Candidates.{olderRow, olderColumn}
-use Rattle.distortion.specs.Blocks.{absolute, blockAt}
+use Rattle.measures.specs.Measures.{measureOf}
+use Rattle.distortion.specs.Blocks.{blockAt}
 use Rattle.pruned_rule.specs.Distance.{distanceBy}
+use Rattle.frame.specs.declared.Setting.{Setting}
 use Rattle.frame.specs.declared.SearchBlock.{SearchBlock}
 use Rattle.search.specs.Target.{Ready, Past}
 use Rattle.candidates.specs.Gathered.{ListedCandidates}
@@ -30,8 +33,11 @@ pub record Reached (o : Origin) (v : Vector) : Type 0 where
 
 abbrev pub distanceOf : List ℕ → List ℕ → SearchBlock → ℕ → ℕ → ℕ
 distanceOf older newer b m k =
-    distanceBy absolute (b .setting .n) m (blockAt newer (b .setting .width) (b .y) (b .x))
+    distanceBy (measureOf (b .setting .measure)) (b .setting .n) m (blockAt newer (b .setting .width) (b .y) (b .x))
     (blockAt older (b .setting .width) (olderRow (b .y) (preferred k)) (olderColumn (b .x) (preferred k)))
+
+abbrev pub largestDistance : Setting → ℕ → ℕ
+largestDistance s m = measureOf (s .measure) .limit m (s .n * (s .n * measureOf (s .measure) .most))
 
 pub record Lent (older newer : List ℕ) (b : SearchBlock) (sums : List ℕ) (a : Region) : Type 0 where
   pub ready : Ready older newer b

@@ -1,17 +1,20 @@
 // The tests of search 2: the distance at m of every remaining candidate, over the summed-area table of the older frame or of a part of it.
 
 ghost use mathlib.Core.Path.{_≡_};
+ghost use mathlib.Core.Bool.{false};
 ghost use Prim.Native.Nat.{ℕ, _+_, _*_, _≤_, _<_};
 ghost use lib.ListN.{length, getD};
 ghost use Rattle.base.specs.Sum.{sumTo};
 ghost use Rattle.base.specs.Lists.{fillTo};
 ghost use Rattle.order.specs.Preference.{preference, preferred, flat};
 ghost use Rattle.order.specs.Vectors.{vectorCount};
+ghost use Rattle.frame.specs.Pictures.{largestN};
 ghost use Rattle.distortion.specs.Blocks.{blockAt};
 ghost use Rattle.pruned_subblocks.specs.Squares.{BlockSums, Cut, differenceAt, Compared};
-ghost use Rattle.pruned_distance.specs.Remaining.{Reached, placeOf, distanceOf, Tested};
+ghost use Rattle.pruned_distance.specs.Remaining.{Reached, placeOf, distanceOf, largestDistance, Tested};
 use frame::Region;
 use frame::SearchBlock;
+use frame::Setting;
 use pruned_spread::Corners;
 use pruned_subblocks::Subblocks;
 
@@ -48,17 +51,18 @@ fn fill_few(
     block: &[u32],
     steps: &[usize],
     sums: &[u32],
+    measure: u32,
     s: TableSquares,
     order: &[i32; order::NUMBERS],
     remaining: &[u16; order::VECTORS],
     count: usize,
-    dist: &mut [u32; order::VECTORS],
+    dist: &mut [u64; order::VECTORS],
 )
     requires { ⌜ (now order ≡ flat preference) × (length (now dist) ≡ vectorCount) × (length (now remaining) ≡ vectorCount) × (count ≤ vectorCount) ⌝ }
     requires { ⌜ ((i : ℕ) → i < count → (getD (now remaining) i 0 < vectorCount) × Reached (s .origin) (preferred (getD (now remaining) i 0))
         × Compared (now block) (now steps) (now sums) (s .rowoffset) (s .m) (s .count) (placeOf (s .origin) (preferred (getD (now remaining) i 0)))) ⌝ }
     ensures { λ _. ⌜ now (dist .exit) ≡ fillTo (now (dist .entry)) 0
-        (λ i. sumTo (differenceAt (now (block .entry)) (now (steps .entry)) (now (sums .entry)) (s .rowoffset) (s .m)
+        (λ i. sumTo (differenceAt measure (now (block .entry)) (now (steps .entry)) (now (sums .entry)) (s .rowoffset) (s .m)
         (placeOf (s .origin) (preferred (getD (now (remaining .entry)) i 0)))) (s .count)) count ⌝ }
 {
     let o = s.origin;
@@ -68,9 +72,25 @@ fn fill_few(
     let mut i: usize = 0;
     while i < count {
         let at = place_of(order, signed::wide_u16(remaining[i]), o);
-        dist[i] = pruned_subblocks::distance_from(block, steps, sums, rowoffset, m, squares, at);
+        dist[i] = pruned_subblocks::distance_from(
+            block,
+            steps,
+            sums,
+            measure,
+            rowoffset,
+            m,
+            squares,
+            at,
+        );
         i += 1;
     }
+}
+
+// A number of 32 bits as one of 64.
+fn wide_u32(d: u32) -> u64
+    ensures { λ r. ⌜ r ≡ d ⌝ }
+{
+    d as u64
 }
 
 // Each remaining candidate from the distances of all older blocks.
@@ -80,7 +100,7 @@ fn pick(
     o: Origin,
     remaining: &[u16; order::VECTORS],
     count: usize,
-    dist: &mut [u32; order::VECTORS],
+    dist: &mut [u64; order::VECTORS],
 )
     requires { ⌜ (now order ≡ flat preference) × (length (now dist) ≡ vectorCount) × (length (now remaining) ≡ vectorCount)
         × (length (now part) ≡ vectorCount) × (count ≤ vectorCount) ⌝ }
@@ -91,7 +111,7 @@ fn pick(
 {
     let mut i: usize = 0;
     while i < count {
-        dist[i] = part[place_of(order, signed::wide_u16(remaining[i]), o)];
+        dist[i] = wide_u32(part[place_of(order, signed::wide_u16(remaining[i]), o)]);
         i += 1;
     }
 }
@@ -110,13 +130,15 @@ fn fill_many(
     k: usize,
     remaining: &[u16; order::VECTORS],
     count: usize,
-    dist: &mut [u32; order::VECTORS],
+    dist: &mut [u64; order::VECTORS],
 )
     requires { ⌜ (now order ≡ flat preference) × (length (now dist) ≡ vectorCount) × Tested (now older) (now newer) b (now sums) a m (now remaining) count ⌝ }
-    requires { ⌜ (k * m ≡ b .setting .n) × Cut (blockAt (now newer) (b .setting .width) (b .y) (b .x)) m k (a .columns + 1) (now block) (now steps) ⌝ }
+    requires { ⌜ (k * m ≡ b .setting .n) × Cut (blockAt (now newer) (b .setting .width) (b .y) (b .x)) m k (a .columns + 1) (now block) (now steps)
+        × (largestDistance (b .setting) m ≤ 4294967295) ⌝ }
     ensures { λ _. ⌜ now (dist .exit) ≡ fillTo (now (dist .entry)) 0
         (λ i. distanceOf (now (older .entry)) (now (newer .entry)) b m (getD (now (remaining .entry)) i 0)) count ⌝ }
 {
+    let s = b.setting;
     let y = b.y;
     let x = b.x;
     let stride = a.columns + 1;
@@ -133,7 +155,17 @@ fn fill_many(
         rows,
         columns,
     };
-    pruned_spread::spread(block, steps, sums, m * stride, m, k * k, corners, &mut part);
+    pruned_spread::spread(
+        block,
+        steps,
+        sums,
+        s.measure,
+        m * stride,
+        m,
+        k * k,
+        corners,
+        &mut part,
+    );
     let o = Origin {
         y,
         x,
@@ -142,6 +174,19 @@ fn fill_many(
         stride: columns,
     };
     pick(&part, order, o, remaining, count, dist);
+}
+
+// Whether each candidate's distance is worked out by itself: where they are few, or where a distance at m may not fit 32 bits.
+fn each_by_itself(s: Setting, m: usize, count: usize) -> bool
+    requires { ⌜ (s .n ≤ largestN) × (m ≤ largestN) ⌝ }
+    ensures { λ r. ⌜ (r ≡ false → largestDistance s m ≤ 4294967295) ⌝ }
+{
+    if count <= 256 {
+        return true;
+    }
+    let n = s.n;
+    let measure = s.measure;
+    measures::limit(measure, m, (n * n) as u32 * measures::most(measure)) > 4294967295
 }
 
 // The distance at m of every remaining candidate. The frames stand for the contract alone: their sums are read.
@@ -156,7 +201,7 @@ pub fn fill_distances(
     m: usize,
     remaining: &[u16; order::VECTORS],
     count: usize,
-    dist: &mut [u32; order::VECTORS],
+    dist: &mut [u64; order::VECTORS],
 )
     requires { ⌜ (now order ≡ flat preference) × (length (now dist) ≡ vectorCount) × Tested (now older) (now newer) b (now sums) a m (now remaining) count
         × BlockSums (now newer) b (now blocksums) ⌝ }
@@ -178,7 +223,7 @@ pub fn fill_distances(
         stride,
     };
     pruned_subblocks::cut(blocksums, q, &mut block, &mut steps);
-    if count <= 256 {
+    if each_by_itself(s, m, count) {
         let top = a.top;
         let left = a.left;
         let o = Origin {
@@ -196,7 +241,17 @@ pub fn fill_distances(
             m,
             count: squares,
         };
-        fill_few(&block, &steps, sums, t, order, remaining, count, dist);
+        fill_few(
+            &block,
+            &steps,
+            sums,
+            s.measure,
+            t,
+            order,
+            remaining,
+            count,
+            dist,
+        );
     } else {
         fill_many(
             older,

@@ -10,15 +10,15 @@ use Rattle.distortion.specs.Blocks.{blockAt}
 use Rattle.pruned_distance.specs.Remaining.{Tested}
 use Rattle.pruned_subblocks.specs.Squares.{Cut}
 use Rattle.pruned_subblocks.proofs.Cuts.{squares-few, cuttable, cut-is}
-use Rattle.pruned_distance.proofs.Candidates.{size, narrow, rowoffset-small, few-squares, reached-table, compared-table, number-table}
+use Rattle.pruned_distance.proofs.Candidates.{size, narrow, side, rowoffset-small, few-squares, reached-table, compared-table, number-table}
 use Rattle.pruned_distance.proofs.fill_distances.Statement.{statement}
 use Rattle.pruned_distance.proofs.fill_distances.Tie as tie
 
 abbrev few-cut : tie.After-steps3 → tie.After-cut
-few-cut c = c .before .before .before .before .before
+few-cut c = c .before .before .before .before .before .before
 
 abbrev many-cut : tie.After-steps4 → tie.After-cut
-many-cut c = c .before .before .before .before .before
+many-cut c = c .before .before .before .before .before .before
 
 -- ---- the facts of the start, where the newer block is cut
 
@@ -77,14 +77,20 @@ cut-requires c κs =
     let narrows = narrow _ _ _ _ _ _ _ _ t in
     (cuttable _ _ _ _ (s .pre .3) refl (t .whole) small narrows (λ i j. newer-bytes (given c) _), few, few)
 
+each-by-itself-requires : tie.Need-each-by-itself-requires
+each-by-itself-requires c κs =
+    let t = tested (c .before .before) in
+    let small = size _ _ _ _ _ _ _ _ t in
+    (small, side _ _ _ _ _ _ _ _ t _ (t .whole))
+
 mul-rowoffset : tie.Need-mul-rowoffset
 mul-rowoffset c =
-    let k = c .before .before .before in
+    let k = c .before .before .before .before in
     omega (arith, rowoffset-small _ _ _ _ _ _ _ _ (tested k) _ _ _ (tested k .whole) (squares k) (olds k) (news k))
 
 mul-squares : tie.Need-mul-squares
 mul-squares c =
-    let k = c .before .before .before in
+    let k = c .before .before .before .before in
     omega (arith, few-squares _ _ _ _ _ _ _ _ (tested k) _ _ _ (tested k .whole) (squares k) (olds k) (news k))
 
 slice-aggregate-fill-few : tie.Need-slice-aggregate-fill-few
@@ -115,7 +121,9 @@ slice-aggregate-fill-many-2 c = search needs
 fill-many-requires : tie.Need-fill-many-requires
 fill-many-requires c κs =
     let k = many-cut (c .before) in
-    ((start k .pre .0, start k .pre .1, tested k), (tested k .whole, squares k))
+    let many = c .before .before .before in
+    let fits = many .before .each-by-itself .ensures (many .if1 .left) in
+    ((start k .pre .0, start k .pre .1, tested k), (tested k .whole, squares k, fits))
 
 returns : tie.Need-returns
 returns c =
@@ -135,6 +143,7 @@ fill-distances-spec =
     slice-aggregate-cut
     slice-aggregate-cut-2
     cut-requires
+    each-by-itself-requires
     mul-rowoffset
     mul-squares
     slice-aggregate-fill-few

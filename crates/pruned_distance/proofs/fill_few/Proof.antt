@@ -15,11 +15,11 @@ use Rattle.pruned_distance.proofs.fill_few.Statement.{statement}
 use Rattle.pruned_distance.proofs.fill_few.Tie as tie
 
 abbrev Inv-loop : tie.InvT-loop
-Inv-loop block steps sums order remaining count dist₀ o rowoffset m squares i₀ dist i =
-    Filling (λ j. sumTo (differenceAt block steps sums rowoffset m (placeOf o (preferred (getD remaining j 0)))) squares) count dist₀ dist i
+Inv-loop block steps sums measure order remaining count dist₀ o rowoffset m squares i₀ dist i =
+    Filling (λ j. sumTo (differenceAt measure block steps sums rowoffset m (placeOf o (preferred (getD remaining j 0)))) squares) count dist₀ dist i
 
 abbrev μ-loop : tie.MeasureT-loop
-μ-loop block steps sums order remaining count dist₀ o rowoffset m squares i₀ dist i = count - i
+μ-loop block steps sums measure order remaining count dist₀ o rowoffset m squares i₀ dist i = count - i
 
 abbrev start : tie.At-loop Inv-loop μ-loop → tie.Start Inv-loop μ-loop
 start l = l .before .before .before .before .before

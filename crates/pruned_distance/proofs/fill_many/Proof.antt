@@ -12,6 +12,7 @@ use Rattle.order.specs.Vectors.{vectorCount}
 use Rattle.distortion.specs.Blocks.{blockAt}
 use Rattle.pruned_subblocks.specs.Squares.{Cut}
 use Rattle.pruned_distance.specs.Remaining.{Tested}
+use Rattle.pruned_distance.proofs.Fits.{largest-is}
 use Rattle.pruned_distance.proofs.Turns.{over-long}
 use Rattle.pruned_distance.proofs.Candidates.{Reach, standing, narrow, rowoffset-small, few-squares, corner-region-is, few}
 use Rattle.pruned_distance.proofs.Candidates.{compared-corner-region, reached-corner-region, place-corner-region, number-corner-region}
@@ -19,7 +20,7 @@ use Rattle.pruned_distance.proofs.fill_many.Statement.{statement}
 use Rattle.pruned_distance.proofs.fill_many.Tie as tie
 
 abbrev older-known : tie.After-struct-known → tie.After-shared-slice-known
-older-known c = c .before .before .before .before .before
+older-known c = c .before .before .before .before .before .before
 
 abbrev entry : tie.After-shared-slice-known5 → tie.Start
 entry c = c .before .before .before .before .before
@@ -30,7 +31,7 @@ cornered c = c .before .before .before .before .before
 -- ---- the facts of the start, where the reach is known
 
 abbrev start : tie.After-corner-region → tie.Start
-start c = entry (c .before .before)
+start c = entry (c .before .before .before)
 
 tested : (c : tie.After-corner-region) →
     let a = start c .args in
@@ -50,7 +51,7 @@ olds : (c : tie.After-corner-region) (k : ℕ) → getD (now (start c .args .old
 olds c k = omega (arith, older-known (c .before) .shared-slice-known .given k)
 
 news : (c : tie.After-corner-region) (k : ℕ) → getD (now (start c .args .newer)) k 0 ≤ 255
-news c k = omega (arith, c .before .before .before .before .before .shared-slice-known2 .given k)
+news c k = omega (arith, c .before .before .before .before .before .before .shared-slice-known2 .given k)
 
 in-part : (c : tie.After-corner-region) → Reach (start c .args .b) (start c .args .a) (c .corner-region .result)
 in-part c = corner-region-is _ _ _ _ _ _ _ _ (tested c) _ _ _ (whole c) (squares c) (olds c) (news c) _ (c .corner-region .ensures)
@@ -70,10 +71,10 @@ run-small c =
     omega (arith, p .across 0 (p .columns), t .lent .covers .wide, standing _ _ _ _ _ _ _ _ t .wide)
 
 add-stride : tie.Need-add-stride
-add-stride c = omega (arith, narrow _ _ _ _ _ _ _ _ (entry (c .before) .pre .0 .2))
+add-stride c = omega (arith, narrow _ _ _ _ _ _ _ _ (entry (c .before .before) .pre .0 .2))
 
 corner-region-requires : tie.Need-corner-region-requires
-corner-region-requires c κs = standing _ _ _ _ _ _ _ _ (entry (c .before) .pre .0 .2)
+corner-region-requires c κs = standing _ _ _ _ _ _ _ _ (entry (c .before .before) .pre .0 .2)
 
 sub-at : tie.Need-sub-at
 sub-at c = in-part (c .before) .top
@@ -101,8 +102,10 @@ spread-requires c κs =
     let r = c .before .before .before in
     let w = r .corner-region .result in
     let p = in-part r in
+    let s = start r in
+    let fits = rw (← largest-is (s .args .b .setting) (s .args .k) (s .args .m) (whole r)) at (s .pre .1 .2) in
     let many = few _ _ _ _ _ _ _ _ (tested r) _ _ _ (whole r) (squares r) (olds r) (news r) w (r .corner-region .ensures) in (
-      (p .rows, p .columns, many, narrow _ _ _ _ _ _ _ _ (tested r)),
+      (p .rows, p .columns, many, narrow _ _ _ _ _ _ _ _ (tested r), fits),
       λ i j hi hj. (
         compared-corner-region _ _ _ _ _ _ _ _ (tested r) _ _ _ (whole r) (squares r) (olds r) (news r) w (r .corner-region .ensures) i j hi hj,
         getD-replicate vectorCount (i * w .columns + j) 0 0 (omega (arith, many, row-fits i (w .rows) (w .columns) hi)),

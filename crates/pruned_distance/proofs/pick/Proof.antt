@@ -1,6 +1,6 @@
 -- `pick`: after i turns the first i candidates have their number (`Filling`).
 use Prim.Native.Nat.{ℕ, _-_, _<_}
-use mathlib.Core.Path.{_≡_, ap}
+use mathlib.Core.Path.{_≡_, ap, _∙_}
 use native.Mathlib.Omega.{arith}
 use borrow.Author.Needs.{needs}
 use denote.Ref.{now}
@@ -57,14 +57,17 @@ place-of-requires c κs =
     let h = candidate b in
     rw (c .wide-u16 .ensures) (b .before .before .pre .0 .0, h .0, h .1)
 
+mul-wide-u32 : tie.Need-mul-wide-u32 Inv-loop μ-loop
+mul-wide-u32 c = omega (arith, at-place c .1)
+
+element-copy-out-wide-u32 : tie.Need-element-copy-out-wide-u32 Inv-loop μ-loop
+element-copy-out-wide-u32 c = at-place c .1
+
+wide-u32-requires : tie.Need-wide-u32-requires Inv-loop μ-loop
+wide-u32-requires c κs = search needs
+
 mul-dist : tie.Need-mul-dist Inv-loop μ-loop
-mul-dist c = omega (arith, at-place c .1)
-
-element-copy-out-dist : tie.Need-element-copy-out-dist Inv-loop μ-loop
-element-copy-out-dist c = at-place c .1
-
-mul-dist-2 : tie.Need-mul-dist-2 Inv-loop μ-loop
-mul-dist-2 c = search needs
+mul-dist c = search needs
 
 element-write-dist : tie.Need-element-write-dist Inv-loop μ-loop
 element-write-dist c = omega arith
@@ -77,9 +80,10 @@ loop-less c = search needs
 
 loop-again : tie.Need-loop-again Inv-loop μ-loop
 loop-again c =
-    let l = c .before .before .before .before .before .loop in
-    filling-more _ (l .inv) (c .before .before .before .before .loop-test .taken) (omega arith)
-    (ap (λ (k : ℕ). getD (now (start (c .before) .args .part)) k 0) (at-place (c .before) .0))
+    let p = c .before .before in
+    let l = p .before .before .before .before .loop in
+    filling-more _ (l .inv) (p .before .before .before .loop-test .taken) (omega arith)
+    (c .wide-u32 .ensures ∙ ap (λ (k : ℕ). getD (now (start p .args .part)) k 0) (at-place p .0))
 
 returns : tie.Need-returns Inv-loop μ-loop
 returns c =
@@ -98,9 +102,10 @@ pick-spec =
     element-copy-out-wide-u16
     wide-u16-requires
     place-of-requires
+    mul-wide-u32
+    element-copy-out-wide-u32
+    wide-u32-requires
     mul-dist
-    element-copy-out-dist
-    mul-dist-2
     element-write-dist
     add-i
     loop-less
