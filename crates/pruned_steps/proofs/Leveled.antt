@@ -10,13 +10,13 @@ use Rattle.pruned_steps.specs.declared.PruneState.{PruneState}
 use Rattle.pruned_steps.specs.Memory.{recounted, bounded, Leveled}
 
 -- more than one: the distances, then E, then those that stay
-pub leveled-more : (D f : ℕ → ℕ) {remaining dist after measured : List ℕ} {r low q : PruneState} → (r .count ≡ 1 → ⊥)
+pub leveled-more : (D f limit : ℕ → ℕ) {remaining dist after measured : List ℕ} {r low q : PruneState} → (r .count ≡ 1 → ⊥)
     → measured ≡ fillTo dist 0 (λ i. f (getD remaining i 0)) (r .count)
     → low ≡ bounded (D (nearestOf remaining (r .count) measured)) r
-    → Front (keptWithin (low .bound) remaining measured (low .count)) (swept (low .bound) remaining measured (low .count)) after (q .count)
+    → Front (keptWithin (limit (low .bound)) remaining measured (low .count)) (swept (limit (low .bound)) remaining measured (low .count)) after (q .count)
     → q ≡ recounted (q .count) low
-    → Leveled D f remaining dist r after measured q
-leveled-more D f {remaining} {dist} {after} {measured} {r} {low} {q} other g h s t =
+    → Leveled D f limit remaining dist r after measured q
+leveled-more D f limit {remaining} {dist} {after} {measured} {r} {low} {q} other g h s t =
     let k = rw h at (s .many) in
     record {
       alone = λ l. absurd (other l);

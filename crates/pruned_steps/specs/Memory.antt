@@ -6,7 +6,7 @@
 --   recounted          after counting the tests at a resolution, k candidates remaining; testsCounted: all of them
 --   bounded            E lowered to e, if that is less
 --   Leveled            a resolution later: a candidate alone stays as it is; of more, the distances at m are worked out, E is lowered to the nearest's
---                      distortion and those within it stay, in front of what sweeping leaves
+--                      distortion and those within its limit stay, in front of what sweeping leaves
 --   measureRemaining   the answer made of what is in memory at the end
 use Prim.Native.Nat.{ℕ, _+_, _-_, _<_, min}
 use mathlib.Core.Path.{_≡_}
@@ -46,14 +46,14 @@ testsCounted r = recounted (r .count) r
 abbrev pub bounded : ℕ → PruneState → PruneState
 bounded e r = record { count = r .count; bound = min (r .bound) e; slot = r .slot; counts = r .counts }
 
--- D k is the distortion of candidate k and f k its distance at m; the arrays remaining and dist before and after
-pub record Leveled (D f : ℕ → ℕ) (remaining dist : List ℕ) (r : PruneState) (after measured : List ℕ) (q : PruneState) : Type 0 where
+-- D k is the distortion of candidate k and f k its distance at m, limit e how far that may go for E = e; the arrays remaining and dist before and after
+pub record Leveled (D f limit : ℕ → ℕ) (remaining dist : List ℕ) (r : PruneState) (after measured : List ℕ) (q : PruneState) : Type 0 where
   pub alone : r .count ≡ 1 → (after ≡ remaining) × (measured ≡ dist) × (q ≡ testsCounted r)
   pub more : 1 < r .count →
       let lowered = bounded (D (nearestOf remaining (r .count) measured)) r in
-      let stay = keptWithin (lowered .bound) remaining measured (r .count) in
+      let stay = keptWithin (limit (lowered .bound)) remaining measured (r .count) in
       (measured ≡ fillTo dist 0 (λ i. f (getD remaining i 0)) (r .count))
-      × (after ≡ stay ++ drop (length stay) (swept (lowered .bound) remaining measured (r .count)))
+      × (after ≡ stay ++ drop (length stay) (swept (limit (lowered .bound)) remaining measured (r .count)))
       × (q ≡ recounted (length stay) lowered)
 
 abbrev pub measureRemaining : (ℕ → ℕ) → List ℕ → ℕ → PruneState → SearchResult

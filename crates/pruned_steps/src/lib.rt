@@ -5,9 +5,10 @@ ghost use mathlib.Core.Path.{_≡_};
 ghost use Prim.Native.Nat.{_≤_, _<_};
 ghost use lib.Dec.{T};
 ghost use lib.ListN.{length};
+ghost use Rattle.measures.specs.Measures.{measureOf};
 ghost use Rattle.order.specs.Preference.{preference, flat};
 ghost use Rattle.order.specs.Vectors.{vectorCount};
-ghost use Rattle.frame.specs.Pictures.{pairOf, countNumber};
+ghost use Rattle.frame.specs.Pictures.{pairOf, countNumber, largestN};
 ghost use Rattle.refusals.specs.Refusals.{blockSizeOk};
 ghost use Rattle.search.specs.Target.{Ready};
 ghost use Rattle.candidates.specs.Gathered.{Front, ListedCandidates};
@@ -66,7 +67,7 @@ fn lowered(
     order: &[i32; order::NUMBERS],
     b: SearchBlock,
     remaining: &[u16; order::VECTORS],
-    dist: &[u32; order::VECTORS],
+    dist: &[u64; order::VECTORS],
     r: PruneState,
 ) -> PruneState
     requires { ⌜ Ready (now older) (now newer) b × (now order ≡ flat preference) ⌝ }
@@ -109,17 +110,21 @@ fn count_tests(r: PruneState) -> PruneState
     }
 }
 
-// Counts the tests and drops each candidate whose distance exceeds E.
+// Counts the tests at m and drops each candidate whose distance exceeds E, or m² × E by squares.
 pub fn sifted(
     remaining: &mut [u16; order::VECTORS],
-    dist: &[u32; order::VECTORS],
+    dist: &[u64; order::VECTORS],
+    measure: u32,
+    m: usize,
     r: PruneState,
 ) -> PruneState
-    requires { ⌜ (length (now remaining) ≡ vectorCount) × (r .count ≤ vectorCount) × (r .slot < countNumber) ⌝ }
-    ensures { λ q. ⌜ Front (keptWithin (r .bound) (now (remaining .entry)) (now (dist .entry)) (r .count))
-        (swept (r .bound) (now (remaining .entry)) (now (dist .entry)) (r .count)) (now (remaining .exit)) (q .count) × (q ≡ recounted (q .count) r) ⌝ }
+    requires { ⌜ (length (now remaining) ≡ vectorCount) × (r .count ≤ vectorCount) × (r .slot < countNumber) × (m ≤ largestN) ⌝ }
+    ensures { λ q. ⌜ Front (keptWithin (measureOf measure .limit m (r .bound)) (now (remaining .entry)) (now (dist .entry)) (r .count))
+        (swept (measureOf measure .limit m (r .bound)) (now (remaining .entry)) (now (dist .entry)) (r .count)) (now (remaining .exit)) (q .count)
+        × (q ≡ recounted (q .count) r) ⌝ }
 {
-    let kept = pruned_remaining::keep_within(remaining, r.count, dist, r.bound);
+    let limit = measures::limit(measure, m, r.bound);
+    let kept = pruned_remaining::keep_within(remaining, r.count, dist, limit);
     let q = count_tests(r);
     let counts = q.counts;
     PruneState {
@@ -141,14 +146,15 @@ pub fn level(
     blocksums: &[u32],
     m: usize,
     remaining: &mut [u16; order::VECTORS],
-    dist: &mut [u32; order::VECTORS],
+    dist: &mut [u64; order::VECTORS],
     r: PruneState,
 ) -> PruneState
     requires { ⌜ (now order ≡ flat preference) × (length (now dist) ≡ vectorCount) × Tested (now older) (now newer) b (now sums) a m (now remaining) (r .count)
         × BlockSums (now newer) b (now blocksums) × (0 < r .count) × (r .slot < countNumber) ⌝ }
     ensures { λ q. ⌜ Leveled (distortionOf (now (older .entry)) (now (newer .entry)) b) (distanceOf (now (older .entry)) (now (newer .entry)) b m)
-        (now (remaining .entry)) (now (dist .entry)) r (now (remaining .exit)) (now (dist .exit)) q ⌝ }
+        (measureOf (b .setting .measure) .limit m) (now (remaining .entry)) (now (dist .entry)) r (now (remaining .exit)) (now (dist .exit)) q ⌝ }
 {
+    let s = b.setting;
     let count = r.count;
     if count == 1 {
         return count_tests(r);
@@ -167,7 +173,7 @@ pub fn level(
         dist,
     );
     let q = lowered(older, newer, order, b, &*remaining, &*dist, r);
-    sifted(remaining, &*dist, q)
+    sifted(remaining, &*dist, s.measure, m, q)
 }
 
 // Measures the candidates that remain, counts them, and answers.

@@ -2,12 +2,13 @@
 use mathlib.Core.Path.{refl}
 use native.Mathlib.Omega.{arith}
 use borrow.Author.Needs.{needs}
+use Rattle.pruned_distance.proofs.Candidates.{side}
 use Rattle.pruned_steps.proofs.Leveled.{leveled-more}
 use Rattle.pruned_steps.proofs.level.Statement.{statement}
 use Rattle.pruned_steps.proofs.level.Tie as tie
 
 abbrev start : tie.Else1 → tie.Start
-start c = c .before .before .before .before .before
+start c = c .before .before .before .before .before .before
 
 abbrev more : tie.After-lowered-arg2 → tie.Else1
 more c = c .before .before .before .before .before
@@ -32,11 +33,11 @@ lowered-requires c κs =
 sifted-requires : tie.Need-sifted-requires
 sifted-requires c κs =
     let p = start (more (c .before .before .before)) .pre in
-    rw (c .before .before .lowered .ensures) (p .2 .listed .long, p .2 .listed .few, p .5)
+    rw (c .before .before .lowered .ensures) (p .2 .listed .long, p .2 .listed .few, p .5, side _ _ _ _ _ _ _ _ (p .2) _ (p .2 .whole))
 
 returns-2 : tie.Need-returns-2
 returns-2 c =
-    leveled-more _ _ (more (c .before .before .before .before) .if1 .left)
+    leveled-more _ _ _ (more (c .before .before .before .before) .if1 .left)
     (filled (c .before) .fill-distances .ensures)
     (c .before .before .before .lowered .ensures)
     (c .sifted .ensures .0)
