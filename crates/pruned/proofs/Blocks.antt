@@ -9,14 +9,14 @@ use lib.ListN.{length}
 use Rattle.order.specs.Preference.{preferred}
 use Rattle.frame.specs.Pictures.{Pair, largestN, lastCount}
 use Rattle.refusals.specs.Refusals.{blockSizeOk, block-size-elim}
-use Rattle.distortion.specs.Blocks.{absolute, distortion, newerBlock, olderBlock}
+use Rattle.distortion.specs.Blocks.{measureIn, distortion, newerBlock, olderBlock}
 use Rattle.frame.specs.declared.SearchBlock.{SearchBlock}
 use Rattle.search.specs.Target.{Ready}
 use Rattle.pruned_sums.specs.Filling.{blockTable, Fillable}
 use Rattle.pruned_region.proofs.Windows.{ready-standing, ready-size}
 use Rattle.pruned_subblocks.specs.Squares.{blockRegion}
 use Rattle.pruned_rule.specs.Prune.{resolutions}
-use Rattle.pruned_rule.proofs.Blocks.{absolute-lawful}
+use Rattle.pruned_rule.proofs.Blocks.{measure-lawful}
 use Rattle.pruned_rule.proofs.Pruned.{Safe}
 use Rattle.pruned_rule.proofs.Search.{PowerOfTwo, resolutions-many, safe}
 use Rattle.pruned.specs.Answer.{placeDistortion, placeDistance}
@@ -45,6 +45,6 @@ few-rounds = block-size-elim (λ n. length (resolutions n) < lastCount) (rw (res
 pub two-least : (n : ℕ) → T (blockSizeOk n) → 2 ≤ n
 two-least = block-size-elim (λ n. 2 ≤ n) (omega arith) (omega arith) (omega arith)
 
-pub safe-at : (p : Pair) (y x m : ℕ) → m ∣ p .setting .n → Safe (placeDistortion p y x) (placeDistance p y x) (absolute .limit) m
+pub safe-at : (p : Pair) (y x m : ℕ) → m ∣ p .setting .n → Safe (placeDistortion p y x) (placeDistance p y x) (measureIn p .limit) m
 unfolding distortion
-safe-at p y x m h = safe absolute absolute-lawful (p .setting .n) (newerBlock p y x) (λ k. olderBlock p y x (preferred k)) m h
+safe-at p y x m h = safe (measureIn p) (measure-lawful (p .setting .measure)) (p .setting .n) (newerBlock p y x) (λ k. olderBlock p y x (preferred k)) m h

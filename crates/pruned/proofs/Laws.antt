@@ -10,12 +10,12 @@ use Rattle.order.specs.Preference.{preferred}
 use Rattle.order.proofs.Order.{first-still}
 use Rattle.frame.specs.Pictures.{Pair, lastCount}
 use Rattle.refusals.specs.Refusals.{blockSizeOk}
-use Rattle.distortion.specs.Blocks.{absolute, distortion, newerBlock, olderBlock}
+use Rattle.distortion.specs.Blocks.{measureIn, distortion, newerBlock, olderBlock}
 use Rattle.search.specs.SearchResult.{vectorIn, probes}
 use Rattle.search.specs.Exhaustive.{Best, places, best}
 use Rattle.search.proofs.Exhaustive.{best-below, best-is, best-unique, still-passes}
 use Rattle.pruned_rule.specs.Prune.{resolutions}
-use Rattle.pruned_rule.proofs.Blocks.{absolute-lawful}
+use Rattle.pruned_rule.proofs.Blocks.{measure-lawful}
 use Rattle.pruned_rule.proofs.Counts.{Counted, prune-counted, search-counts, counts-few, dropped-few, last-count}
 use Rattle.pruned_rule.proofs.Pruned.{Attained, still-attained, Holds, prune-holds}
 use Rattle.pruned_rule.proofs.Search.{PowerOfTwo, resolutions-divide, search-best, search-drops}
@@ -72,8 +72,8 @@ module _ (p : Pair) (w y x : ℕ) (power : PowerOfTwo (p .setting .n)) (small : 
   unfolding prunedSearch prunedPlace distortion
   pruned-best =
       best-below p w y x small (prunedPlace p w y x)
-      (search-best absolute absolute-lawful (p .setting .n) (newerBlock p y x) (λ k. olderBlock p y x (preferred k)) (resolutions (p .setting .n))
-      (stillDistortion p y x)
+      (search-best (measureIn p) (measure-lawful (p .setting .measure)) (p .setting .n) (newerBlock p y x) (λ k. olderBlock p y x (preferred k))
+      (resolutions (p .setting .n)) (stillDistortion p y x)
       (resolutions-divide (p .setting .n) power) _ 1088 (still-passes p w y x small down across) still-is)
 
   -- which is one vector: what the full search answers with
@@ -84,8 +84,8 @@ module _ (p : Pair) (w y x : ℕ) (power : PowerOfTwo (p .setting .n)) (small : 
   pub pruned-drops : {k : ℕ} → k ∈ pruning p w y x .dropped → prunedSearch p w y x .distortion < distortion p y x (preferred k)
   unfolding prunedSearch prunedPlace pruning distortion
   pruned-drops i =
-      search-drops absolute absolute-lawful (p .setting .n) (newerBlock p y x) (λ k. olderBlock p y x (preferred k)) (resolutions (p .setting .n))
-      (places (p .setting) w y x) (stillDistortion p y x) given (resolutions-divide (p .setting .n) power) i
+      search-drops (measureIn p) (measure-lawful (p .setting .measure)) (p .setting .n) (newerBlock p y x) (λ k. olderBlock p y x (preferred k))
+      (resolutions (p .setting .n)) (places (p .setting) w y x) (stillDistortion p y x) given (resolutions-divide (p .setting .n) power) i
 
 -- the N that are allowed: 4, 8 and 16
 module _ (p : Pair) (w y x : ℕ) (allowed : T (blockSizeOk (p .setting .n))) where

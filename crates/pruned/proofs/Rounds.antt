@@ -12,7 +12,6 @@ use Rattle.base.specs.Picks.{pick, pick-few}
 use Rattle.order.specs.Preference.{preferred}
 use Rattle.order.specs.Vectors.{vectorCount}
 use Rattle.frame.specs.Pictures.{countNumber, lastCount}
-use Rattle.distortion.specs.Blocks.{absolute}
 use Rattle.frame.specs.declared.SearchBlock.{SearchBlock}
 use Rattle.search.specs.declared.SearchResult.{SearchResult}
 use Rattle.search.specs.SearchResult.{searchResult}
@@ -37,30 +36,31 @@ filled-up z cs t slot x e f g h =
     ∙ append-assoc (replicate z 0) t (x ∷ [])
     ∙ ap (λ (k : ℕ). replicate k 0 ++ (t ++ (x ∷ []))) n
 
--- for the distortion e of (0,0), the distortions D, the distances d and the block size N: the rounds from m on lead from the state in memory to the end
-pub record Going (e : ℕ) (D : ℕ → ℕ) (d : ℕ → ℕ → ℕ) (N : ℕ) (p : ℕ → Bool) (m : ℕ) (remaining dist : List ℕ) (r : PruneState) : Type 0 where
+-- for the distortion e of (0,0), the distortions D, the distances d, their limits and the block size N: the rounds from m on lead from the state in memory
+-- to the end
+pub record Going (e : ℕ) (D : ℕ → ℕ) (d limit : ℕ → ℕ → ℕ) (N : ℕ) (p : ℕ → Bool) (m : ℕ) (remaining dist : List ℕ) (r : PruneState) : Type 0 where
   pub unused : ℕ
   pub state : Pruning
   pub held : InMemory unused state remaining r
   pub holds : Holds D (pick p vectorCount) state
   pub testsCounted : Counted (pick p vectorCount) state
-  pub ahead : prune e D d (absolute .limit) N (resolutions N) (pick p vectorCount) ≡ rounds D d (absolute .limit) (halvings m) state
+  pub ahead : prune e D d limit N (resolutions N) (pick p vectorCount) ≡ rounds D d limit (halvings m) state
   pub divides : (i : ℕ) → i ∈ halvings m → i ∣ N
   pub slots : r .slot + length (halvings m) ≡ 4
   pub wide : length dist ≡ vectorCount
 
-module _ (e : ℕ) (D : ℕ → ℕ) (d : ℕ → ℕ → ℕ) (N : ℕ) (p : ℕ → Bool) where
+module _ (e : ℕ) (D : ℕ → ℕ) (d limit : ℕ → ℕ → ℕ) (N : ℕ) (p : ℕ → Bool) where
   abbrev ended : Pruning
-  ended = prune e D d (absolute .limit) N (resolutions N) (pick p vectorCount)
+  ended = prune e D d limit N (resolutions N) (pick p vectorCount)
 
   abbrev best : ℕ
-  best = prunedBest e D d (absolute .limit) N (resolutions N) (pick p vectorCount)
+  best = prunedBest e D d limit N (resolutions N) (pick p vectorCount)
 
   abbrev pub answered : SearchResult
   answered = searchResult (preferred best) (D best) (counts ended) (length (ended .dropped))
 
-module _ {e : ℕ} {D : ℕ → ℕ} {d : ℕ → ℕ → ℕ} {N : ℕ} {p : ℕ → Bool} {m : ℕ} {remaining dist : List ℕ} {r : PruneState}
-    (g : Going e D d N p m remaining dist r) where
+module _ {e : ℕ} {D : ℕ → ℕ} {d limit : ℕ → ℕ → ℕ} {N : ℕ} {p : ℕ → Bool} {m : ℕ} {remaining dist : List ℕ} {r : PruneState}
+    (g : Going e D d limit N p m remaining dist r) where
   -- at least one remains
   pub going-some : 0 < r .count
   going-some = rw (← g .held .many) (holds-some (g .holds))
@@ -76,23 +76,23 @@ module _ {e : ℕ} {D : ℕ → ℕ} {d : ℕ → ℕ → ℕ} {N : ℕ} {p : �
   going-divides h = g .divides m (rw (halvings-more m h) (List·Memᴰ·head refl))
 
   -- one turn: the next resolution is m / 2
-  pub going-more : (after dist′ : List ℕ) (q : PruneState) → ((i : ℕ) → i ∣ N → Safe D d (absolute .limit) i) → 2 ≤ m
-      → ((z : ℕ) (s : Pruning) → InMemory z s remaining r → 0 < length (sift d (absolute .limit) m (lower D d m s) .left)
-      → InMemory z (sift d (absolute .limit) m (lower D d m s)) after q)
+  pub going-more : (after dist′ : List ℕ) (q : PruneState) → ((i : ℕ) → i ∣ N → Safe D d limit i) → 2 ≤ m
+      → ((z : ℕ) (s : Pruning) → InMemory z s remaining r → 0 < length (sift d limit m (lower D d m s) .left)
+      → InMemory z (sift d limit m (lower D d m s)) after q)
       → length dist′ ≡ vectorCount
-      → Going e D d N p (m / 2) after dist′ q
+      → Going e D d limit N p (m / 2) after dist′ q
   unfolding lower sift
   going-more after dist′ q safe h steps wide =
-      let holds = sift-holds D d (pick p vectorCount) (absolute .limit) m _ (safe m (going-divides h)) (lower-holds D d (pick p vectorCount) m _ (g .holds)) in
+      let holds = sift-holds D d (pick p vectorCount) limit m _ (safe m (going-divides h)) (lower-holds D d (pick p vectorCount) m _ (g .holds)) in
       let held = steps (g .unused) (g .state) (g .held) (holds-some holds) in
       record {
         unused = g .unused;
-        state = sift d (absolute .limit) m (lower D d m (g .state));
+        state = sift d limit m (lower D d m (g .state));
         held = held;
         holds = holds;
-        testsCounted = sift-counted D d (absolute .limit) (pick p vectorCount) m _
-            (lower-counted D d (absolute .limit) (pick p vectorCount) m _ (g .testsCounted));
-        ahead = g .ahead ∙ rounds-more D d (absolute .limit) m (g .state) h;
+        testsCounted = sift-counted D d limit (pick p vectorCount) m _
+            (lower-counted D d limit (pick p vectorCount) m _ (g .testsCounted));
+        ahead = g .ahead ∙ rounds-more D d limit m (g .state) h;
         divides = λ i k. g .divides i (rw (halvings-more m h) (List·Memᴰ·tail k));
         slots = omega (
           arith,
@@ -106,10 +106,10 @@ module _ {e : ℕ} {D : ℕ → ℕ} {d : ℕ → ℕ → ℕ} {N : ℕ} {p : �
       }
 
   -- no round is left: the answer made of memory is the search's
-  pub going-last : (all : ℕ) → m < 2 → length (pick p vectorCount) ≡ all → measureRemaining D remaining all r ≡ answered e D d N p
+  pub going-last : (all : ℕ) → m < 2 → length (pick p vectorCount) ≡ all → measureRemaining D remaining all r ≡ answered e D d limit N p
   unfolding prunedBest counts
   going-last all h same =
-      let at-end : ended e D d N p ≡ g .state = g .ahead ∙ rounds-none D d (absolute .limit) m (g .state) h in
+      let at-end : ended e D d limit N p ≡ g .state = g .ahead ∙ rounds-none D d limit m (g .state) h in
       let last : r .slot ≡ lastCount = omega (arith, g .slots, ap length (halvings-none m h)) in
       let five = filled-up (g .unused) (r .counts) (g .state .tested) (r .slot) (r .count) last (g .held .five) (g .held .slot) (g .held .tested) in
       let gone : all - r .count ≡ length (g .state .dropped) = omega (arith, g .held .many, counted-length (g .testsCounted)) in
@@ -117,8 +117,8 @@ module _ {e : ℕ} {D : ℕ → ℕ} {d : ℕ → ℕ → ℕ} {N : ℕ} {p : �
       (ap (λ (cs : List ℕ). searchResult (preferred (leastOf D (g .state .left))) (D (leastOf D (g .state .left))) cs (length (g .state .dropped))) five)
 
 -- those that remain are candidates
-pub going-listed : {e : ℕ} {D : ℕ → ℕ} {d : ℕ → ℕ → ℕ} {N : ℕ} {b : SearchBlock} {m : ℕ} {remaining dist : List ℕ} {r : PruneState}
-    → Going e D d N (candidateAt b) m remaining dist r → ListedCandidates b remaining (r .count)
+pub going-listed : {e : ℕ} {D : ℕ → ℕ} {d limit : ℕ → ℕ → ℕ} {N : ℕ} {b : SearchBlock} {m : ℕ} {remaining dist : List ℕ} {r : PruneState}
+    → Going e D d limit N (candidateAt b) m remaining dist r → ListedCandidates b remaining (r .count)
 going-listed {b = b} {remaining = remaining} {r = r} g =
     listed-front b remaining (g .state .left) (r .count) (g .held .long) (g .held .many) (g .held .left)
     (omega (arith, going-few g, pick-few (candidateAt b) vectorCount)) (λ k i. g .holds .left-from i)
@@ -147,23 +147,23 @@ module _ (e : ℕ) (D : ℕ → ℕ) (N : ℕ) (b : SearchBlock) {before remaini
     }
 
     -- after the test at N the rounds from N / 2 on lead to the end
-    pub going-first : (d : ℕ → ℕ → ℕ) {after dist : List ℕ} {q : PruneState}
+    pub going-first : (d limit : ℕ → ℕ → ℕ) {after dist : List ℕ} {q : PruneState}
         → (InMemory (r .slot) (allRemaining e (pick (candidateAt b) vectorCount)) remaining r
         → r .bound ≡ allRemaining e (pick (candidateAt b) vectorCount) .bound
-        → InMemory (r .slot) (sift d (absolute .limit) N (allRemaining e (pick (candidateAt b) vectorCount))) after q)
-        → length dist ≡ vectorCount → Attained D (pick (candidateAt b) vectorCount) e → Safe D d (absolute .limit) N → ((i : ℕ) → i ∈ resolutions N → i ∣ N)
+        → InMemory (r .slot) (sift d limit N (allRemaining e (pick (candidateAt b) vectorCount))) after q)
+        → length dist ≡ vectorCount → Attained D (pick (candidateAt b) vectorCount) e → Safe D d limit N → ((i : ℕ) → i ∈ resolutions N → i ∣ N)
         → length (resolutions N) < lastCount
-        → Going e D d N (candidateAt b) (N / 2) after dist q
+        → Going e D d limit N (candidateAt b) (N / 2) after dist q
     unfolding prune sift allRemaining
-    going-first d steps wide given safe divides few =
+    going-first d limit steps wide given safe divides few =
         let held = steps start-held (f .bound) in
         record {
           unused = r .slot;
-          state = sift d (absolute .limit) N (allRemaining e (pick (candidateAt b) vectorCount));
+          state = sift d limit N (allRemaining e (pick (candidateAt b) vectorCount));
           held = held;
-          holds = sift-holds D d (pick (candidateAt b) vectorCount) (absolute .limit) N _ safe
+          holds = sift-holds D d (pick (candidateAt b) vectorCount) limit N _ safe
               (all-remaining-holds e D (pick (candidateAt b) vectorCount) given);
-          testsCounted = sift-counted D d (absolute .limit) (pick (candidateAt b) vectorCount) N _ (all-remaining-counted e (pick (candidateAt b) vectorCount));
+          testsCounted = sift-counted D d limit (pick (candidateAt b) vectorCount) N _ (all-remaining-counted e (pick (candidateAt b) vectorCount));
           ahead = refl;
           divides = divides;
           slots = omega (arith, held .slot, f .slot);

@@ -13,7 +13,6 @@ use lib.Seq.{take-suc-set}
 use Rattle.base.specs.Least.{leastOf}
 use Rattle.order.specs.Vectors.{vectorCount}
 use Rattle.frame.specs.Pictures.{countNumber}
-use Rattle.distortion.specs.Blocks.{absolute}
 use Rattle.pruned_rule.specs.Sift.{kept}
 use Rattle.pruned_rule.specs.Prune.{Pruning, lower, sift}
 use Rattle.pruned_steps.specs.declared.PruneState.{PruneState}
@@ -62,19 +61,20 @@ count-done {z} {s} {remaining} {r} h l =
       rw (add-one (r .slot), take-suc-set, h .tested, h .many) (append-assoc (replicate z 0) (s .tested) (r .count ∷ [])),
     )
 
--- those over E are gone
-pub sift-done : (d : ℕ → ℕ → ℕ) (m : ℕ) {z : ℕ} {s : Pruning} {remaining dist after : List ℕ} {r : PruneState} {k : ℕ} → InMemory z s remaining r
+-- those over the limit for E are gone
+pub sift-done : (d limit : ℕ → ℕ → ℕ) (m : ℕ) {z : ℕ} {s : Pruning} {remaining dist after : List ℕ} {r : PruneState} {k : ℕ} → InMemory z s remaining r
     → r .bound ≡ s .bound
     → r .count ≤ length remaining → r .slot < countNumber → Stored (d m) remaining (r .count) dist
-    → Front (keptWithin (r .bound) remaining dist (r .count)) (swept (r .bound) remaining dist (r .count)) after k
-    → InMemory z (sift d (absolute .limit) m s) after (recounted k r)
+    → Front (keptWithin (limit m (r .bound)) remaining dist (r .count)) (swept (limit m (r .bound)) remaining dist (r .count)) after k
+    → InMemory z (sift d limit m s) after (recounted k r)
 unfolding sift
-sift-done d m {z} {s} {remaining} {dist} {after} {r} {k} h e few l g f =
+sift-done d limit m {z} {s} {remaining} {dist} {after} {r} {k} h e few l g f =
     let c = count-done h l in
-    let w : keptWithin (r .bound) remaining dist (r .count) ≡ kept (d m) (s .bound) (s .left) =
-    within-filled (d m) remaining dist (r .bound) (r .count) g few ∙ ap₂ (kept (d m)) e (h .left) in
-    let same = swept-long (r .bound) remaining dist (r .count) in
-    let less : k ≤ length (swept (r .bound) remaining dist (r .count)) = omega (arith, f .many, within-few (r .bound) remaining dist (r .count), same) in
+    let far = limit m (r .bound) in
+    let w : keptWithin far remaining dist (r .count) ≡ kept (d m) (limit m (s .bound)) (s .left) =
+    within-filled (d m) remaining dist far (r .count) g few ∙ ap₂ (kept (d m)) (ap (limit m) e) (h .left) in
+    let same = swept-long far remaining dist (r .count) in
+    let less : k ≤ length (swept far remaining dist (r .count)) = omega (arith, f .many, within-few far remaining dist (r .count), same) in
     record {
       long = front-long f less ∙ same ∙ h .long;
       bound = λ _. e;
@@ -96,11 +96,11 @@ one-stays v l (k ∷ []) e h = stays (leb (v k) l) h
     stays false h = absurd (omega arith)
 one-stays v l (k ∷ j ∷ ks) e h = absurd (omega arith)
 
-sift-alone : (D : ℕ → ℕ) (d : ℕ → ℕ → ℕ) (m : ℕ) {z : ℕ} {s : Pruning} {remaining : List ℕ} {r : PruneState} → InMemory z s remaining r → r .count ≡ 1
+sift-alone : (D : ℕ → ℕ) (d limit : ℕ → ℕ → ℕ) (m : ℕ) {z : ℕ} {s : Pruning} {remaining : List ℕ} {r : PruneState} → InMemory z s remaining r → r .count ≡ 1
     → r .slot < countNumber
-    → 0 < length (sift d (absolute .limit) m (lower D d m s) .left) → InMemory z (sift d (absolute .limit) m (lower D d m s)) remaining (testsCounted r)
+    → 0 < length (sift d limit m (lower D d m s) .left) → InMemory z (sift d limit m (lower D d m s)) remaining (testsCounted r)
 unfolding sift lower
-sift-alone D d m {z} {s} {remaining} {r} h one l some =
+sift-alone D d limit m {z} {s} {remaining} {r} h one l some =
     let c = count-done h l in
     let stays = one-stays (d m) _ (s .left) (h .many ∙ one) some in
     record {
@@ -116,27 +116,27 @@ sift-alone D d m {z} {s} {remaining} {r} h one l some =
 -- ---- a resolution later
 
 -- wherever the search stood, if a candidate remains
-pub level-done : (D : ℕ → ℕ) (d : ℕ → ℕ → ℕ) (m : ℕ) {remaining dist after measured : List ℕ} {r q : PruneState}
-    → Leveled D (d m) remaining dist r after measured q
+pub level-done : (D : ℕ → ℕ) (d limit : ℕ → ℕ → ℕ) (m : ℕ) {remaining dist after measured : List ℕ} {r q : PruneState}
+    → Leveled D (d m) (limit m) remaining dist r after measured q
     → length dist ≡ vectorCount → 0 < r .count → r .count ≤ vectorCount → r .slot < countNumber → (z : ℕ) (s : Pruning) → InMemory z s remaining r
-    → 0 < length (sift d (absolute .limit) m (lower D d m s) .left) → InMemory z (sift d (absolute .limit) m (lower D d m s)) after q
-level-done D d m {remaining} {dist} {after} {measured} {r} {q} v wide one few room z s h some = ⊎-elim lone many (eq-or-lt-of-le one)
+    → 0 < length (sift d limit m (lower D d m s) .left) → InMemory z (sift d limit m (lower D d m s)) after q
+level-done D d limit m {remaining} {dist} {after} {measured} {r} {q} v wide one few room z s h some = ⊎-elim lone many (eq-or-lt-of-le one)
   where
-    lone : 1 ≡ r .count → InMemory z (sift d (absolute .limit) m (lower D d m s)) after q
+    lone : 1 ≡ r .count → InMemory z (sift d limit m (lower D d m s)) after q
     lone l =
         let is = sym l in
         let (a, b, c) = v .alone is in
-        rw (a, c) (sift-alone D d m h is room some)
+        rw (a, c) (sift-alone D d limit m h is room some)
 
-    many : 1 < r .count → InMemory z (sift d (absolute .limit) m (lower D d m s)) after q
+    many : 1 < r .count → InMemory z (sift d limit m (lower D d m s)) after q
     many l =
         let (a, b, c) = v .more l in
         let g = filled-is (d m) remaining dist measured (r .count) a wide few in
         let short : r .count ≤ length remaining = omega (arith, h .long) in
         let low = lower-done D d m h l short g in
-        rw c (sift-done d m low (low .bound l) short room g (record { many = refl; list = b }))
+        rw c (sift-done d limit m low (low .bound l) short room g (record { many = refl; list = b }))
 
-pub level-wide : (D f : ℕ → ℕ) {remaining dist after measured : List ℕ} {r q : PruneState} → Leveled D f remaining dist r after measured q
+pub level-wide : (D f limit : ℕ → ℕ) {remaining dist after measured : List ℕ} {r q : PruneState} → Leveled D f limit remaining dist r after measured q
     → length dist ≡ vectorCount → 0 < r .count → r .count ≤ vectorCount → length measured ≡ vectorCount
-level-wide D f {remaining} {dist} {after} {measured} {r} {q} v wide one few =
+level-wide D f limit {remaining} {dist} {after} {measured} {r} {q} v wide one few =
     ⊎-elim (λ l. rw (v .alone (sym l) .1) wide) (λ l. filled-is f remaining dist measured (r .count) (v .more l .0) wide few .long) (eq-or-lt-of-le one)

@@ -1,7 +1,7 @@
 -- What search 2 answers for the block at row y, column x of a pair, for window w: its steps (pruned_rule/specs/Prune.antt) over the block's
 -- candidates, each known by its place in the preference table.
 --   placeDistortion   the distortion of the vector at place k of the preference table
---   placeDistance     its distance at m
+--   placeDistance     its distance at m, by the pair's measure
 --   pruning           where search 2's steps end: what they leave, and what they drop
 --   prunedPlace       the place of the vector that they choose
 --   prunedSearch      what search 2 answers
@@ -9,7 +9,7 @@ use Prim.Native.Nat.{ℕ}
 use lib.ListN.{length}
 use Rattle.order.specs.Preference.{preferred}
 use Rattle.frame.specs.Pictures.{Pair}
-use Rattle.distortion.specs.Blocks.{absolute, distortion, newerBlock, olderBlock}
+use Rattle.distortion.specs.Blocks.{measureIn, distortion, newerBlock, olderBlock}
 use Rattle.search.specs.declared.SearchResult.{SearchResult}
 use Rattle.search.specs.SearchResult.{searchResult}
 use Rattle.search.specs.Exhaustive.{places}
@@ -21,16 +21,16 @@ abbrev pub placeDistortion : Pair → ℕ → ℕ → ℕ → ℕ
 placeDistortion p y x k = distortion p y x (preferred k)
 
 abbrev pub placeDistance : Pair → ℕ → ℕ → ℕ → ℕ → ℕ
-placeDistance p y x = distances absolute (p .setting .n) (newerBlock p y x) (λ k. olderBlock p y x (preferred k))
+placeDistance p y x = distances (measureIn p) (p .setting .n) (newerBlock p y x) (λ k. olderBlock p y x (preferred k))
 
 module _ (p : Pair) (w y x : ℕ) where
   unfoldable pub pruning : Pruning
-  pruning = prune (stillDistortion p y x) (placeDistortion p y x) (placeDistance p y x) (absolute .limit) (p .setting .n) (resolutions (p .setting .n))
+  pruning = prune (stillDistortion p y x) (placeDistortion p y x) (placeDistance p y x) (measureIn p .limit) (p .setting .n) (resolutions (p .setting .n))
       (places (p .setting) w y x)
 
   unfoldable pub prunedPlace : ℕ
-  prunedPlace = prunedBest (stillDistortion p y x) (placeDistortion p y x) (placeDistance p y x) (absolute .limit) (p .setting .n) (resolutions (p .setting .n))
-      (places (p .setting) w y x)
+  prunedPlace = prunedBest (stillDistortion p y x) (placeDistortion p y x) (placeDistance p y x) (measureIn p .limit) (p .setting .n)
+      (resolutions (p .setting .n)) (places (p .setting) w y x)
 
   unfoldable pub prunedSearch : SearchResult
   prunedSearch = searchResult (preferred prunedPlace) (distortion p y x (preferred prunedPlace)) (counts pruning) (length (pruning .dropped))

@@ -22,7 +22,7 @@ pub fn search(
     ensures { λ r. ⌜ r ≡ prunedSearch (pairOf (now (older .entry)) (now (newer .entry)) (b .setting)) (b .w) (b .y) (b .x) ⌝ }
 {
     let mut remaining = [0u16; order::VECTORS];
-    let mut dist = [0u32; order::VECTORS];
+    let mut dist = [0u64; order::VECTORS];
     let s = b.setting;
     let n = s.n;
     let mut blocksums = [0u32; pruned_sums::BLOCK_TABLE];
@@ -47,7 +47,7 @@ pub fn search(
         total,
         &mut dist,
     );
-    let mut r = pruned_steps::sifted(&mut remaining, &dist, first);
+    let mut r = pruned_steps::sifted(&mut remaining, &dist, s.measure, n, first);
     let mut m = n / 2;
     while m >= 2 {
         r = pruned_steps::level(

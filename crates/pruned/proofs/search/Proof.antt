@@ -8,9 +8,11 @@ use borrow.Author.Needs.{needs}
 use lib.ListN.{length}
 use denote.Ref.{now}
 use Rattle.base.specs.Picks.{pick}
+use Rattle.measures.specs.Measures.{measureOf}
 use Rattle.order.proofs.Order.{first-still}
 use Rattle.order.specs.Vectors.{vectorCount}
 use Rattle.frame.specs.Pictures.{pairOf}
+use Rattle.pruned_region.proofs.Windows.{ready-size}
 use Rattle.pruned_subblocks.specs.Squares.{BlockSums}
 use Rattle.pruned_sums.specs.Area.{sums-of}
 use Rattle.search.proofs.Exhaustive.{still-passes}
@@ -32,7 +34,8 @@ use Rattle.pruned.proofs.search.Tie as tie
 
 abbrev Inv-loop : tie.InvT-loop
 Inv-loop older newer order b sums a remaining₀ dist₀ n blocksums total r₀ m₀ remaining dist r m =
-    Going (stillDistortion (pairOf older newer (b .setting)) (b .y) (b .x)) (distortionOf older newer b) (distanceOf older newer b) (b .setting .n)
+    Going (stillDistortion (pairOf older newer (b .setting)) (b .y) (b .x)) (distortionOf older newer b) (distanceOf older newer b)
+    (measureOf (b .setting .measure) .limit) (b .setting .n)
     (candidateAt b) m remaining dist r × (length (pick (candidateAt b) vectorCount) ≡ total)
 
 abbrev μ-loop : tie.MeasureT-loop
@@ -110,7 +113,8 @@ sifted-requires c κs =
     let d = c .before .before .before in
     let a = gathered d .gather .ensures in
     let f = d .before .before .before .begin .ensures in
-    (gathered-long _ a refl, omega (arith, gathered-few _ a, f .count), omega (arith, f .slot))
+    let size = ready-size _ _ _ (start (summed (gathered d)) .pre .0 .ready) in
+    (gathered-long _ a refl, omega (arith, gathered-few _ a, f .count), omega (arith, f .slot), size)
 
 loop-holds : tie.Need-loop-holds Inv-loop μ-loop
 loop-holds c =
@@ -123,8 +127,8 @@ loop-holds c =
     let t = c .sifted .ensures in
     let r = s .pre .0 .ready in
     let p = pairOf (now (s .args .older)) (now (s .args .newer)) (s .args .b .setting) in (
-      going-first _ _ _ _ refl a f _
-          (λ h e. rw (t .1) (sift-done _ _ h e (omega (arith, h .long, gathered-few _ a, f .count)) (omega (arith, f .slot)) (rw (f .count) d) (t .0)))
+      going-first _ _ _ _ refl a f _ _
+          (λ h e. rw (t .1) (sift-done _ _ _ h e (omega (arith, h .long, gathered-few _ a, f .count)) (omega (arith, f .slot)) (rw (f .count) d) (t .0)))
           (d .long)
           (still-attained _ _ _ _ (still-passes p _ _ _ (r .window) (r .placed .down) (r .placed .across)) (ap (distortion p _ _) first-still))
           (safe-at p _ _ _ (dvd-refl _))
@@ -167,9 +171,9 @@ loop-again c =
     let few = going-listed g .few in
     let s = start (tabled i) in (
       going-more g _ _ _ (safe-at (pairOf (now (s .args .older)) (now (s .args .newer)) (s .args .b .setting)) _ _) h
-          (level-done _ (distanceOf (now (s .args .older)) (now (s .args .newer)) (s .args .b)) _ (c .level .ensures) (g .wide) (going-some g) few
-          (omega (arith, going-room g h)))
-          (level-wide _ _ (c .level .ensures) (g .wide) (going-some g) few),
+          (level-done _ (distanceOf (now (s .args .older)) (now (s .args .newer)) (s .args .b)) (measureOf (s .args .b .setting .measure) .limit) _
+          (c .level .ensures) (g .wide) (going-some g) few (omega (arith, going-room g h)))
+          (level-wide _ _ _ (c .level .ensures) (g .wide) (going-some g) few),
       l .1,
     )
 
