@@ -3,7 +3,7 @@
 --   Prepared    what a block's search asks: frames, request, and for search 2 the table of sums
 --   Sound       what holds of each block's result, whatever the search: a vector of window 16, and numbers that are small
 --   join        the sums with one block more; Bounded: small enough for that
-use Prim.Native.Nat.{ℕ, _+_, _≤_}
+use Prim.Native.Nat.{ℕ, _+_, _*_, _≤_}
 use mathlib.Core.Path.{_≡_}
 use mathlib.Core.List.{List}
 use lib.ListN.{length, getD}
