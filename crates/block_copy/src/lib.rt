@@ -1,4 +1,5 @@
-// A copy of a 16 × 16 block, row after row, and its distortion: faster than the block in its frame where it is measured many times.
+// A copy of a 16 × 16 block, row after row, and its distortion by absolute differences: faster than the block in its frame where it is measured many
+// times. By squares it is not: a row costs more there, so that it pays to stop early.
 
 ghost use mathlib.Core.Path.{_≡_};
 ghost use Prim.Native.Nat.{_+_, _*_, _≤_};
@@ -32,30 +33,19 @@ pub fn copy_block(newer: &[u8], width: usize, a: usize, block: &mut [u8; 256])
     }
 }
 
-// The 16 rows of a copied block against those of the older block that begins at place b, by a measure. The place has 32 bits so that the compiler
-// takes it as one number: it would else work out each row's place from the vector.
-fn copied_rows(older: &[u8], block: &[u8; 256], measure: u32, width: usize, b: u32) -> u32
+// The distortion of a copied 16 × 16 block against the older block that begins at place b. The place has 32 bits so that the compiler takes it as
+// one number: it would else work out each row's place from the vector.
+pub fn copy_distortion(older: &[u8], block: &[u8; 256], width: usize, b: u32) -> u32
     requires { ⌜ (length (now block) ≡ 256) × (b + 16 * width + 16 ≤ length (now older) + width) × (width ≤ 1024) ⌝ }
-    ensures { λ d. ⌜ d ≡ rowsApart (measureOf measure) (now (older .entry)) (now (block .entry)) 16 width 0 b 16 16 ⌝ }
+    ensures { λ d. ⌜ d ≡ rowsApart (measureOf 1) (now (older .entry)) (now (block .entry)) 16 width 0 b 16 16 ⌝ }
 {
     let mut sum: u32 = 0;
     let mut q = b as usize;
     let mut g: usize = 0;
     while g < 4 {
-        sum += distortion::four_rows(older, block, measure, 16, width, 64 * g, q, 16);
+        sum += distortion::four_rows(older, block, measures::ABSOLUTE, 16, width, 64 * g, q, 16);
         q += 4 * width;
         g += 1;
     }
     sum
-}
-
-// The distortion of a copied 16 × 16 block against the older block that begins at place b. For each measure the compiler makes code of its own.
-pub fn copy_distortion(older: &[u8], block: &[u8; 256], measure: u32, width: usize, b: u32) -> u32
-    requires { ⌜ (length (now block) ≡ 256) × (b + 16 * width + 16 ≤ length (now older) + width) × (width ≤ 1024) ⌝ }
-    ensures { λ d. ⌜ d ≡ rowsApart (measureOf measure) (now (older .entry)) (now (block .entry)) 16 width 0 b 16 16 ⌝ }
-{
-    if measure == measures::ABSOLUTE {
-        return copied_rows(older, block, measures::ABSOLUTE, width, b);
-    }
-    copied_rows(older, block, measures::SQUARES, width, b)
 }

@@ -1,15 +1,15 @@
 -- Rows of a block one below the other: four of them are four terms of a sum, the rows below the first k begin k widths on,
 -- and a sum as far as a ceiling goes tells of all rows.
-use Prim.Native.Nat.{ℕ, _+_, _*_, _≤_}
-use mathlib.Core.Path.{_≡_, refl, ap₂, _∙_}
+use Prim.Native.Nat.{ℕ, _+_, _*_, _/_, _≤_}
+use mathlib.Core.Path.{_≡_, refl, sym, ap, ap₂, _∙_}
 use mathlib.Core.List.{List}
-use native.Mathlib.Nat.{add-zero, zero-mul, one-mul, add-mul, mul-comm}
+use native.Mathlib.Nat.{add-zero, zero-mul, one-mul, add-mul, mul-assoc, mul-comm, mul-div-cancel}
 use native.Mathlib.Omega.{arith}
 use lib.Dec.{T}
 use Rattle.base.specs.Sum.{sumTo, sumTo-none, sumTo-ext, sumTo-four, sumTo-cut, sumTo-group, sumOver-ext}
 use Rattle.refusals.specs.Refusals.{blockSizeOk, block-size-elim}
-use Rattle.measures.specs.Measures.{Measure}
-use Rattle.distortion.specs.Blocks.{rowFrom, rowsApart, rowsFrom, rowsUpTo, sumUpTo-is, Rows, BlockRows, UpTo}
+use Rattle.measures.specs.Measures.{Measure, measureOf}
+use Rattle.distortion.specs.Blocks.{rowFrom, rowsApart, rowsFrom, rowsUpTo, sumUpTo-is, Rows, BlockRows, BlockSum, UpTo}
 
 module _ (μ : Measure) (older newer : List ℕ) (across width a b n : ℕ) where
   pub rows-four :
@@ -54,6 +54,22 @@ pub by-four : (older newer : List ℕ) (width n a b m groups : ℕ) → BlockRow
 by-four older newer width n a b m groups k e four few =
     let rows : n * width ≡ 4 * groups * width = rw (e, four) in
     record { in-newer = omega (arith, k .in-newer); in-older = omega (arith, k .in-older); wide = k .wide; thin = omega arith; few = few }
+
+-- and what they add up to
+pub block-sum : (measure ceiling : ℕ) (older newer : List ℕ) (width n a b m groups d : ℕ) → n ≡ m → m ≡ 4 * groups
+    → (d ≡ rowsUpTo (measureOf measure) ceiling older newer width a b m groups) × (d ≤ groups * (4 * (m * measureOf measure .most)))
+    → BlockSum measure ceiling older newer width n a b d
+block-sum measure ceiling older newer width n a b m groups d e four h =
+    let is : d ≡ rowsUpTo (measureOf measure) ceiling older newer width a b n groups = rw e (h .0) in
+    let all : n ≡ 4 * groups = e ∙ four in
+    let part : groups * (4 * (m * measureOf measure .most)) ≡ 4 * groups * (4 * groups * measureOf measure .most) =
+    rw four (mul-comm groups _ ∙ mul-assoc 4 _ groups ∙ ap (λ (z : ℕ). 4 * z) (mul-comm _ groups) ∙ sym (mul-assoc 4 groups _)) in
+    let quarter : n / 4 ≡ groups = rw (all, mul-comm 4 groups) (mul-div-cancel groups (omega arith)) in
+    record {
+      up-to = rw (← all) at (rows-up-to (measureOf measure) ceiling older newer width a b n groups d is);
+      most = rw (all, ← part) (h .1);
+      is = rw quarter is;
+    }
 
 -- an allowed N that is not 16 and not 8
 pub last-size : (n : ℕ) → T (blockSizeOk n) → (n ≡ 16 → ⊥) → (n ≡ 8 → ⊥) → n ≡ 4

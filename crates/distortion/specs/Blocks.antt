@@ -8,8 +8,8 @@
 --   distortion    of a pair: the newer block at (y, x) against the older block at (y + dy, x + dx)
 --   rowFrom       a row's share of it, rowsFrom: of several rows, rowsApart: of rows that begin otherwise far apart in the two frames
 --   rowsUpTo      a distortion as far as a ceiling goes: sumUpTo of its rows, four at a time
---   UpTo          what such a sum tells of the whole
-use Prim.Native.Nat.{ℕ, zero, suc, _+_, _*_, _≤_, _<_}
+--   UpTo          what such a sum tells of the whole; BlockSum: of a block, that sum and what it tells
+use Prim.Native.Nat.{ℕ, zero, suc, _+_, _*_, _/_, _≤_, _<_}
 use mathlib.Core.Path.{_≡_, refl, ap₂}
 use mathlib.Core.Bool.{Bool, true, false, cond}
 use mathlib.Core.List.{List}
@@ -21,7 +21,7 @@ use borrow.Author.Tests.{leb-true, leb-false, le-leb, lt-leb}
 use lib.ListN.{length, getD}
 use Rattle.base.specs.Sum.{sumTo, sumTo-none, sumTo-more, sumOver, sumOver-ext, sumOver-bound}
 use Rattle.base.specs.Index.{row-fits}
-use Rattle.measures.specs.Measures.{Measure, measureOf, most-small, pel-most}
+use Rattle.measures.specs.Measures.{Measure, measureOf, measure-other, most-small, pel-most}
 use Rattle.order.specs.declared.Vector.{Vector}
 use Rattle.frame.specs.declared.Setting.{Setting}
 use Rattle.frame.specs.Pictures.{Pair, pel}
@@ -111,6 +111,19 @@ pub record BlockRows (older newer : List ℕ) (width n a b : ℕ) : Type 0 where
 pub record UpTo (ceiling all d : ℕ) : Type 0 where
   pub below : d < ceiling → d ≡ all
   pub beyond : ceiling ≤ d → ceiling ≤ all
+
+-- d is the distortion by a measure of the blocks that begin at places a and b as far as the ceiling goes: its rows four at a time
+pub record BlockSum (measure ceiling : ℕ) (older newer : List ℕ) (width n a b d : ℕ) : Type 0 where
+  pub up-to : UpTo ceiling (rowsFrom (measureOf measure) older newer width a b n n) d
+  pub most : d ≤ n * (n * measureOf measure .most)
+  pub is : d ≡ rowsUpTo (measureOf measure) ceiling older newer width a b n (n / 4)
+
+-- every number but 1 has squares' sum
+pub by-squares : {measure ceiling : ℕ} {older newer : List ℕ} {width n a b d : ℕ} → (measure ≡ 1 → ⊥) → BlockSum 2 ceiling older newer width n a b d
+    → BlockSum measure ceiling older newer width n a b d
+by-squares {measure} h s =
+    let e = measure-other measure h in
+    record { up-to = rw e at (s .up-to); most = rw e at (s .most); is = rw e at (s .is) }
 
 module _ (ceiling : ℕ) (f : ℕ → ℕ) where
   pub sumUpTo-none : sumUpTo ceiling f 0 ≡ 0

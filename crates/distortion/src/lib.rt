@@ -1,10 +1,10 @@
 // Distortion: the sum of the pel differences of two blocks, by a measure.
 
 ghost use mathlib.Core.Path.{_≡_};
-ghost use Prim.Native.Nat.{_+_, _*_, _≤_, _/_};
+ghost use Prim.Native.Nat.{_+_, _*_, _≤_};
 ghost use lib.ListN.{length};
 ghost use Rattle.measures.specs.Measures.{measureOf};
-ghost use Rattle.distortion.specs.Blocks.{blockAt, distortionBy, rowFrom, rowsApart, rowsFrom, rowsUpTo, UpTo, Rows, BlockRows, Comparable};
+ghost use Rattle.distortion.specs.Blocks.{blockAt, distortionBy, rowFrom, rowsApart, rowsUpTo, Rows, BlockRows, BlockSum, Comparable};
 use frame::Setting;
 
 // n pels of the newer frame from place a on, against n pels of the older frame from place b on.
@@ -73,11 +73,12 @@ fn rows_by_four(
     sum
 }
 
-// The same for each N: the compiler makes code of its own for each.
-fn rows_by_size(
+// For each measure and N the compiler makes code of its own: that is why both are written out in what follows.
+
+// A block's rows by absolute differences, as far as the ceiling goes.
+fn absolute_from(
     older: &[u8],
     newer: &[u8],
-    measure: u32,
     width: usize,
     n: usize,
     a: usize,
@@ -85,21 +86,51 @@ fn rows_by_size(
     ceiling: u32,
 ) -> u32
     requires { ⌜ BlockRows (now older) (now newer) width n a b ⌝ }
-    ensures { λ d. ⌜ UpTo ceiling (rowsFrom (measureOf measure) (now (older .entry)) (now (newer .entry)) width a b n n) d
-        × (d ≤ n * (n * measureOf measure .most))
-        × (d ≡ rowsUpTo (measureOf measure) ceiling (now (older .entry)) (now (newer .entry)) width a b n (n / 4)) ⌝ }
+    ensures { λ d. ⌜ BlockSum 1 ceiling (now (older .entry)) (now (newer .entry)) width n a b d ⌝ }
 {
     if n == 16 {
-        return rows_by_four(older, newer, measure, width, a, b, 16, 4, ceiling);
+        return rows_by_four(
+            older,
+            newer,
+            measures::ABSOLUTE,
+            width,
+            a,
+            b,
+            16,
+            4,
+            ceiling,
+        );
     }
     if n == 8 {
-        return rows_by_four(older, newer, measure, width, a, b, 8, 2, ceiling);
+        return rows_by_four(older, newer, measures::ABSOLUTE, width, a, b, 8, 2, ceiling);
     }
-    rows_by_four(older, newer, measure, width, a, b, 4, 1, ceiling)
+    rows_by_four(older, newer, measures::ABSOLUTE, width, a, b, 4, 1, ceiling)
+}
+
+// A block's rows by squares, as far as the ceiling goes.
+fn squares_from(
+    older: &[u8],
+    newer: &[u8],
+    width: usize,
+    n: usize,
+    a: usize,
+    b: usize,
+    ceiling: u32,
+) -> u32
+    requires { ⌜ BlockRows (now older) (now newer) width n a b ⌝ }
+    ensures { λ d. ⌜ BlockSum 2 ceiling (now (older .entry)) (now (newer .entry)) width n a b d ⌝ }
+{
+    if n == 16 {
+        return rows_by_four(older, newer, measures::SQUARES, width, a, b, 16, 4, ceiling);
+    }
+    if n == 8 {
+        return rows_by_four(older, newer, measures::SQUARES, width, a, b, 8, 2, ceiling);
+    }
+    rows_by_four(older, newer, measures::SQUARES, width, a, b, 4, 1, ceiling)
 }
 
 // The distortion of the newer block that begins at place a against the older block that begins at place b, as far as the ceiling goes: its
-// rows are added four at a time until the sum has reached the ceiling. For each measure the compiler makes code of its own.
+// rows are added four at a time until the sum has reached the ceiling.
 pub fn distortion_from(
     older: &[u8],
     newer: &[u8],
@@ -111,14 +142,12 @@ pub fn distortion_from(
     ceiling: u32,
 ) -> u32
     requires { ⌜ BlockRows (now older) (now newer) width n a b ⌝ }
-    ensures { λ d. ⌜ UpTo ceiling (rowsFrom (measureOf measure) (now (older .entry)) (now (newer .entry)) width a b n n) d
-        × (d ≤ n * (n * measureOf measure .most))
-        × (d ≡ rowsUpTo (measureOf measure) ceiling (now (older .entry)) (now (newer .entry)) width a b n (n / 4)) ⌝ }
+    ensures { λ d. ⌜ BlockSum measure ceiling (now (older .entry)) (now (newer .entry)) width n a b d ⌝ }
 {
     if measure == measures::ABSOLUTE {
-        return rows_by_size(older, newer, measures::ABSOLUTE, width, n, a, b, ceiling);
+        return absolute_from(older, newer, width, n, a, b, ceiling);
     }
-    rows_by_size(older, newer, measures::SQUARES, width, n, a, b, ceiling)
+    squares_from(older, newer, width, n, a, b, ceiling)
 }
 
 // The distortion of the newer block at row y, column x against the older block at row r, column c.
@@ -138,5 +167,8 @@ pub fn block_distortion(
     let width = s.width;
     let a = y * width + x;
     let b = r * width + c;
-    distortion_from(older, newer, s.measure, width, s.n, a, b, 4294967295)
+    if s.measure == measures::ABSOLUTE {
+        return absolute_from(older, newer, width, s.n, a, b, 4294967295);
+    }
+    squares_from(older, newer, width, s.n, a, b, 4294967295)
 }

@@ -1,6 +1,6 @@
 -- The distortion of a candidate by a copy of the block, and what code may ask of the place where its older block begins.
 use Prim.Native.Nat.{ℕ, _+_, _*_, _≤_}
-use mathlib.Core.Path.{_≡_, sym, ap, _∙_}
+use mathlib.Core.Path.{_≡_, sym, ap₂, _∙_}
 use mathlib.Core.List.{List}
 use native.Mathlib.Omega.{arith}
 use lib.Dec.{T}
@@ -18,12 +18,12 @@ use Rattle.full.specs.Full.{CopyOf}
 
 module _ (older newer : List ℕ) (b : SearchBlock) (k : ℕ) where
   pub by-copy : (block : List ℕ) → CopyOf newer b block
-      → rowsApart (measureOf (b .setting .measure)) older block 16 (b .setting .width) 0 (beginsAt b k) 16 16 ≡ distortionOf older newer b k
+      → rowsApart (measureOf 1) older block 16 (b .setting .width) 0 (beginsAt b k) 16 16 ≡ distortionOf older newer b k
   by-copy block c =
       let width = b .setting .width in
       let here = b .y * width + b .x in
-      rw (c .same) (copy-rows (measureOf (b .setting .measure)) older newer width here (beginsAt b k) 16)
-      ∙ sym (by-rows older newer b k ∙ ap (λ (n : ℕ). rowsFrom (measureOf (b .setting .measure)) older newer width here (beginsAt b k) n n) (c .sixteen))
+      rw (c .same) (copy-rows (measureOf 1) older newer width here (beginsAt b k) 16)
+      ∙ sym (by-rows older newer b k ∙ ap₂ (λ (measure n : ℕ). rowsFrom (measureOf measure) older newer width here (beginsAt b k) n n) (c .absolute) (c .sixteen))
 
   -- what code may ask of the place where it begins
   module _ (r : Ready older newer b) (t : T (candidateAt b k)) where

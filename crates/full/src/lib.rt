@@ -14,7 +14,7 @@ use candidates::Chosen;
 use frame::SearchBlock;
 use search::SearchResult;
 
-// The distortion of a candidate of a block of N 16, from a copy of the block; the newer frame stands for the contract alone.
+// The distortion by absolute differences of a candidate of a block of N 16, from a copy of the block; the newer frame stands for the contract alone.
 fn copied_distortion_of(
     older: &[u8],
     newer: &[u8],
@@ -29,7 +29,7 @@ fn copied_distortion_of(
 {
     let s = b.setting;
     let there = candidates::begins_at(order, b, k);
-    block_copy::copy_distortion(older, block, s.measure, s.width, there as u32)
+    block_copy::copy_distortion(older, block, s.width, there as u32)
 }
 
 // Of the listed candidates of a block of N 16, the first of least distortion, from a copy of the block: faster where there are many candidates.
@@ -72,6 +72,9 @@ fn choose_of_many(
 {
     let s = b.setting;
     if s.n != 16 {
+        return candidates::choose(older, newer, order, b, remaining, count);
+    }
+    if s.measure != measures::ABSOLUTE {
         return candidates::choose(older, newer, order, b, remaining, count);
     }
     let width = s.width;

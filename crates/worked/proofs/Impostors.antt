@@ -14,6 +14,7 @@ use Rattle.order.specs.Vectors.{vec}
 use Rattle.order.specs.Preference.{preference}
 use Rattle.frame.specs.Grid.{rows, columns, blocks, blockRow, blockColumn}
 use Rattle.frame.specs.Candidates.{candidate}
+use Rattle.measures.specs.Measures.{measureOf}
 use Rattle.refusals.specs.Refusals.{firstRefusal, blockSizeOk, windowOk, thresholdOk, pairRefusal, requestRefusal}
 use Rattle.distortion.specs.Blocks.{distortion, distortionBy}
 use Rattle.probe.specs.Probe.{origin}
@@ -33,7 +34,7 @@ Tracks t c r = trackIn r ≡ reckon t c
 
 travels-B : (travel pairB 1 ≡ vec (pos 0) (minus 1)) × (travel pairB 0 ≡ origin)
 unfolding
-    pairB preference candidate distortion distortionBy sumTo leastOf leastFrom blocks rows columns blockRow blockColumn walkPlaces after every allAlike
+    pairB preference candidate measureOf distortion distortionBy sumTo leastOf leastFrom blocks rows columns blockRow blockColumn walkPlaces after every allAlike
 travels-B = (travel-once pairB 1, travel-once pairB 0)
 
 -- the accepted step of G, and another by window 0

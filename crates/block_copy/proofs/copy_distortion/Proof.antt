@@ -1,20 +1,87 @@
--- `copy_distortion`: the rows by each measure's own code; all numbers but 1 have that of squares.
-use borrow.Author.Needs.{needs}
-use Rattle.measures.specs.Measures.{measure-other}
+-- `copy_distortion`: after g turns the sum is that of the first 4 × g rows, and the next older row begins 4 × g widths on.
+use Prim.Native.Nat.{_+_, _-_, _*_, _≤_}
+use mathlib.Core.Path.{_≡_, refl}
+use native.Mathlib.Nat.{zero-mul, add-mul, mul-le-mul-right}
+use native.Mathlib.Omega.{arith}
+use Rattle.base.specs.Sum.{sumTo}
+use Rattle.measures.specs.Measures.{measureOf, most-small}
+use Rattle.distortion.specs.Blocks.{rowsApart}
+use Rattle.distortion.proofs.Rows.{rows-cut}
 use Rattle.block_copy.proofs.copy_distortion.Statement.{statement}
 use Rattle.block_copy.proofs.copy_distortion.Tie as tie
 
-copied-rows-requires : tie.Need-copied-rows-requires
-copied-rows-requires c κs = search needs
+abbrev Inv-loop : tie.InvT-loop
+Inv-loop older block width b sum₀ q₀ g₀ sum q g =
+    (g ≤ 4) × (q ≡ b + 4 * g * width) × (sum ≤ g * 4161600) × (sum ≡ rowsApart (measureOf 1) older block 16 width 0 b 16 (4 * g))
 
-returns : tie.Need-returns
-returns c = rw (c .before .if1 .taken) (c .copied-rows .ensures)
+abbrev μ-loop : tie.MeasureT-loop
+μ-loop older block width b sum₀ q₀ g₀ sum q g = 4 - g
 
-copied-rows-requires-2 : tie.Need-copied-rows-requires-2
-copied-rows-requires-2 c κs = search needs
+-- a turn's rows end above the last
+turn : (i : tie.In-loop Inv-loop μ-loop) → let a = i .before .before .before .args in
+    let g = i .before .loop .g in
+    (4 * (g + 1) * a .width ≡ 4 * g * a .width + 4 * a .width) × (4 * (g + 1) * a .width ≤ 16 * a .width)
+turn i =
+    let a = i .before .before .before .args in
+    let g = i .before .loop .g in
+    let e : 4 * (g + 1) ≡ 4 * g + 4 = omega arith in
+    (rw e (add-mul (4 * g) 4 (a .width)), mul-le-mul-right (a .width) (omega arith))
 
-returns-2 : tie.Need-returns-2
-returns-2 c = rw (← (measure-other _ (c .before .if1 .left))) (c .copied-rows2 .ensures)
+loop-holds : tie.Need-loop-holds Inv-loop μ-loop
+unfolding sumTo
+loop-holds c = (omega arith, omega (arith, zero-mul (c .before .args .width)), omega arith, refl)
+
+mul-four-rows : tie.Need-mul-four-rows Inv-loop μ-loop
+mul-four-rows c = omega arith
+
+four-rows-requires : tie.Need-four-rows-requires Inv-loop μ-loop
+four-rows-requires c κs = omega (arith, turn (c .before))
+
+add-sum : tie.Need-add-sum Inv-loop μ-loop
+add-sum c = omega (arith, most-small 1)
+
+mul-q : tie.Need-mul-q Inv-loop μ-loop
+mul-q c = omega arith
+
+add-q : tie.Need-add-q Inv-loop μ-loop
+add-q c = omega (arith, turn (c .before .before))
+
+add-g : tie.Need-add-g Inv-loop μ-loop
+add-g c = omega arith
+
+loop-less : tie.Need-loop-less Inv-loop μ-loop
+loop-less c = omega arith
+
+loop-again : tie.Need-loop-again Inv-loop μ-loop
+loop-again c =
+    let i = c .before .before in
+    let l = i .before .loop in
+    let a = i .before .before .before .args in
+    let e : 4 * (l .g + 1) ≡ 4 * l .g + 4 = omega arith in
+    let p : 64 * l .g ≡ 0 + 4 * l .g * 16 = omega arith in
+    let cut = rows-cut (measureOf 1) (a .older .now) (a .block .now) 16 (a .width) 0 (a .b) 16 (4 * l .g) 4 in
+    let four = rw (l .inv .1, p) at (c .four-rows .ensures .0) in
+    (omega arith, omega (arith, turn i), omega (arith, c .four-rows .ensures .1, most-small 1), rw e (omega (arith, cut, four, l .inv .3)))
+
+returns : tie.Need-returns Inv-loop μ-loop
+returns c =
+    let l = c .before .loop in
+    let e : l .g ≡ 4 = omega arith in
+    rw e at (l .inv .3)
 
 pub copy-distortion-spec : {M : Type 1} → statement M
-copy-distortion-spec = tie.close (tie.spec copied-rows-requires returns copied-rows-requires-2 returns-2)
+copy-distortion-spec =
+    tie.close
+    (tie.spec
+    Inv-loop
+    μ-loop
+    loop-holds
+    mul-four-rows
+    four-rows-requires
+    add-sum
+    mul-q
+    add-q
+    add-g
+    loop-less
+    loop-again
+    returns)

@@ -41,7 +41,7 @@ returns c =
     let s = start (c .before .before) in
     let d = c .distortion-from .ensures in
     let there = c .before .begins-at .ensures in
-    (rw (by-rows _ _ _ _) (rw there at (d .0)), omega (arith, d .1, distortion-small (s .args .b .setting .measure) _ (pair-in s .placed .paired .allowed)), rw there at (d .2))
+    (rw (by-rows _ _ _ _) (rw there at (d .up-to)), omega (arith, d .most, distortion-small (s .args .b .setting .measure) _ (pair-in s .placed .paired .allowed)), rw there at (d .is))
 
 pub distortion-of-spec : {M : Type 1} → statement M
 distortion-of-spec = tie.close (tie.spec mul-here add-here begins-at-requires distortion-from-requires returns)

@@ -1,15 +1,27 @@
 -- `block_distortion`: the blocks begin at those places, and no distortion reaches the ceiling.
-use Prim.Native.Nat.{_+_, _*_, _≤_}
+use Prim.Native.Nat.{ℕ, _+_, _*_, _≤_}
 use native.Mathlib.Omega.{arith}
+use mathlib.Core.List.{List}
+use mathlib.Core.Path.{_≡_}
 use lib.ListN.{length}
 use Rattle.measures.specs.Measures.{measureOf}
-use Rattle.distortion.specs.Blocks.{block-rows, begins, block-inside, distortion-small}
+use Rattle.frame.specs.declared.Setting.{Setting}
+use Rattle.distortion.specs.Blocks.{blockAt, distortionBy, Comparable, BlockSum, by-squares, block-rows, begins, block-inside, distortion-small}
 use Rattle.distortion.proofs.block_distortion.Statement.{statement}
 use Rattle.distortion.proofs.block_distortion.Tie as tie
 
 firsts : (s : tie.Start) → let a = s .args in
     (a .y * a .s .width + a .x ≤ length (a .newer .now)) × (a .r * a .s .width + a .c ≤ length (a .older .now))
 firsts s = begins _ _ _ _ _ _ _ (s .pre)
+
+-- no distortion reaches the ceiling
+whole : {older newer : List ℕ} {s : Setting} {y x r c d : ℕ} → Comparable older newer s y x r c
+    → BlockSum (s .measure) 4294967295 older newer (s .width) (s .n) (y * s .width + x) (r * s .width + c) d
+    → (d ≡ distortionBy (measureOf (s .measure)) (s .n) (blockAt newer (s .width) y x) (blockAt older (s .width) r c))
+    × (d ≤ s .n * (s .n * measureOf (s .measure) .most))
+whole {s = s} k h =
+    let small = distortion-small (s .measure) (s .n) (k .placed .paired .allowed) in
+    rw (block-rows (measureOf (s .measure))) (h .up-to .below (omega (arith, h .most, small)), h .most)
 
 mul-a : tie.Need-mul-a
 mul-a c = omega (arith, firsts (c .before .before))
@@ -23,15 +35,22 @@ mul-b c = omega (arith, firsts (c .before .before))
 add-b : tie.Need-add-b
 add-b c = omega (arith, firsts (c .before .before))
 
-distortion-from-requires : tie.Need-distortion-from-requires
-distortion-from-requires c κs = block-inside _ _ _ _ _ _ _ (c .before .before .pre)
+absolute-from-requires : tie.Need-absolute-from-requires
+absolute-from-requires c κs = block-inside _ _ _ _ _ _ _ (c .before .before .before .before .pre)
 
 returns : tie.Need-returns
 returns c =
-    let s = c .before .before .before in
-    let d = c .distortion-from .ensures in
-    rw (block-rows (measureOf (s .args .s .measure)))
-    (d .0 .below (omega (arith, d .1, distortion-small (s .args .s .measure) (s .args .s .n) (s .pre .placed .paired .allowed))), d .1)
+    let s = c .before .before .before .before .before in
+    whole (s .pre) (rw (c .before .if1 .taken) (c .absolute-from .ensures))
+
+squares-from-requires : tie.Need-squares-from-requires
+squares-from-requires c κs = block-inside _ _ _ _ _ _ _ (c .before .before .before .before .pre)
+
+returns-2 : tie.Need-returns-2
+returns-2 c =
+    let s = c .before .before .before .before .before in
+    whole (s .pre) (by-squares (c .before .if1 .left) (c .squares-from .ensures))
 
 pub block-distortion-spec : {M : Type 1} → statement M
-block-distortion-spec = tie.close (tie.spec mul-a add-a mul-b add-b distortion-from-requires returns)
+block-distortion-spec =
+    tie.close (tie.spec mul-a add-a mul-b add-b absolute-from-requires returns squares-from-requires returns-2)

@@ -1,4 +1,4 @@
--- `choose_of_many`: a block of N 16 is copied first; it lies inside its frame.
+-- `choose_of_many`: a block of N 16 that is measured by absolute differences is copied first; it lies inside its frame.
 use Prim.Native.Nat.{_+_, _*_, _≤_}
 use mathlib.Core.Path.{refl}
 use native.Mathlib.Omega.{arith}
@@ -25,27 +25,34 @@ choose-requires c κs = c .before .before .before .before .before .pre
 returns : tie.Need-returns
 returns c = c .choose .ensures
 
+choose-requires-2 : tie.Need-choose-requires-2
+choose-requires-2 c κs = c .before .before .before .before .before .before .before .pre
+
+returns-2 : tie.Need-returns-2
+returns-2 c = c .choose2 .ensures
+
 mul-here : tie.Need-mul-here
-mul-here c = omega (arith, first (start (c .before .before)))
+mul-here c = omega (arith, first (start (c .before .before .before .before)))
 
 add-here : tie.Need-add-here
-add-here c = omega (arith, first (start (c .before .before .before)))
+add-here c = omega (arith, first (start (c .before .before .before .before .before)))
 
 copy-block-requires : tie.Need-copy-block-requires
 copy-block-requires c κs =
-    let e = c .before .before .before .before in
-    let s = e .before .before .before .before in
+    let e = c .before .before .before .before .before in
+    let s = e .before .before .before .before .before in
     let k = block-inside _ _ _ _ _ _ _ (at-its-place s) in
-    (rw (c .before .before .before .if1 .left) at (k .in-newer), k .wide, refl)
+    (rw (e .if1 .left) at (k .in-newer), k .wide, refl)
 
 choose-copied-requires : tie.Need-choose-copied-requires
 choose-copied-requires c κs =
-    let e = c .before .before .before .before .before in
-    let s = e .before .before .before .before .before in
-    (s .pre .0, (s .pre .1 .0, s .pre .1 .1, record { sixteen = e .if1 .left; same = c .before .copy-block .ensures }))
+    let m = c .before .before .before .before .before in
+    let e = m .before .before in
+    let s = start (e .before) in
+    (s .pre .0, (s .pre .1 .0, s .pre .1 .1, record { sixteen = e .if1 .left; absolute = m .if2 .left; same = c .before .copy-block .ensures }))
 
-returns-2 : tie.Need-returns-2
-returns-2 c = c .choose-copied .ensures
+returns-3 : tie.Need-returns-3
+returns-3 c = c .choose-copied .ensures
 
 pub choose-of-many-spec : {M : Type 1} → statement M
 choose-of-many-spec =
@@ -53,8 +60,10 @@ choose-of-many-spec =
     (tie.spec
     choose-requires
     returns
+    choose-requires-2
+    returns-2
     mul-here
     add-here
     copy-block-requires
     choose-copied-requires
-    returns-2)
+    returns-3)
