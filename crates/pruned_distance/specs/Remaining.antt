@@ -3,11 +3,14 @@
 --   placeOf           the place of a candidate's older block as an Origin counts; Reached: it stands at or behind that origin
 --   distanceOf        the distance at m of the candidate at place k of the preference table
 --   largestDistance   no two blocks are further apart at m: how far a distance may go for the largest distortion
+--   eachByItself      the candidates are few, or a distance at m may not fit 32 bits: each is looked up by itself
 --   Lent              the block ready, and the summed-area table of a part of the older frame that holds all older blocks
 --   Tested            what working out the distances at m asks
 use Prim.Native.Nat.{ℕ, _+_, _-_, _*_, _/_, _≤_}
 use mathlib.Core.Path.{_≡_}
+use mathlib.Core.Bool.{Bool, _||_}
 use mathlib.Core.List.{List}
+use lib.Dec.{leb, ltb}
 use Rattle.order.specs.declared.Vector.{Vector}
 use Rattle.order.specs.Preference.{preferred}
 use Rattle.frame.specs.Candidates.{olderRow, olderColumn}
@@ -38,6 +41,9 @@ distanceOf older newer b m k =
 
 abbrev pub largestDistance : Setting → ℕ → ℕ
 largestDistance s m = measureOf (s .measure) .limit m (s .n * (s .n * measureOf (s .measure) .most))
+
+abbrev pub eachByItself : Setting → ℕ → ℕ → Bool
+eachByItself s m count = leb count 256 || ltb 4294967295 (largestDistance s m)
 
 pub record Lent (older newer : List ℕ) (b : SearchBlock) (sums : List ℕ) (a : Region) : Type 0 where
   pub ready : Ready older newer b

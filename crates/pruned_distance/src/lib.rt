@@ -1,7 +1,6 @@
 // The tests of search 2: the distance at m of every remaining candidate, over the summed-area table of the older frame or of a part of it.
 
 ghost use mathlib.Core.Path.{_≡_};
-ghost use mathlib.Core.Bool.{false};
 ghost use Prim.Native.Nat.{ℕ, _+_, _*_, _≤_, _<_};
 ghost use lib.ListN.{length, getD};
 ghost use Rattle.base.specs.Sum.{sumTo};
@@ -11,7 +10,7 @@ ghost use Rattle.order.specs.Vectors.{vectorCount};
 ghost use Rattle.frame.specs.Pictures.{largestN};
 ghost use Rattle.distortion.specs.Blocks.{blockAt};
 ghost use Rattle.pruned_subblocks.specs.Squares.{BlockSums, Cut, differenceAt, Compared};
-ghost use Rattle.pruned_distance.specs.Remaining.{Reached, placeOf, distanceOf, largestDistance, Tested};
+ghost use Rattle.pruned_distance.specs.Remaining.{Reached, placeOf, distanceOf, largestDistance, eachByItself, Tested};
 use frame::Region;
 use frame::SearchBlock;
 use frame::Setting;
@@ -179,7 +178,7 @@ fn fill_many(
 // Whether each candidate's distance is worked out by itself: where they are few, or where a distance at m may not fit 32 bits.
 fn each_by_itself(s: Setting, m: usize, count: usize) -> bool
     requires { ⌜ (s .n ≤ largestN) × (m ≤ largestN) ⌝ }
-    ensures { λ r. ⌜ (r ≡ false → largestDistance s m ≤ 4294967295) ⌝ }
+    ensures { λ r. ⌜ r ≡ eachByItself s m count ⌝ }
 {
     if count <= 256 {
         return true;

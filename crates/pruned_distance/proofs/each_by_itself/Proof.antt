@@ -1,12 +1,11 @@
--- `each_by_itself`: the test is of the largest distance, whose factors all fit.
+-- `each_by_itself`: the second test is of the largest distance, whose factors all fit.
 use Prim.Native.Nat.{ℕ, _*_, _≤_}
-use mathlib.Core.Path.{sym, ap, subst, _∙_}
-use mathlib.Core.Bool.{false}
+use mathlib.Core.Path.{ap, _∙_}
 use native.Mathlib.Nat.{mul-assoc, mul-le-mul}
 use native.Mathlib.Omega.{arith}
 use borrow.Author.Needs.{needs}
-use borrow.Author.Tests.{ltb-false}
-use Rattle.base.specs.Tests.{true-T}
+use borrow.Author.Tests.{le-leb, lt-leb}
+use lib.Dec.{ltb}
 use Rattle.measures.specs.Measures.{measureOf}
 use Rattle.frame.specs.Pictures.{largestN}
 use Rattle.pruned_distance.proofs.each_by_itself.Statement.{statement}
@@ -16,7 +15,7 @@ area : (n : ℕ) → n ≤ largestN → n * n ≤ largestN * largestN
 area n h = mul-le-mul h h
 
 returns : tie.Need-returns
-returns c = λ e. absurd (true-T false (sym e))
+returns c = rw (le-leb _ 256 (c .if1 .taken))
 
 mul-limit : tie.Need-mul-limit
 mul-limit c = omega (arith, area _ (c .before .pre .0))
@@ -37,7 +36,8 @@ returns-2 : tie.Need-returns-2
 returns-2 c =
     let s = c .before .before .before .args .s in
     let is = ap (λ (x : ℕ). s .n * s .n * x) (c .before .most .ensures .0) ∙ mul-assoc (s .n) (s .n) (measureOf (s .measure) .most) in
-    λ e. subst (λ (d : ℕ). d ≤ 4294967295) (c .limit .ensures ∙ ap (measureOf (s .measure) .limit (c .before .before .before .args .m)) is) (ltb-false _ _ e)
+    rw (lt-leb _ 256 (c .before .before .if1 .left))
+    (ap (ltb 4294967295) (c .limit .ensures ∙ ap (measureOf (s .measure) .limit (c .before .before .before .args .m)) is))
 
 pub each-by-itself-spec : {M : Type 1} → statement M
 each-by-itself-spec =

@@ -1,6 +1,6 @@
 -- `fill_distances`: a candidate's number is its distance, whether worked out by itself or among all older blocks in reach.
 use Prim.Native.Nat.{ℕ, _+_, _/_, _≤_}
-use mathlib.Core.Path.{refl, _∙_}
+use mathlib.Core.Path.{refl, sym, _∙_}
 use native.Mathlib.Omega.{arith}
 use borrow.Author.Needs.{needs}
 use denote.Ref.{now}
@@ -11,6 +11,7 @@ use Rattle.pruned_distance.specs.Remaining.{Tested}
 use Rattle.pruned_subblocks.specs.Squares.{Cut}
 use Rattle.pruned_subblocks.proofs.Cuts.{squares-few, cuttable, cut-is}
 use Rattle.pruned_distance.proofs.Candidates.{size, narrow, side, rowoffset-small, few-squares, reached-table, compared-table, number-table}
+use Rattle.pruned_distance.proofs.Fits.{together-fits}
 use Rattle.pruned_distance.proofs.fill_distances.Statement.{statement}
 use Rattle.pruned_distance.proofs.fill_distances.Tie as tie
 
@@ -122,7 +123,7 @@ fill-many-requires : tie.Need-fill-many-requires
 fill-many-requires c κs =
     let k = many-cut (c .before) in
     let many = c .before .before .before in
-    let fits = many .before .each-by-itself .ensures (many .if1 .left) in
+    let fits = together-fits _ _ _ (sym (many .before .each-by-itself .ensures) ∙ many .if1 .left) in
     ((start k .pre .0, start k .pre .1, tested k), (tested k .whole, squares k, fits))
 
 returns : tie.Need-returns
