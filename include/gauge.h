@@ -3,7 +3,9 @@
  * Two grey pictures of the paper, an older and a newer one, are compared block by block. A picture (frame) is width x height
  * bytes, row by row, top row first. A block is N x N pels and stands at the row and column of its top left pel. A vector
  * (dy, dx) compares the newer frame's block at (row, column) with the older frame's block at (row + dy, column + dx): + is down
- * and right. The paper travelled the other way, by (-dy, -dx).
+ * and right. The paper travelled the other way, by (-dy, -dx). How far the two blocks differ is the vector's distortion, by one of two
+ * measures: 1 absolute, the sum of absolute pel differences, at most 255 x N x N; 2 squares, the sum of squared pel differences, at most
+ * 65,025 x N x N.
  *
  * Every call takes any numbers and any bytes whatever. It keeps no pointer and holds no state, so it may be called from several threads.
  * A frame is lent as a pointer and its length in bytes, and only read; a list and a table are lent as a pointer and their length in
@@ -41,7 +43,7 @@ enum gauge_refusal {
     GAUGE_BAD_N = 3,          /* N not 4, 8 or 16, or larger than width or height */
     GAUGE_BAD_SEARCH = 4,     /* the search not 1 to 4 */
     GAUGE_BAD_WINDOW = 5,     /* a window w that the search does not take */
-    GAUGE_BAD_THRESHOLD = 6,  /* a threshold t over 65,280, or not 0 with search 1, 2 or 3 */
+    GAUGE_BAD_THRESHOLD = 6,  /* a threshold t over 65,280, by squares over 16,646,400, or not 0 with search 1, 2 or 3 */
     GAUGE_BAD_PLACE = 7,      /* the block not wholly inside the newer frame; for a row view, the N pels not inside one row */
     GAUGE_NO_CANDIDATE = 8,   /* the vector no candidate of window 16: a part over 16 in size, or the older block not inside its frame */
     GAUGE_SHORT_TABLE = 9,    /* search 2: a table shorter than GAUGE_TABLE_LENGTH */
@@ -59,7 +61,8 @@ enum gauge_refusal {
     GAUGE_NOT_HOMED = 31,     /* a step of a track that is not homed */
     GAUGE_STEPS_OVER = 32,    /* a step of a track that has 1,000,000 steps or more */
     GAUGE_OUT_OF_RANGE = 33,  /* a step that would lead outside -1,000,000 to 1,000,000 */
-    GAUGE_WALK_OVER = 34      /* walking a log: a walk that is over, or a cursor that no walk of this log can have */
+    GAUGE_WALK_OVER = 34,     /* walking a log: a walk that is over, or a cursor that no walk of this log can have */
+    GAUGE_BAD_MEASURE = 51    /* the measure neither 1 nor 2; writing a log: not 1 */
 };
 
 /* What a refusal means, in words; of any number, never null. In gauge_text.c. */
@@ -72,12 +75,12 @@ const char *gauge_refusal_text(uint32_t refusal);
 /* What measuring one vector answers. */
 typedef struct {
     uint32_t refusal;
-    uint32_t distortion; /* the sum of absolute pel differences, at most 255 x N x N */
+    uint32_t distortion; /* by the measure asked for: at most 255 x N x N, by squares 65,025 x N x N */
 } gauge_measured;
 
-/* Measures one vector (dy, dx) at the newer block that stands at (row, column). Tests 1 2 3 7 8. */
+/* Measures one vector (dy, dx) at the newer block that stands at (row, column), by measure 1 absolute or 2 squares. Tests 1 2 3 51 7 8. */
 gauge_measured gauge_measure(const uint8_t *older, size_t older_length, const uint8_t *newer, size_t newer_length, size_t width,
-                             size_t height, size_t n, size_t row, size_t column, int32_t dy, int32_t dx);
+                             size_t height, size_t n, size_t row, size_t column, int32_t dy, int32_t dx, uint32_t measure);
 
 /* Where a row view stands in its frame. */
 typedef struct {
@@ -93,21 +96,23 @@ gauge_row gauge_row_view(const uint8_t *older, size_t older_length, const uint8_
 /* A request for a search. */
 typedef struct {
     size_t width, height, n;
-    uint32_t search; /* 1 full, 2 pruned, 3 four-step, 4 cross */
-    size_t w;        /* the search window: full and pruned 0 to 16, four-step 7, cross 2, 4, 8 or 16 */
-    uint32_t t;      /* the threshold of cross, 0 to 65,280: a distortion of (0,0) below it ends the search; 0 with the others */
+    uint32_t search;  /* 1 full, 2 pruned, 3 four-step, 4 cross */
+    size_t w;         /* the search window: full and pruned 0 to 16, four-step 7, cross 2, 4, 8 or 16 */
+    uint32_t t;       /* the threshold of cross: a distortion of (0,0) below it ends the search. 0 to 65,280, by squares 0 to 16,646,400,
+                       * whatever N is; 0 with the others */
+    uint32_t measure; /* 1 absolute, 2 squares */
 } gauge_request;
 
 /* What a search of one block answers. */
 typedef struct {
     uint32_t refusal;
     int32_t dy, dx;      /* the vector found */
-    uint32_t distortion; /* and its distortion */
+    uint32_t distortion; /* and its distortion, by the measure asked for */
     uint32_t counts[5];  /* pruned: how many candidates were tested at m = 16, 8, 4, 2, 1; others: 0, and at m = 1 how many were measured */
     uint32_t dropped;    /* pruned: how many candidates were dropped */
 } gauge_found;
 
-/* Searches the block that stands at (row, column), on the grid or off it. Tests 1 2 3 4 5 6 7. */
+/* Searches the block that stands at (row, column), on the grid or off it. Tests 1 2 3 4 51 5 6 7. */
 gauge_found gauge_search_block(const uint8_t *older, size_t older_length, const uint8_t *newer, size_t newer_length,
                                gauge_request request, size_t row, size_t column);
 
@@ -123,7 +128,7 @@ typedef struct {
 /* Searches every block of the grid: (height / N) x (width / N) blocks, row by row. Fills the list with three numbers a block: dy,
  * dx, distortion. Search 2 also fills the table with sums of older pels: place r x (width + 1) + c has the sum of the pels in rows
  * before r and columns before c; the other searches leave it as it is, and it may have any length, 0 too. Numbers past the used part keep
- * what they held, as all do where the call is refused. Tests 1 2 3 4 5 6 9 10. */
+ * what they held, as all do where the call is refused. Tests 1 2 3 4 51 5 6 9 10. */
 gauge_field_answer gauge_field(const uint8_t *older, size_t older_length, const uint8_t *newer, size_t newer_length,
                                gauge_request request, int32_t *list, size_t list_length, uint32_t *table, size_t table_length);
 
@@ -154,7 +159,7 @@ typedef struct {
 } gauge_stepped;
 
 /* Adds the travel of a pair to the place, and 1 to the steps. Lent memory is as the field call leaves it, also where 33 refuses; any
- * other refusal leaves it as it was. Tests 1 2 3 4 5 6 9 10 31 32 33. */
+ * other refusal leaves it as it was. Tests 1 2 3 4 51 5 6 9 10 31 32 33. */
 gauge_stepped gauge_step(gauge_track track, const uint8_t *older, size_t older_length, const uint8_t *newer, size_t newer_length,
                          gauge_request request, int32_t *list, size_t list_length, uint32_t *table, size_t table_length);
 
@@ -179,6 +184,7 @@ gauge_stepped gauge_step(gauge_track track, const uint8_t *older, size_t older_l
 typedef struct {
     size_t width, height, n, w;
     uint32_t search;
+    uint32_t measure; /* 1: there are logs of no other, so a log's bytes do not say it. Writing takes 1 alone, reading and walking hand it out */
 } gauge_head;
 
 /* What writing a log answers. */
@@ -192,7 +198,7 @@ typedef struct {
 #define GAUGE_LOG_MOST(width, height, n) (8 + 5 * ((size_t)(height) / (n)) * ((size_t)(width) / (n)) + 5)
 
 /* Writes the log of a field into a buffer: head numbers, and a list of three numbers a block as the field call fills it. The buffer past the
- * log keeps what it held, as all of it does where the call is refused. Tests 1 3 4 5 10 16 19. */
+ * log keeps what it held, as all of it does where the call is refused. Tests 1 3 4 51 5 10 16 19. */
 gauge_written gauge_write_log(gauge_head head, const int32_t *list, size_t list_length, uint8_t *buffer, size_t buffer_length);
 
 /* What reading a log answers. */
@@ -220,7 +226,7 @@ size_t gauge_print_log(const uint8_t *log, size_t log_length, uint8_t *buffer, s
 typedef struct {
     size_t at;       /* the offset of the next command */
     uint32_t phase;  /* 0 before the head, 1 among the blocks, 2 after the end, any other number after a refusal */
-    gauge_head head; /* among the blocks: the head's numbers. In any other phase not looked at, and 0 in `next` */
+    gauge_head head; /* among the blocks: the head's numbers, the measure not looked at. In any other phase none is, and all are 0 in `next` */
     size_t blocks;   /* among the blocks: how many were read. In any other phase likewise */
 } gauge_cursor;
 

@@ -17,7 +17,7 @@ const char *gauge_refusal_text(uint32_t refusal)
     case GAUGE_BAD_WINDOW:
         return "the search does not take this window w";
     case GAUGE_BAD_THRESHOLD:
-        return "the threshold is over 65,280, or not 0 with a search other than cross";
+        return "the threshold is over 65,280 (16,646,400 by squares), or not 0 with a search other than cross";
     case GAUGE_BAD_PLACE:
         return "the block or the row's part is not wholly inside its frame";
     case GAUGE_NO_CANDIDATE:
@@ -54,6 +54,8 @@ const char *gauge_refusal_text(uint32_t refusal)
         return "the step would lead outside -1,000,000 to 1,000,000";
     case GAUGE_WALK_OVER:
         return "the walk along the log is over, or its cursor belongs to no walk of this log";
+    case GAUGE_BAD_MEASURE:
+        return "the measure is neither 1 (absolute) nor 2 (squares), or it is not 1 for a log that is to be written";
     default:
         return "no refusal has this number";
     }
