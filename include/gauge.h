@@ -184,7 +184,7 @@ gauge_stepped gauge_step(gauge_track track, const uint8_t *older, size_t older_l
 typedef struct {
     size_t width, height, n, w;
     uint32_t search;
-    uint32_t measure; /* 1: there are logs of no other, so a log's bytes do not say it. Writing takes 1 alone, reading and walking hand it out */
+    uint32_t measure; /* 1: there are logs of no other, and their bytes do not say it. Writing takes 1 alone; reading and walking hand it out */
 } gauge_head;
 
 /* What writing a log answers. */

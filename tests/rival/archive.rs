@@ -26,6 +26,7 @@ struct GaugeRequest {
     search: u32,
     w: usize,
     t: u32,
+    measure: u32,
 }
 
 #[repr(C)]
@@ -100,6 +101,7 @@ extern "C" {
         column: usize,
         dy: i32,
         dx: i32,
+        measure: u32,
     ) -> GaugeMeasured;
 
     fn gauge_row_view(
@@ -185,20 +187,21 @@ fn plain(value: usize) -> i64 {
 }
 
 /// A request as the header has it.
-fn gauge_request(pair: &Pair, n: usize, search: u32, w: usize, t: u32) -> GaugeRequest {
+fn gauge_request(pair: &Pair, request: &FieldRequest) -> GaugeRequest {
     GaugeRequest {
         width: pair.width,
         height: pair.height,
-        n,
-        search,
-        w,
-        t,
+        n: request.n,
+        search: request.search,
+        w: request.w,
+        t: request.t,
+        measure: request.measure,
     }
 }
 
 /// The single-block search.
 pub fn search_block(pair: &Pair, request: &Request) -> Answer {
-    let question = gauge_request(pair, request.n, request.search, request.w, request.t);
+    let question = gauge_request(pair, &request.of_field());
     // The pointers are never null and each stands with its slice's own length, which is all that the header asks.
     let found = unsafe {
         gauge_search_block(
@@ -237,6 +240,7 @@ pub fn measure(pair: &Pair, question: &Measuring) -> Measured {
             question.column,
             question.dy,
             question.dx,
+            question.measure,
         )
     };
     Measured {
@@ -290,7 +294,7 @@ pub fn field(pair: &Pair, request: &FieldRequest, lent: &mut Lent) -> FieldAnswe
             pair.older.len(),
             pair.newer.as_ptr(),
             pair.newer.len(),
-            gauge_request(pair, request.n, request.search, request.w, request.t),
+            gauge_request(pair, request),
             lent.list.as_mut_ptr(),
             lent.list_length,
             lent.table.as_mut_ptr(),
@@ -329,7 +333,7 @@ pub fn step(
             pair.older.len(),
             pair.newer.as_ptr(),
             pair.newer.len(),
-            gauge_request(pair, request.n, request.search, request.w, request.t),
+            gauge_request(pair, request),
             lent.list.as_mut_ptr(),
             lent.list_length,
             lent.table.as_mut_ptr(),

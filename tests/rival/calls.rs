@@ -1,5 +1,5 @@
-//! Lists of calls, as the rules' promise on them has it: homings and steps of search 2, refused ones among them, each with the
-//! track that the call before handed back. After every call the archive's track must be the reckoning's own, refusals must be the
+//! Lists of calls, as the rules' promise on them has it: homings and steps of search 2, each step by either measure, refused ones
+//! among them, each with the track that the call before handed back. After every call the archive's track must be the reckoning's own, refusals must be the
 //! same, and answer, list and table must be what the rival's step leaves, to the last place. Four-step and cross run beside
 //! accepted steps.
 
@@ -9,7 +9,7 @@ use crate::group::Group;
 use crate::pictures::{Chance, KINDS};
 use crate::question::{FieldAnswer, FieldRequest, Lent, Pair, Request, Track};
 use crate::reckoning::{self, exhaustive_best, reckoned_step, NEW};
-use crate::rival::Block;
+use crate::rival::{largest_threshold, Block};
 
 /// The groups of one run, and how often each refusal was met in it.
 struct Calls {
@@ -25,7 +25,7 @@ struct Calls {
     /// Four-step and cross at places of an accepted step's frames, on the grid or off it.
     bounds: Group,
     /// How many steps were accepted, and how many of each refusal came.
-    met: [u64; 34],
+    met: [u64; 52],
 }
 
 impl Calls {
@@ -37,7 +37,7 @@ impl Calls {
             lent: group("list and table"),
             bests: group("exhaustive bests"),
             bounds: group("four-step and cross"),
-            met: [0; 34],
+            met: [0; 52],
         }
     }
 
@@ -94,7 +94,7 @@ impl Calls {
     ) {
         let mut candidates = 0;
         for (row, column) in reckoning::grid(pair, request.n) {
-            let block = Block::new(pair, request.n, row, column);
+            let block = Block::new(pair, request.n, row, column, request.measure);
             candidates += block.candidates(request.w as i64).len() as i64;
         }
         let listed: Vec<((i64, i64), i64)> = lent.list[..3 * bests.len()]
@@ -106,13 +106,15 @@ impl Calls {
         self.bests.same(inputs, all, candidates);
     }
 
-    /// Four-step where the step's w is 7 or more, cross where it is one of cross's: unrefused, never lower, and few probes.
+    /// Four-step where the step's w is 7 or more, cross where it is one of cross's, by the same measure: unrefused, never lower, and few
+    /// probes.
     fn beside(&mut self, chance: &mut Chance, inputs: &str, pair: &Pair, request: &FieldRequest) {
-        let (n, w) = (request.n, request.w);
+        let (n, w, measure) = (request.n, request.w, request.measure);
         let row = chance.between(0, (pair.height - n) as i64) as usize;
         let column = chance.between(0, (pair.width - n) as i64) as usize;
-        let (_, least) = exhaustive_best(&Block::new(pair, n, row, column), w as i64);
-        let t = chance.one_of(&[0, 1, 500, 65280]);
+        let block = Block::new(pair, n, row, column, measure);
+        let (_, least) = exhaustive_best(&block, w as i64);
+        let t = chance.one_of(&[0, 1, 500, largest_threshold(measure)]);
         let mut searches = Vec::new();
         if w >= 7 {
             searches.push((3, 7, 0, 27));
@@ -126,6 +128,7 @@ impl Calls {
                 search,
                 w,
                 t,
+                measure,
                 row,
                 column,
             };
@@ -169,7 +172,8 @@ fn step_inputs(chance: &mut Chance, large: bool) -> (Pair, FieldRequest, Lent) {
     } else {
         chance.one_of(&[4, 4, 4, 4, 8])
     };
-    let mut request = good_request(chance, n, 2);
+    let measure = chance.one_of(&[1, 2]);
+    let mut request = good_request(chance, n, 2, measure);
     let mut pair = few_blocks(chance, kind, n, request.w.min(4));
     if chance.between(0, 11) == 0 {
         spoil(chance, &mut pair, &mut request);
@@ -208,7 +212,7 @@ fn from_new() -> u64 {
         let start = (archive::new_track(), NEW);
         list_of_calls(&mut calls, chance, &format!("seed {seed}"), start);
     }
-    calls.end(&[0, 1, 2, 3, 5, 6, 9, 10, 11, 31, 33])
+    calls.end(&[0, 1, 2, 3, 5, 6, 9, 10, 11, 31, 33, 51])
 }
 
 /// Lists of calls from tracks built by hand: any numbers, steps near their end.
@@ -229,7 +233,7 @@ fn from_any() -> u64 {
         };
         list_of_calls(&mut calls, chance, &format!("seed {seed}"), (track, track));
     }
-    calls.end(&[0, 1, 2, 3, 5, 6, 9, 10, 11, 31, 32, 33])
+    calls.end(&[0, 1, 2, 3, 5, 6, 9, 10, 11, 31, 32, 33, 51])
 }
 
 /// Steps of the other searches, which stand in no list of calls, from a homed track.
@@ -240,7 +244,8 @@ fn other_searches() -> u64 {
         let (kind, _) = KINDS[seed as usize % KINDS.len()];
         let n = chance.one_of(&[4, 4, 8]);
         let search = chance.one_of(&[1, 3, 4]);
-        let request = good_request(chance, n, search);
+        let measure = chance.one_of(&[1, 2]);
+        let request = good_request(chance, n, search, measure);
         let pair = few_blocks(chance, kind, n, request.w.min(4));
         let lent = lend_for(chance, &pair, &request);
         let (y, x) = (homing_part(chance), homing_part(chance));

@@ -4,7 +4,7 @@
 
 use crate::archive;
 use crate::group::Group;
-use crate::question::{Measuring, Pair, Request, Viewing};
+use crate::question::{Measuring, Pair, Request, Viewing, NO_MEASURES};
 use crate::rival;
 
 /// Bits above the lower 32, which a careless narrowing would lose.
@@ -52,27 +52,31 @@ fn viewed(group: &mut Group, pair: &Pair, question: Viewing, refusal: i64) {
     group.same(format_args!("{pair}, {question}"), answer, wanted);
 }
 
-/// All three calls at one place, in all four searches, must answer with this refusal.
+/// All three calls at one place, in all four searches and by both measures, must answer with this refusal.
 fn all_calls(group: &mut Group, pair: &Pair, n: usize, row: usize, column: usize, refusal: i64) {
-    for (search, w) in [(1, 1), (2, 1), (3, 7), (4, 2)] {
-        let request = Request {
+    for measure in [1, 2] {
+        for (search, w) in [(1, 1), (2, 1), (3, 7), (4, 2)] {
+            let request = Request {
+                n,
+                search,
+                w,
+                t: 0,
+                measure,
+                row,
+                column,
+            };
+            searched(group, pair, request, refusal);
+        }
+        let question = Measuring {
             n,
-            search,
-            w,
-            t: 0,
             row,
             column,
+            dy: 0,
+            dx: 0,
+            measure,
         };
-        searched(group, pair, request, refusal);
+        measured(group, pair, question, refusal);
     }
-    let question = Measuring {
-        n,
-        row,
-        column,
-        dy: 0,
-        dx: 0,
-    };
-    measured(group, pair, question, refusal);
     for side in [0, 1] {
         let question = Viewing {
             n,
@@ -156,28 +160,37 @@ fn block_sizes() -> u64 {
     group.end()
 }
 
-/// Refusals 4, 5 and 6: every search with every w and T near an edge.
+/// Refusals 4, 51, 5 and 6: every search with every measure, w and T near an edge.
 fn searches() -> u64 {
-    let mut group = Group::new("edges, search, w and T");
+    let mut group = Group::new("edges, search, measure, w and T");
     let pair = pair_of(13, 11);
     let kinds = [0, 1, 2, 3, 4, 5, 6, 7, 255, 256, 257, 260, 65537, 65540];
     let windows = (0..=40).chain([48, 63, 64, 128, 255, 256, 258, 263, 1024, 65536, 65538]);
     let far = [ABOVE_32, ABOVE_32 + 2, ABOVE_32 + 7, TOP_BIT, TOP_BIT + 7];
     let windows: Vec<usize> = windows.chain(far).chain([usize::MAX]).collect();
     let thresholds = [0, 1, 2, 255, 256, 4080, 65279, 65280, 65281, 65535, 65536];
+    let larger = [1_040_400, 16_646_399, 16_646_400, 16_646_401, 16_777_216];
+    let thresholds = thresholds.into_iter().chain(larger);
+    let thresholds: Vec<u32> = thresholds.chain([1 << 31, u32::MAX]).collect();
     for search in kinds.into_iter().chain([1 << 31, u32::MAX - 3, u32::MAX]) {
         for &w in &windows {
-            for t in thresholds.into_iter().chain([1 << 31, u32::MAX]) {
+            for (&t, measure) in thresholds
+                .iter()
+                .flat_map(|t| [1, 2, 0, 3, 257].map(|measure| (t, measure)))
+            {
                 let window_allowed = match search {
                     1 | 2 => w <= 16,
                     3 => w == 7,
                     _ => [2, 4, 8, 16].contains(&w),
                 };
+                let most = if measure == 2 { 16_646_400 } else { 65_280 };
                 let refusal = if !(1..=4).contains(&search) {
                     4
+                } else if measure != 1 && measure != 2 {
+                    51
                 } else if !window_allowed {
                     5
-                } else if (search == 4 && t > 65280) || (search != 4 && t != 0) {
+                } else if (search == 4 && t > most) || (search != 4 && t != 0) {
                     6
                 } else {
                     0
@@ -187,11 +200,68 @@ fn searches() -> u64 {
                     search,
                     w,
                     t,
+                    measure,
                     row: 3,
                     column: 5,
                 };
                 searched(&mut group, &pair, request, refusal);
             }
+        }
+    }
+    group.end()
+}
+
+/// Refusal 51: every number that is no measure; and T by each measure at its limit and one past, "whatever N is".
+fn measures() -> u64 {
+    let mut group = Group::new("edges, measures");
+    let pair = pair_of(19, 17);
+    for n in [4, 8, 16] {
+        let bad = NO_MEASURES.map(|measure| (measure, 51));
+        for (measure, refusal) in [(1, 0), (2, 0)].into_iter().chain(bad) {
+            for (search, w) in [(1, 16), (2, 16), (3, 7), (4, 16)] {
+                let request = Request {
+                    n,
+                    search,
+                    w,
+                    t: 0,
+                    measure,
+                    row: 1,
+                    column: 2,
+                };
+                searched(&mut group, &pair, request, refusal);
+            }
+            for (dy, dx) in [(0, 0), (0, -2), (0, 1), (-1, -1)] {
+                let question = Measuring {
+                    n,
+                    row: 1,
+                    column: 2,
+                    dy,
+                    dx,
+                    measure,
+                };
+                measured(&mut group, &pair, question, refusal);
+            }
+        }
+        for (measure, t, refusal) in [
+            (1, 65_280, 0),
+            (1, 65_281, 6),
+            (1, 16_646_400, 6),
+            (2, 65_281, 0),
+            (2, 16_646_400, 0),
+            (2, 16_646_401, 6),
+            (2, u32::MAX, 6),
+            (3, u32::MAX, 51),
+        ] {
+            let request = Request {
+                n,
+                search: 4,
+                w: 8,
+                t,
+                measure,
+                row: 0,
+                column: 0,
+            };
+            searched(&mut group, &pair, request, refusal);
         }
     }
     group.end()
@@ -231,25 +301,29 @@ fn block_places() -> u64 {
                 for column in places(last_column, n, width) {
                     let inside = row <= last_row && column <= last_column;
                     let refusal = if inside { 0 } else { 7 };
-                    for (search, w) in [(1, 1), (2, 1), (3, 7), (4, 2)] {
+                    for (search, w, measure) in [(1, 1, 2), (2, 1, 1), (3, 7, 2), (4, 2, 1)] {
                         let request = Request {
                             n,
                             search,
                             w,
                             t: 0,
+                            measure,
                             row,
                             column,
                         };
                         searched(&mut group, &pair, request, refusal);
                     }
-                    let question = Measuring {
-                        n,
-                        row,
-                        column,
-                        dy: 0,
-                        dx: 0,
-                    };
-                    measured(&mut group, &pair, question, refusal);
+                    for measure in [1, 2] {
+                        let question = Measuring {
+                            n,
+                            row,
+                            column,
+                            dy: 0,
+                            dx: 0,
+                            measure,
+                        };
+                        measured(&mut group, &pair, question, refusal);
+                    }
                     let inside = row < height && column <= last_column;
                     for side in [0, 1] {
                         let question = Viewing {
@@ -292,14 +366,17 @@ fn vectors_and_sides() -> u64 {
                     && (-16..=16).contains(&dx)
                     && (0..=(height - n) as i64).contains(&top)
                     && (0..=(width - n) as i64).contains(&left);
-                let question = Measuring {
-                    n,
-                    row,
-                    column,
-                    dy,
-                    dx,
-                };
-                measured(&mut group, &pair, question, if allowed { 0 } else { 8 });
+                for measure in [1, 2] {
+                    let question = Measuring {
+                        n,
+                        row,
+                        column,
+                        dy,
+                        dx,
+                        measure,
+                    };
+                    measured(&mut group, &pair, question, if allowed { 0 } else { 8 });
+                }
             }
         }
         for side in [0, 1, 2, 3, 255, 256, 257, 65536, 1 << 31, u32::MAX] {
@@ -337,11 +414,18 @@ pub fn choices(order: &[i64]) -> Vec<Vec<i64>> {
 /// "Checked in this order, as far as a call has the input": inputs that break any choice of rules answer with the first of them.
 fn order() -> u64 {
     let mut group = Group::new("order of refusals");
-    for rules in choices(&[1, 2, 3, 4, 5, 6, 7]) {
+    for rules in choices(&[1, 2, 3, 4, 51, 5, 6, 7]) {
         let first = rules.first().copied().unwrap_or(0);
         let broken = |rule| rules.contains(&rule);
         let pair = broken_pair(&rules);
-        for (good, bad) in [(1, 0), (2, 5), (3, 6), (4, u32::MAX)] {
+        // By absolute and by squares in turn.
+        for (good, bad, measure, over, none) in [
+            (1, 0, 1, 65_281, 3),
+            (2, 5, 2, 16_646_401, 0),
+            (3, 6, 1, 65_281, 257),
+            (4, 5, 1, 65_281, 258),
+            (4, u32::MAX, 2, 16_646_401, u32::MAX),
+        ] {
             let request = Request {
                 n: if broken(3) { 5 } else { 4 },
                 search: if broken(4) { bad } else { good },
@@ -350,24 +434,31 @@ fn order() -> u64 {
                     (false, 3) => 7,
                     (false, _) => 4,
                 },
-                t: if broken(6) { 65281 } else { 0 },
+                t: if broken(6) { over } else { 0 },
+                measure: if broken(51) { none } else { measure },
                 row: if broken(7) { 5 } else { 4 },
                 column: 4,
             };
             searched(&mut group, &pair, request, first);
         }
     }
-    for rules in choices(&[1, 2, 3, 7, 8]) {
+    for rules in choices(&[1, 2, 3, 51, 7, 8]) {
         let first = rules.first().copied().unwrap_or(0);
         let broken = |rule| rules.contains(&rule);
         let pair = broken_pair(&rules);
-        for far in [-17, 17, i32::MIN, i32::MAX] {
+        for (far, measure, none) in [
+            (-17, 1, 0),
+            (17, 2, 3),
+            (i32::MIN, 1, 257),
+            (i32::MAX, 2, u32::MAX),
+        ] {
             let question = Measuring {
                 n: if broken(3) { 16 } else { 4 },
                 row: if broken(7) { usize::MAX } else { 4 },
                 column: 4,
                 dy: if broken(8) { far } else { -4 },
                 dx: 0,
+                measure: if broken(51) { none } else { measure },
             };
             measured(&mut group, &pair, question, first);
         }
@@ -436,12 +527,23 @@ fn table() -> u64 {
             for (row, column) in places {
                 for search in [0, 1, 2, 3, 4, 5] {
                     for w in [0, 1, 2, 3, 4, 7, 8, 16, 17, 32] {
-                        for t in [0, 1, 65280, 65281] {
+                        for (t, measure) in [
+                            (0, 1),
+                            (1, 1),
+                            (65_280, 1),
+                            (65_281, 1),
+                            (0, 2),
+                            (65_281, 2),
+                            (16_646_400, 2),
+                            (16_646_401, 2),
+                            (0, 3),
+                        ] {
                             let request = Request {
                                 n,
                                 search,
                                 w,
                                 t,
+                                measure,
                                 row,
                                 column,
                             };
@@ -452,16 +554,19 @@ fn table() -> u64 {
                     }
                 }
                 for (dy, dx) in [(0, 0), (-1, 0), (0, 1), (17, 0), (0, -17), (i32::MIN, 0)] {
-                    let question = Measuring {
-                        n,
-                        row,
-                        column,
-                        dy,
-                        dx,
-                    };
-                    let answer = archive::measure(&pair, &question);
-                    let wanted = rival::measure(&pair, &question);
-                    others.same(format_args!("{pair}, {question}"), answer, wanted);
+                    for measure in [1, 2, 3] {
+                        let question = Measuring {
+                            n,
+                            row,
+                            column,
+                            dy,
+                            dx,
+                            measure,
+                        };
+                        let answer = archive::measure(&pair, &question);
+                        let wanted = rival::measure(&pair, &question);
+                        others.same(format_args!("{pair}, {question}"), answer, wanted);
+                    }
                 }
                 for side in [0, 1, 2] {
                     let question = Viewing {
@@ -486,6 +591,7 @@ pub fn run() -> u64 {
         + lengths()
         + block_sizes()
         + searches()
+        + measures()
         + block_places()
         + vectors_and_sides()
         + order()

@@ -5,7 +5,7 @@ use crate::archive;
 use crate::edges::{choices, pair_of, pair_with_lengths, ABOVE_32, TOP_BIT};
 use crate::fields::BEHIND;
 use crate::group::Group;
-use crate::question::{FieldAnswer, FieldRequest, Lent, Pair, Track};
+use crate::question::{FieldAnswer, FieldRequest, Lent, Pair, Track, MEASURES, NO_MEASURES};
 use crate::reckoning::{self, NEW};
 use crate::worked::{flat, frames_of_b};
 
@@ -32,8 +32,14 @@ fn needed(pair: &Pair, n: usize) -> (usize, usize) {
     (3 * blocks, (pair.width + 1) * (pair.height + 1))
 }
 
-fn asks(n: usize, search: u32, w: usize, t: u32) -> FieldRequest {
-    FieldRequest { n, search, w, t }
+fn asks(n: usize, search: u32, w: usize, t: u32, measure: u32) -> FieldRequest {
+    FieldRequest {
+        n,
+        search,
+        w,
+        t,
+        measure,
+    }
 }
 
 fn stands(homed: bool, y: i32, x: i32, steps: u32) -> Track {
@@ -86,10 +92,12 @@ fn asked(
     }
 }
 
-/// Refusals 1, 2 and 3.
-fn pairs() -> u64 {
-    let mut group = Group::new("fields and steps, edges of sizes, frames and N");
-    let plain = |n| asks(n, 1, 0, 0);
+/// Refusals 1, 2 and 3, by one measure.
+fn pairs((measure, by): (u32, &str)) -> u64 {
+    let mut group = Group::new(format!(
+        "fields and steps, {by}, edges of sizes, frames and N"
+    ));
+    let plain = |n| asks(n, 1, 0, 0, measure);
     for (width, height, n, refusal) in [
         (4, 4, 4, 0),
         (3, 4, 4, 1),
@@ -130,37 +138,60 @@ fn pairs() -> u64 {
     group.end()
 }
 
-/// Refusals 4, 5 and 6.
+/// Refusals 4, 51, 5 and 6.
 fn requests() -> u64 {
-    let mut group = Group::new("fields and steps, edges of search, w and T");
+    let mut group = Group::new("fields and steps, edges of search, measure, w and T");
     let pair = pair_of(64, 48);
-    for (search, w, t, refusal) in [
-        (0, 1, 0, 4),
-        (5, 1, 0, 4),
-        (u32::MAX, 1, 0, 4),
-        (1, 0, 0, 0),
-        (1, 16, 0, 0),
-        (1, 17, 0, 5),
-        (2, 0, 0, 0),
-        (2, 16, 0, 0),
-        (2, 17, 0, 5),
-        (2, usize::MAX, 0, 5),
-        (3, 6, 0, 5),
-        (3, 7, 0, 0),
-        (3, 8, 0, 5),
-        (4, 2, 0, 0),
-        (4, 3, 0, 5),
-        (4, 16, 0, 0),
-        (4, 32, 0, 5),
-        (4, 4, 65_280, 0),
-        (4, 4, 65_281, 6),
-        (4, 4, u32::MAX, 6),
-        (1, 7, 1, 6),
-        (2, 7, 1, 6),
-        (3, 7, 1, 6),
+    for (search, w, t, measure, refusal) in [
+        (0, 1, 0, 1, 4),
+        (5, 1, 0, 2, 4),
+        (u32::MAX, 1, 0, 1, 4),
+        (0, 1, 0, 3, 4),
+        (1, 0, 0, 1, 0),
+        (1, 16, 0, 1, 0),
+        (1, 16, 0, 2, 0),
+        (1, 17, 0, 1, 5),
+        (1, 17, 0, 2, 5),
+        (2, 0, 0, 1, 0),
+        (2, 0, 0, 2, 0),
+        (2, 16, 0, 1, 0),
+        (2, 16, 0, 2, 0),
+        (2, 17, 0, 1, 5),
+        (2, 17, 0, 3, 51),
+        (2, usize::MAX, 0, 1, 5),
+        (3, 6, 0, 1, 5),
+        (3, 7, 0, 1, 0),
+        (3, 7, 0, 2, 0),
+        (3, 8, 0, 1, 5),
+        (4, 2, 0, 1, 0),
+        (4, 3, 0, 1, 5),
+        (4, 16, 0, 2, 0),
+        (4, 32, 0, 2, 5),
+        (4, 4, 65_280, 1, 0),
+        (4, 4, 65_281, 1, 6),
+        (4, 4, 65_281, 2, 0),
+        (4, 4, 16_646_400, 2, 0),
+        (4, 4, 16_646_401, 2, 6),
+        (4, 4, u32::MAX, 1, 6),
+        (4, 4, u32::MAX, 2, 6),
+        (4, 4, u32::MAX, 0, 51),
+        (1, 7, 1, 1, 6),
+        (2, 7, 1, 1, 6),
+        (3, 7, 1, 1, 6),
+        (1, 7, 1, 2, 6),
+        (2, 7, 1, 2, 6),
+        (3, 7, 1, 2, 6),
     ] {
-        let request = asks(16, search, w, t);
+        let request = asks(16, search, w, t, measure);
         asked(&mut group, &pair, request, (36, 3185), refusal);
+    }
+    for measure in NO_MEASURES {
+        for (search, w) in [(1, 7), (2, 7), (3, 7), (4, 8)] {
+            let request = asks(16, search, w, 0, measure);
+            asked(&mut group, &pair, request, (36, 3185), 51);
+            // Before 9 and 10.
+            asked(&mut group, &pair, request, (35, 0), 51);
+        }
     }
     group.end()
 }
@@ -169,7 +200,7 @@ fn requests() -> u64 {
 fn lengths() -> u64 {
     let mut group = Group::new("fields and steps, edges of list and table");
     let pair = pair_of(64, 48);
-    for (search, w) in [(1, 7), (2, 7), (3, 7), (4, 8)] {
+    for (search, w, measure) in [(1, 7, 1), (2, 7, 1), (2, 7, 2), (3, 7, 2), (4, 8, 2)] {
         let no_table = if search == 2 { 9 } else { 0 };
         for (list, table, refusal) in [
             (36, 3185, 0),
@@ -179,7 +210,7 @@ fn lengths() -> u64 {
             (35, 3185, 10),
             (0, 3185, 10),
         ] {
-            let request = asks(16, search, w, 0);
+            let request = asks(16, search, w, 0, measure);
             asked(&mut group, &pair, request, (list, table), refusal);
         }
     }
@@ -193,8 +224,8 @@ fn table_of_b() -> Vec<u32> {
 }
 
 /// A step of B by search 2 whose lent memory is longer than it need be: refused so, or with 0 taken one to the left. With 0 and 33 the
-/// list has B's block and the table its sums, else both are as they were.
-fn step_of_b(group: &mut Group, track: Track, refusal: i64) {
+/// list has B's block and the table its sums, else both are as they were. By squares all of this is the same.
+fn step_of_b(group: &mut Group, track: Track, measure: u32, refusal: i64) {
     let wanted = match refusal {
         0 => {
             let there = stands(true, track.y, track.x - 1, track.steps + 1);
@@ -207,19 +238,19 @@ fn step_of_b(group: &mut Group, track: Track, refusal: i64) {
         kept.list[..3].copy_from_slice(&[0, 1, 0]);
         kept.table[..30].copy_from_slice(&table_of_b());
     }
-    let request = asks(4, 2, 1, 0);
+    let request = asks(4, 2, 1, 0, measure);
     let (mut here, mut there) = (lent(14, 100), lent(14, 100));
     let stepped = archive::step(track, &frames_of_b(), &request, &mut here);
     let own = reckoning::step(track, &frames_of_b(), &request, &mut there);
-    let inputs = format!("{track:?}, step of B");
+    let inputs = format!("{track:?}, step of B, measure {measure}");
     group.same(&inputs, (stepped, own), (wanted, wanted));
     group.same(&inputs, (&here, &there), (&kept, &kept));
 }
 
 /// B asked so that any choice of rules is broken: the first of them answers, the track's rules last.
-fn order() -> u64 {
-    let mut group = Group::new("fields and steps, order of refusals");
-    for rules in choices(&[1, 2, 3, 4, 5, 6, 9, 10, 31, 32, 33]) {
+fn order((measure, by): (u32, &str)) -> u64 {
+    let mut group = Group::new(format!("fields and steps, {by}, order of refusals"));
+    for rules in choices(&[1, 2, 3, 4, 51, 5, 6, 9, 10, 31, 32, 33]) {
         let first = rules.first().copied().unwrap_or(0);
         let broken = |rule| rules.contains(&rule);
         let mut pair = frames_of_b();
@@ -232,7 +263,8 @@ fn order() -> u64 {
         let n = if broken(3) { 5 } else { 4 };
         let search = if broken(4) { 0 } else { 2 };
         let w = if broken(5) { 17 } else { 1 };
-        let request = asks(n, search, w, u32::from(broken(6)));
+        let measure = if broken(51) { measure + 256 } else { measure };
+        let request = asks(n, search, w, u32::from(broken(6)), measure);
         let x = if broken(33) { -END } else { 20 };
         let steps = if broken(32) { 1_000_000 } else { 0 };
         let track = stands(!broken(31), 10, x, steps);
@@ -241,7 +273,11 @@ fn order() -> u64 {
 
         let mut here = before.clone();
         let answer = archive::field(&pair, &request, &mut here);
-        let wanted = if first < 31 { first } else { 0 };
+        let wanted = if [31, 32, 33].contains(&first) {
+            0
+        } else {
+            first
+        };
         let inputs = format!("{rules:?}, {pair}, {request}, {before}");
         group.same(&inputs, answer.refusal, wanted);
         group.same(&inputs, here != before, wanted == 0);
@@ -290,21 +326,42 @@ fn whole_fields() -> u64 {
         height: 7,
     };
     let wanted = FieldAnswer::accepted((0, 0), 2, [0, 0, 2, 2, 2], 0);
-    field_of(&mut group, &pair, asks(4, 2, 0, 0), wanted, &[0; 6]);
+    for measure in [1, 2] {
+        let request = asks(4, 2, 0, 0, measure);
+        field_of(&mut group, &pair, request, wanted, &[0; 6]);
+    }
 
+    // The table has sums of pels by each measure.
     let pair = flat(1024, 1024, 255, 0);
     let wanted = FieldAnswer::accepted((0, 0), 4096, [4096; 5], 0);
-    let list = [0, 0, 65_280].repeat(4096);
-    field_of(&mut group, &pair, asks(16, 2, 0, 0), wanted, &list);
-    let mut lent = lent(3 * 4096, 1025 * 1025);
-    archive::field(&pair, &asks(16, 2, 0, 0), &mut lent);
-    let last = lent.table[1025 * 1025 - 1];
-    group.same("the greatest sum", last, 267_386_880);
+    for (measure, most) in [(1, 65_280), (2, 16_646_400)] {
+        let request = asks(16, 2, 0, 0, measure);
+        let list = [0, 0, most].repeat(4096);
+        field_of(&mut group, &pair, request, wanted, &list);
+        let mut lent = lent(3 * 4096, 1025 * 1025);
+        archive::field(&pair, &request, &mut lent);
+        let last = lent.table[1025 * 1025 - 1];
+        group.same("the greatest sum", last, 267_386_880);
+    }
 
     let pair = flat(8, 8, 7, 7);
     for (search, w, t, count) in [(3, 7, 0, 28), (4, 2, 0, 16), (4, 2, 1, 4)] {
         let wanted = FieldAnswer::accepted((0, 0), 4, [0, 0, 0, 0, count], 0);
-        field_of(&mut group, &pair, asks(4, search, w, t), wanted, &[0; 12]);
+        for measure in [1, 2] {
+            let request = asks(4, search, w, t, measure);
+            field_of(&mut group, &pair, request, wanted, &[0; 12]);
+        }
+    }
+
+    // Every pel 9 apart, 16 × 9 and 16 × 81: a T that is one more ends each block's search at (0,0), a T of just that does not.
+    let pair = flat(8, 8, 7, 16);
+    for (measure, distortion) in [(1, 144), (2, 1296)] {
+        for (t, count) in [(distortion, 16), (distortion + 1, 4)] {
+            let wanted = FieldAnswer::accepted((0, 0), 4, [0, 0, 0, 0, count], 0);
+            let request = asks(4, 4, 2, t as u32, measure);
+            let list = [0, 0, distortion].repeat(4);
+            field_of(&mut group, &pair, request, wanted, &list);
+        }
     }
     group.end()
 }
@@ -364,7 +421,8 @@ fn stepping() -> u64 {
         (stands(true, 0, i32::MIN, 0), 33),
         (stands(true, i32::MAX, 0, 0), 33),
     ] {
-        step_of_b(&mut group, track, refusal);
+        step_of_b(&mut group, track, 1, refusal);
+        step_of_b(&mut group, track, 2, refusal);
     }
     // B turned by a right angle travels up.
     let turned = Pair {
@@ -378,10 +436,14 @@ fn stepping() -> u64 {
     let up = FieldAnswer::accepted((1, 0), 1, [0, 0, 2, 2, 1], 1);
     let still = |count| FieldAnswer::accepted((0, 0), 4, [0, 0, 0, 0, count], 0);
     for (pair, request, answer, y, x) in [
-        (&b, asks(4, 1, 1, 0), full, 10, 19),
-        (&turned, asks(4, 2, 1, 0), up, 9, 20),
-        (&c, asks(4, 3, 7, 0), still(28), 10, 20),
-        (&c, asks(4, 4, 2, 9), still(4), 10, 20),
+        (&b, asks(4, 1, 1, 0, 1), full, 10, 19),
+        (&b, asks(4, 1, 1, 0, 2), full, 10, 19),
+        (&turned, asks(4, 2, 1, 0, 1), up, 9, 20),
+        (&turned, asks(4, 2, 1, 0, 2), up, 9, 20),
+        (&c, asks(4, 3, 7, 0, 1), still(28), 10, 20),
+        (&c, asks(4, 3, 7, 0, 2), still(28), 10, 20),
+        (&c, asks(4, 4, 2, 9, 1), still(4), 10, 20),
+        (&c, asks(4, 4, 2, 9, 2), still(4), 10, 20),
     ] {
         let (list, table) = needed(pair, 4);
         let track = stands(true, 10, 20, 0);
@@ -396,5 +458,7 @@ fn stepping() -> u64 {
 
 /// All edges of fields and of the track; answers with the number of mismatches.
 pub fn run() -> u64 {
-    pairs() + requests() + lengths() + order() + whole_fields() + homing() + stepping()
+    let by_measure = MEASURES.map(|measure| pairs(measure) + order(measure));
+    let mismatches: u64 = by_measure.into_iter().sum();
+    mismatches + requests() + lengths() + whole_fields() + homing() + stepping()
 }

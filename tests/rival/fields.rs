@@ -1,11 +1,12 @@
-//! Fields over made-up pairs: every answer, every place of the lent list and of the lent table, and a few places behind them, must
+//! Fields over made-up pairs, by both measures: every answer, every place of the lent list and of the lent table, and a few places behind them, must
 //! be what the rival's field leaves there.
 
 use crate::archive;
 use crate::group::Group;
 use crate::pictures::{made_up, Chance, Kind, KINDS};
-use crate::question::{FieldRequest, Lent, Pair};
+use crate::question::{FieldRequest, Lent, Pair, MEASURES, NO_MEASURES};
 use crate::reckoning;
+use crate::rival::largest_threshold;
 
 /// So many places stand behind what is lent.
 pub const BEHIND: usize = 5;
@@ -46,23 +47,29 @@ pub fn lend_for(chance: &mut Chance, pair: &Pair, request: &FieldRequest) -> Len
     lend(chance, list_length, table_length)
 }
 
-/// A request that is accepted, for blocks of size N.
-pub fn good_request(chance: &mut Chance, n: usize, search: u32) -> FieldRequest {
+/// A request that is accepted, for blocks of size N. All but T is the same by each measure.
+pub fn good_request(chance: &mut Chance, n: usize, search: u32, measure: u32) -> FieldRequest {
     let w = match search {
         1 | 2 => chance.one_of(&[0, 1, 2, 3, 5, 7, 8, 16]),
         3 => 7,
         _ => chance.one_of(&[2, 4, 8, 16]),
     };
     let t = match search {
-        4 => chance.one_of(&[0, 0, 1, 100, 65280]),
+        4 => chance.one_of(&[0, 0, 1, 100, 5000, largest_threshold(measure)]),
         _ => 0,
     };
-    FieldRequest { n, search, w, t }
+    FieldRequest {
+        n,
+        search,
+        w,
+        t,
+        measure,
+    }
 }
 
 /// Now and then one thing about a pair or a request is set wrong.
 pub fn spoil(chance: &mut Chance, pair: &mut Pair, request: &mut FieldRequest) {
-    match chance.between(0, 7) {
+    match chance.between(0, 8) {
         0 => pair.width = chance.one_of(&[0, 3, 1025, usize::MAX]),
         1 => pair.height = chance.one_of(&[0, 3, 1025, usize::MAX]),
         2 => drop(pair.older.pop()),
@@ -70,7 +77,11 @@ pub fn spoil(chance: &mut Chance, pair: &mut Pair, request: &mut FieldRequest) {
         4 => request.n = chance.one_of(&[0, 2, 5, 12, 32]),
         5 => request.search = chance.one_of(&[0, 5, u32::MAX]),
         6 => request.w = chance.one_of(&[17, 6, 32, usize::MAX]),
-        _ => request.t = chance.one_of(&[1, 65281, u32::MAX]),
+        7 => request.measure = chance.one_of(&NO_MEASURES),
+        _ => {
+            let over = largest_threshold(request.measure) + 1;
+            request.t = chance.one_of(&[1, over, u32::MAX]);
+        }
     }
 }
 
@@ -93,15 +104,15 @@ fn hold_field(group: &mut Group, seed: u64, pair: &Pair, request: &FieldRequest,
     group.same(&inputs, here.table, there.table);
 }
 
-/// One search over all kinds of pairs, every N, and lent memory of all lengths.
-fn by_search(search: u32, name: &str, rounds: u64) -> u64 {
-    let mut group = Group::new(format!("fields, {name}"));
+/// One search by one measure over all kinds of pairs, every N, and lent memory of all lengths.
+fn by_search(search: u32, name: &str, (measure, by): (u32, &str), rounds: u64) -> u64 {
+    let mut group = Group::new(format!("fields, {by}, {name}"));
     for seed in 0..rounds {
         let seed = 80_000 + 2_000 * search as u64 + seed;
         let chance = &mut Chance::new(seed);
         let (kind, _) = KINDS[seed as usize % KINDS.len()];
         let n = chance.one_of(&[4, 4, 4, 8, 8, 16]);
-        let request = good_request(chance, n, search);
+        let request = good_request(chance, n, search, measure);
         let pair = few_blocks(chance, kind, n, request.w);
         let lent = lend_for(chance, &pair, &request);
         hold_field(&mut group, seed, &pair, &request, &lent);
@@ -116,7 +127,8 @@ fn spoilt() -> u64 {
         let chance = &mut Chance::new(seed);
         let n = chance.one_of(&[4, 8]);
         let search = chance.between(1, 4) as u32;
-        let mut request = good_request(chance, n, search);
+        let measure = chance.one_of(&[1, 2]);
+        let mut request = good_request(chance, n, search, measure);
         request.w = request.w.min(8);
         let mut pair = few_blocks(chance, Kind::Noisy, n, 2);
         spoil(chance, &mut pair, &mut request);
@@ -141,7 +153,8 @@ fn edges() -> u64 {
             let list = 3 * (width / n) * (height / n);
             let table = (width + 1) * (height + 1);
             for search in 1..=4 {
-                let mut request = good_request(chance, n, search);
+                let measure = chance.one_of(&[1, 2]);
+                let mut request = good_request(chance, n, search, measure);
                 request.w = [2, 2, 7, 2][search as usize - 1];
                 for (list_length, table_length) in [
                     (list, table),
@@ -175,15 +188,18 @@ fn large_frames() -> u64 {
             let chance = &mut Chance::new(seed);
             let kind = chance.one_of(&[Kind::Noisy, Kind::Extreme, Kind::Moved]);
             let pair = made_up(chance, kind, width, height, 1);
-            let request = FieldRequest {
-                n,
-                search: 2,
-                w: 1,
-                t: 0,
-            };
             let blocks = (width / n) * (height / n);
             let lent = lend(chance, 3 * blocks, (width + 1) * (height + 1));
-            hold_field(&mut group, seed, &pair, &request, &lent);
+            for (measure, _) in MEASURES {
+                let request = FieldRequest {
+                    n,
+                    search: 2,
+                    w: 1,
+                    t: 0,
+                    measure,
+                };
+                hold_field(&mut group, seed, &pair, &request, &lent);
+            }
         }
     }
     group.end()
@@ -192,8 +208,10 @@ fn large_frames() -> u64 {
 /// All fields; answers with the number of mismatches.
 pub fn run() -> u64 {
     let mut mismatches = 0;
-    for (search, name) in [(1, "full"), (2, "pruned"), (3, "four-step"), (4, "cross")] {
-        mismatches += by_search(search, name, 1500);
+    for measure in MEASURES {
+        for (search, name) in [(1, "full"), (2, "pruned"), (3, "four-step"), (4, "cross")] {
+            mismatches += by_search(search, name, measure, 1500);
+        }
     }
     mismatches + spoilt() + edges() + large_frames()
 }

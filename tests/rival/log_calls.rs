@@ -36,10 +36,10 @@ impl fmt::Display for Case<'_> {
 
 /// How often each refusal came in each call (0: accepted), and how often a block was turned away for one fault alone.
 struct Met {
-    writing: [u64; 35],
-    reading: [u64; 35],
-    printing: [u64; 35],
-    walking: [u64; 35],
+    writing: [u64; 52],
+    reading: [u64; 52],
+    printing: [u64; 52],
+    walking: [u64; 52],
     faults_written: [u64; FAULTS.len()],
     faults_in_logs: [u64; FAULTS.len()],
 }
@@ -91,10 +91,10 @@ impl Logs {
             printing: Group::new("logs, printing"),
             walking: Group::new("logs, walking"),
             met: Met {
-                writing: [0; 35],
-                reading: [0; 35],
-                printing: [0; 35],
-                walking: [0; 35],
+                writing: [0; 52],
+                reading: [0; 52],
+                printing: [0; 52],
+                walking: [0; 52],
                 faults_written: [0; FAULTS.len()],
                 faults_in_logs: [0; FAULTS.len()],
             },
@@ -236,13 +236,20 @@ impl Logs {
             self.walking.holds(what, all, &counts, &"each met");
         };
         for (what, counts, wanted) in [
-            ("writing", &met.writing, [0, 1, 3, 4, 5, 10, 16, 19]),
-            ("reading", &met.reading, [0, 10, 13, 14, 15, 16, 17, 18]),
-            ("printing", &met.printing, [13, 14, 15, 16, 17, 18, 20, 34]),
-            ("walking", &met.walking, [0, 13, 14, 15, 16, 17, 18, 34]),
+            (
+                "writing",
+                &met.writing,
+                &[0, 1, 3, 4, 51, 5, 10, 16, 19][..],
+            ),
+            ("reading", &met.reading, &[0, 10, 13, 14, 15, 16, 17, 18]),
+            ("printing", &met.printing, &[13, 14, 15, 16, 17, 18, 20, 34]),
+            ("walking", &met.walking, &[0, 13, 14, 15, 16, 17, 18, 34]),
         ] {
-            let counts = wanted.map(|refusal| (refusal.to_string(), counts[refusal]));
-            each(&format!("logs, refusals of {what}"), counts.to_vec());
+            let met = |&refusal: &usize| (refusal.to_string(), counts[refusal]);
+            each(
+                &format!("logs, refusals of {what}"),
+                wanted.iter().map(met).collect(),
+            );
         }
         // A list has no command 2, and a log cannot say a distortion below 0.
         for (what, counts, not) in [

@@ -14,6 +14,7 @@ use crate::worked::{HEAD_OF_C, LOG_OF_B, LOG_OF_C};
 const BYTE: u8 = 77;
 const NUMBER: i32 = -9;
 
+/// A head of measure 1.
 fn head_of(width: usize, height: usize, n: usize, w: usize, search: u32) -> Head {
     Head {
         width,
@@ -21,6 +22,7 @@ fn head_of(width: usize, height: usize, n: usize, w: usize, search: u32) -> Head
         n,
         w,
         search,
+        measure: 1,
     }
 }
 
@@ -57,10 +59,11 @@ fn log_written(group: &mut Group, head: Head, list: &[i32], log: &[u8]) {
     writes(group, head, list, log.len() + 9, wanted, log);
 }
 
-/// Refusals 1 3 4 5 of a head that is to be written.
+/// Refusals 1 3 4 51 5 of a head that is to be written.
 fn heads_written() -> u64 {
     let mut group = Group::new("logs, heads that are written");
     let still = [0; 12];
+    let by = |measure, head| Head { measure, ..head };
     for (head, refusal) in [
         (head_of(3, 8, 4, 1, 2), 1),
         (head_of(1025, 8, 4, 1, 2), 1),
@@ -78,6 +81,22 @@ fn heads_written() -> u64 {
         (head_of(8, 8, 4, 1, 258), 4),
         (head_of(8, 8, 4, 257, 2), 5),
         (head_of(8, 8, 4, 1, 3), 5),
+        // No log has any measure but 1: after 4, before 5.
+        (by(2, head_of(8, 8, 4, 1, 2)), 51),
+        (by(2, head_of(8, 8, 4, 1, 1)), 51),
+        (by(2, head_of(8, 8, 4, 7, 3)), 51),
+        (by(2, head_of(8, 8, 4, 2, 4)), 51),
+        (by(0, head_of(8, 8, 4, 1, 2)), 51),
+        (by(3, head_of(8, 8, 4, 1, 2)), 51),
+        (by(257, head_of(8, 8, 4, 1, 2)), 51),
+        (by(65_537, head_of(8, 8, 4, 1, 2)), 51),
+        (by(u32::MAX, head_of(8, 8, 4, 1, 2)), 51),
+        (by(2, head_of(8, 8, 4, 257, 2)), 51),
+        (by(2, head_of(8, 8, 4, 1, 3)), 51),
+        (by(2, head_of(8, 8, 4, 1, 5)), 4),
+        (by(0, head_of(8, 8, 4, 1, 0)), 4),
+        (by(2, head_of(8, 7, 8, 1, 2)), 3),
+        (by(2, head_of(8, 3, 4, 1, 2)), 1),
     ] {
         writing_refused(&mut group, head, &still, 200, refusal, 0);
         // All of these come before 10.
@@ -149,10 +168,10 @@ fn entries_written() -> u64 {
     group.end()
 }
 
-/// Writing: inputs that break any choice of 1 3 4 5 10 16 19 answer with the first of them, and leave the buffer as it was.
+/// Writing: inputs that break any choice of 1 3 4 51 5 10 16 19 answer with the first of them, and leave the buffer as it was.
 fn order_of_writing() -> u64 {
     let mut group = Group::new("logs, order of refusals in writing");
-    for rules in choices(&[1, 3, 4, 5, 10, 16, 19]) {
+    for rules in choices(&[1, 3, 4, 51, 5, 10, 16, 19]) {
         let first = rules.first().copied().unwrap_or(0);
         let broken = |rule| rules.contains(&rule);
         for bad in 0..3 {
@@ -170,6 +189,7 @@ fn order_of_writing() -> u64 {
                     4
                 },
                 search: if broken(4) { [0, 5, u32::MAX][bad] } else { 2 },
+                measure: if broken(51) { [2, 0, 257][bad] } else { 1 },
             };
             // Three still blocks, and three others below them.
             let mut list = vec![0; 9];

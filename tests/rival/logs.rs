@@ -2,9 +2,10 @@
 //! command; the reader and the printer go along with it from the start; the writer puts a log's bytes together.
 
 use crate::question::{Cursor, Head, LogRead, Walked, Written};
-use crate::rival::{is_refused_n, is_refused_size, plain, refused_window};
+use crate::rival::{is_refused_n, is_refused_search, is_refused_size, is_refused_window, plain};
 
-/// The number of the first of 1 3 4 5 that applies to a head's numbers, or 0: "15 head that 1, 3, 4 or 5 would turn away".
+/// The number of the first of 1 3 4 51 5 that applies to a head that is to be written, or 0: "51, [...] a log to be written with measure
+/// 2, tested after 4".
 pub fn refused_head(head: &Head) -> i64 {
     let (width, height, n) = (plain(head.width), plain(head.height), plain(head.n));
     if is_refused_size(width, height) {
@@ -13,7 +14,30 @@ pub fn refused_head(head: &Head) -> i64 {
     if is_refused_n(width, height, n) {
         return 3;
     }
-    refused_window(head.search as i64, plain(head.w))
+    if is_refused_search(head.search as i64) {
+        return 4;
+    }
+    // "Logs carry measure 1 only for now."
+    if head.measure != 1 {
+        return 51;
+    }
+    if is_refused_window(head.search as i64, plain(head.w)) {
+        return 5;
+    }
+    0
+}
+
+/// A head of a log, which has no measure in its bytes: it is taken for 1.
+pub fn in_log(head: &Head) -> Head {
+    Head {
+        measure: 1,
+        ..*head
+    }
+}
+
+/// "15 head that 1, 3, 4 or 5 would turn away", whatever measure stands beside it.
+fn is_turned_away(head: &Head) -> bool {
+    refused_head(&in_log(head)) != 0
 }
 
 /// "The grid has (height / N, rounded down) × (width / N, rounded down) blocks", for a head that is not refused.
@@ -107,13 +131,14 @@ fn head_values(command: &[u8]) -> Head {
         n: number(&command[5..6]) as usize,
         w: number(&command[6..7]) as usize,
         search: number(&command[7..8]) as u32,
+        measure: 1,
     }
 }
 
 /// "A walker over a lent log hands out one command a call."
 pub fn walk(log: &[u8], cursor: Cursor) -> Walked {
     let (at, length) = (plain(cursor.at), plain(log.len()));
-    let Cursor { head, blocks, .. } = cursor;
+    let (head, blocks) = (in_log(&cursor.head), cursor.blocks);
     // After any refusal the walk is over, and the cursor keeps its place.
     let refused = |refusal, place| Walked {
         refusal,
@@ -140,7 +165,7 @@ pub fn walk(log: &[u8], cursor: Cursor) -> Walked {
     }
     // "Whose head numbers (once a head is read) 15 would turn away, or whose blocks exceed the grid."
     let head_read = cursor.phase == 1;
-    if head_read && (refused_head(&head) != 0 || blocks > blocks_of(&head)) {
+    if head_read && (is_turned_away(&head) || blocks > blocks_of(&head)) {
         return refused(34, 0);
     }
 
@@ -177,6 +202,7 @@ pub fn walk(log: &[u8], cursor: Cursor) -> Walked {
         command: command as i64,
         next: Cursor {
             at: cursor.at + size,
+            head,
             ..cursor
         },
         ..Walked::default()
@@ -187,7 +213,7 @@ pub fn walk(log: &[u8], cursor: Cursor) -> Walked {
             handed_out.next.phase = 1;
             handed_out.next.head = handed_out.head;
             handed_out.next.blocks = 0;
-            if refused_head(&handed_out.head) != 0 {
+            if is_turned_away(&handed_out.head) {
                 return refused(15, at);
             }
         }
@@ -270,8 +296,8 @@ pub fn bytes_of(head: &Head, list: &[i32]) -> Vec<u8> {
     log
 }
 
-/// "Writing tests 1, 3, 4, 5, 10, then 16 with the block's number, from 0, as place, then 19: buffer shorter than the log." "Writing
-/// answers with the log's length."
+/// "Writing tests 1, 3, 4, 5, 10, then 16 with the block's number, from 0, as place, then 19: buffer shorter than the log", and 51
+/// after 4. "Writing answers with the log's length."
 pub fn write_log(head: &Head, list: &[i32], buffer: &mut [u8]) -> Written {
     let refused = |refusal, place| Written {
         refusal,
@@ -318,6 +344,7 @@ pub fn print_log(log: &[u8]) -> String {
             n,
             w,
             search,
+            ..
         } = walked.head;
         text += &match walked.command {
             1 => format!("{width} {height} {n} {w} {search}\n"),

@@ -35,6 +35,7 @@ const MOST_BLOCKS: Head = Head {
     n: 4,
     w: 16,
     search: 2,
+    measure: 1,
 };
 
 /// 253 × 255 blocks, 252 of them no still blocks: an accepted log of 65,536 bytes.

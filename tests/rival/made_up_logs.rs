@@ -38,6 +38,7 @@ fn good_head(chance: &mut Chance) -> Head {
         n,
         w: window(chance, search),
         search,
+        measure: 1,
     }
 }
 
@@ -99,13 +100,14 @@ pub fn good_log(chance: &mut Chance) -> (Head, Vec<u8>) {
 fn spoil_head(chance: &mut Chance, head: &mut Head) {
     let far = [usize::MAX, 1 << 63, 1 << 32, (1 << 32) + 8, 65_536 + 8];
     let size = [0, 3, 4, 7, 15, 1024, 1025, 65_535];
-    match chance.between(0, 6) {
+    match chance.between(0, 7) {
         0 => head.width = chance.one_of(&size),
         1 => head.height = chance.one_of(&size),
         2 => head.n = chance.one_of(&[0, 1, 5, 8, 12, 16, 17, 32, 260]),
         3 => head.w = chance.one_of(&[3, 6, 7, 8, 16, 17, 32, 258, 263]),
         4 => head.search = chance.one_of(&[0, 3, 4, 5, 255, 257, 1 << 31, u32::MAX]),
-        5 => head.width = chance.one_of(&far),
+        5 => head.measure = chance.one_of(&[0, 2, 2, 3, 255, 257, 65_537, 1 << 31, u32::MAX]),
+        6 => head.width = chance.one_of(&far),
         _ => {
             let part = [&mut head.height, &mut head.n, &mut head.w];
             *part[chance.between(0, 2) as usize] = chance.one_of(&far);
@@ -170,7 +172,8 @@ fn written(logs: &mut Logs) {
     }
 }
 
-/// Fields of made-up pairs by all searches, as the field call lists them: written, and read back as they were.
+/// Fields of made-up pairs by all searches, as the field call lists them: by absolute written, and read back as they were; by squares
+/// refused.
 fn of_fields(logs: &mut Logs) -> u64 {
     let mut group = Group::new("logs of fields");
     for seed in 310_000..312_000 {
@@ -178,7 +181,8 @@ fn of_fields(logs: &mut Logs) -> u64 {
         let (kind, _) = KINDS[seed as usize % KINDS.len()];
         let n = chance.one_of(&[4, 4, 8, 16]);
         let search = chance.between(1, 4) as u32;
-        let request = good_request(chance, n, search);
+        let measure = chance.one_of(&[1, 1, 1, 2]);
+        let request = good_request(chance, n, search, measure);
         let pair = few_blocks(chance, kind, n, request.w);
         let mut lent = lend_for(chance, &pair, &request);
         if archive::field(&pair, &request, &mut lent).refusal != 0 {
@@ -190,10 +194,19 @@ fn of_fields(logs: &mut Logs) -> u64 {
             n,
             w: request.w,
             search,
+            measure,
         };
         let list = &lent.list[..3 * blocks_of(&head)];
         let buffer_length = bytes_of(&head, list).len();
         let log = logs.write(chance, seed, &head, list, buffer_length);
+        if measure != 1 {
+            group.same(
+                format_args!("{pair}, {request}, seed {seed}"),
+                &log[..],
+                &[],
+            );
+            continue;
+        }
         let mut read = vec![0; list.len()];
         let read_length = read.len();
         let answer = archive::read_log(&log, &mut read, read_length);

@@ -1,9 +1,9 @@
-//! The measuring call and the row view over made-up pairs, places and vectors, good ones and bad ones.
+//! The measuring call, by both measures, and the row view over made-up pairs, places and vectors, good ones and bad ones.
 
 use crate::archive;
 use crate::group::Group;
 use crate::pictures::{made_up, Chance, KINDS};
-use crate::question::{Measuring, Pair, Viewing};
+use crate::question::{Measuring, Pair, Viewing, NO_MEASURES};
 use crate::rival;
 
 /// A place along one side of a frame: mostly inside, sometimes just or far outside.
@@ -63,16 +63,25 @@ pub fn run() -> u64 {
         let height = n + chance.between(0, reach) as usize;
         let pair = made_up(chance, kind, width, height, 16);
         for _ in 0..150 {
-            let question = Measuring {
-                n,
-                row: place(chance, height, n),
-                column: place(chance, width, n),
-                dy: part(chance),
-                dx: part(chance),
-            };
-            let answer = archive::measure(&pair, &question);
-            let wanted = rival::measure(&pair, &question);
-            measuring.same(format_args!("{pair}, {question}, seed {seed}"), answer, wanted);
+            let (row, column) = (place(chance, height, n), place(chance, width, n));
+            let (dy, dx) = (part(chance), part(chance));
+            for measure in [1, 2, chance.one_of(&NO_MEASURES)] {
+                let question = Measuring {
+                    n,
+                    row,
+                    column,
+                    dy,
+                    dx,
+                    measure,
+                };
+                let answer = archive::measure(&pair, &question);
+                let wanted = rival::measure(&pair, &question);
+                measuring.same(
+                    format_args!("{pair}, {question}, seed {seed}"),
+                    answer,
+                    wanted,
+                );
+            }
         }
         for _ in 0..50 {
             let question = Viewing {

@@ -4,6 +4,12 @@
 
 use std::fmt;
 
+/// The measures: "1 absolute or 2 squares".
+pub const MEASURES: [(u32, &str); 2] = [(1, "absolute"), (2, "squares")];
+
+/// Numbers that are none, some of which a careless narrowing would turn into one.
+pub const NO_MEASURES: [u32; 10] = [0, 3, 4, 255, 256, 257, 258, 65_537, 1 << 31, u32::MAX];
+
 /// A pair as it is lent: two slices and the width and height that are said to go with them. Nothing here need be valid.
 pub struct Pair {
     pub older: Vec<u8>,
@@ -19,6 +25,7 @@ pub struct Request {
     pub search: u32,
     pub w: usize,
     pub t: u32,
+    pub measure: u32,
     pub row: usize,
     pub column: usize,
 }
@@ -30,6 +37,20 @@ pub struct FieldRequest {
     pub search: u32,
     pub w: usize,
     pub t: u32,
+    pub measure: u32,
+}
+
+impl Request {
+    /// What it asks of a block, wherever that stands.
+    pub fn of_field(&self) -> FieldRequest {
+        FieldRequest {
+            n: self.n,
+            search: self.search,
+            w: self.w,
+            t: self.t,
+            measure: self.measure,
+        }
+    }
 }
 
 /// Lent memory: so many places of a list and of a table. Behind what is lent stand a few places more, to be left alone.
@@ -49,6 +70,7 @@ pub struct Measuring {
     pub column: usize,
     pub dy: i32,
     pub dx: i32,
+    pub measure: u32,
 }
 
 /// What a row view is asked, the pair apart.
@@ -112,7 +134,8 @@ pub struct Track {
     pub steps: u32,
 }
 
-/// A log's head: "width and height (2 bytes each), N, w, search (1 each)". Laid out as the header's gauge_head.
+/// A log's head: "width and height (2 bytes each), N, w, search (1 each)", and the measure, which a log's bytes do not have. Laid out
+/// as the header's gauge_head.
 #[derive(Clone, Copy, PartialEq, Eq, Debug, Default)]
 #[repr(C)]
 pub struct Head {
@@ -121,6 +144,7 @@ pub struct Head {
     pub n: usize,
     pub w: usize,
     pub search: u32,
+    pub measure: u32,
 }
 
 /// "Writing answers with the log's length"; a refused call with "the number, its place where named, and zeros elsewhere".
@@ -197,8 +221,8 @@ impl fmt::Display for Request {
     fn fmt(&self, out: &mut fmt::Formatter) -> fmt::Result {
         write!(
             out,
-            "N {}, search {}, w {}, T {}, row {}, column {}",
-            self.n, self.search, self.w, self.t, self.row, self.column
+            "N {}, search {}, w {}, T {}, measure {}, row {}, column {}",
+            self.n, self.search, self.w, self.t, self.measure, self.row, self.column
         )
     }
 }
@@ -207,8 +231,8 @@ impl fmt::Display for FieldRequest {
     fn fmt(&self, out: &mut fmt::Formatter) -> fmt::Result {
         write!(
             out,
-            "N {}, search {}, w {}, T {}",
-            self.n, self.search, self.w, self.t
+            "N {}, search {}, w {}, T {}, measure {}",
+            self.n, self.search, self.w, self.t, self.measure
         )
     }
 }
@@ -227,8 +251,8 @@ impl fmt::Display for Measuring {
     fn fmt(&self, out: &mut fmt::Formatter) -> fmt::Result {
         write!(
             out,
-            "measuring: N {}, row {}, column {}, vector ({},{})",
-            self.n, self.row, self.column, self.dy, self.dx
+            "measuring: N {}, row {}, column {}, vector ({},{}), measure {}",
+            self.n, self.row, self.column, self.dy, self.dx, self.measure
         )
     }
 }

@@ -15,14 +15,14 @@ pub fn grid(pair: &Pair, n: usize) -> Vec<(usize, usize)> {
     places
 }
 
-/// The number of the first refusal that applies to a field, or 0: 1 2 3 4 5 6 9 10 in this order.
+/// The number of the first refusal that applies to a field, or 0: 1 2 3 4 51 5 6 9 10 in this order.
 pub fn refused_field(
     pair: &Pair,
     request: &FieldRequest,
     list_length: usize,
     table_length: usize,
 ) -> i64 {
-    let first = refused_request(pair, request.n, request.search, request.w, request.t);
+    let first = refused_request(pair, request);
     if first != 0 {
         return first;
     }
@@ -76,6 +76,7 @@ fn filled(pair: &Pair, request: &FieldRequest, lent: &mut Lent) -> FieldAnswer {
             search: request.search,
             w: request.w,
             t: request.t,
+            measure: request.measure,
             row,
             column,
         };
@@ -228,7 +229,7 @@ pub fn reckoned_step(
     if refusal == 0 {
         let mut bests = Vec::new();
         for (row, column) in grid(pair, request.n) {
-            let block = Block::new(pair, request.n, row, column);
+            let block = Block::new(pair, request.n, row, column, request.measure);
             bests.push(exhaustive_best(&block, request.w as i64));
         }
         let vectors: Vec<Vector> = bests.iter().map(|&(vector, _)| vector).collect();

@@ -1,7 +1,7 @@
 //! The rival: the rules of docs/REFERENCE.md for one block, written down as directly as they read and with no thought of speed.
 //! Every function names the rules' sentence that it stands for. No table, no sums kept from one place to the next, i64 throughout.
 
-use crate::question::{Answer, Measured, Measuring, Pair, Request, Viewed, Viewing};
+use crate::question::{Answer, FieldRequest, Measured, Measuring, Pair, Request, Viewed, Viewing};
 
 /// A vector (dy, dx).
 pub type Vector = (i64, i64);
@@ -11,7 +11,7 @@ pub fn plain(value: usize) -> i64 {
     i64::try_from(value).unwrap_or(i64::MAX)
 }
 
-/// One block of an accepted pair: "the newer frame's block at row y, column x".
+/// One block of an accepted pair: "the newer frame's block at row y, column x"; and the measure, "1 absolute or 2 squares".
 pub struct Block<'a> {
     older: &'a [u8],
     newer: &'a [u8],
@@ -20,11 +20,12 @@ pub struct Block<'a> {
     n: i64,
     y: i64,
     x: i64,
+    measure: u32,
 }
 
 impl<'a> Block<'a> {
-    /// The block at (row, column) of a pair that no refusal applies to.
-    pub fn new(pair: &'a Pair, n: usize, row: usize, column: usize) -> Block<'a> {
+    /// The block at (row, column) of a pair that no refusal applies to, by a measure that is one.
+    pub fn new(pair: &'a Pair, n: usize, row: usize, column: usize, measure: u32) -> Block<'a> {
         Block {
             older: &pair.older,
             newer: &pair.newer,
@@ -33,6 +34,7 @@ impl<'a> Block<'a> {
             n: plain(n),
             y: plain(row),
             x: plain(column),
+            measure,
         }
     }
 
@@ -59,18 +61,27 @@ impl<'a> Block<'a> {
             && left + self.n <= self.width
     }
 
-    /// "Distortion is the sum of absolute pel differences."
+    /// How far two pels are apart, or two sums of pels: "the sum of squared differences beside the absolute sum".
+    fn apart(&self, one: i64, other: i64) -> i64 {
+        match self.measure {
+            1 => (one - other).abs(),
+            _ => (one - other) * (one - other),
+        }
+    }
+
+    /// "Distortion is the sum of absolute pel differences"; by squares "the sum of squared differences".
     pub fn distortion(&self, (dy, dx): Vector) -> i64 {
         let mut sum = 0;
         for r in self.y..self.y + self.n {
             for c in self.x..self.x + self.n {
-                sum += (self.newer_pel(r, c) - self.older_pel(r + dy, c + dx)).abs();
+                sum += self.apart(self.newer_pel(r, c), self.older_pel(r + dy, c + dx));
             }
         }
         sum
     }
 
-    /// "Cut a block into m × m squares; its distance at m is the sum over squares of the absolute difference of pel sums."
+    /// "Cut a block into m × m squares; its distance at m is the sum over squares of the absolute difference of pel sums"; by squares
+    /// "the sum over squares of the squared difference of pel sums".
     pub fn distance(&self, m: i64, (dy, dx): Vector) -> i64 {
         let mut sum = 0;
         for i in 0..self.n / m {
@@ -83,10 +94,18 @@ impl<'a> Block<'a> {
                         in_older += self.older_pel(r + dy, c + dx);
                     }
                 }
-                sum += (in_newer - in_older).abs();
+                sum += self.apart(in_newer, in_older);
             }
         }
         sum
+    }
+
+    /// "Drop each whose distance exceeds E"; by squares "a vector is dropped when it exceeds m² × E".
+    fn is_dropped(&self, m: i64, v: Vector, e: i64) -> bool {
+        match self.measure {
+            1 => self.distance(m, v) > e,
+            _ => self.distance(m, v) > m * m * e,
+        }
     }
 
     /// All candidates of window w, in preference order.
@@ -162,7 +181,7 @@ fn pruned(block: &Block, w: i64) -> Answer {
     let mut m = block.n;
     counts[place_of(m)] = remaining.len() as i64;
     let before = remaining.len();
-    remaining.retain(|&v| block.distance(m, v) <= e);
+    remaining.retain(|&v| !block.is_dropped(m, v, e));
     dropped += (before - remaining.len()) as i64;
 
     // "For m = N/2, then halved each time, down to 2: find the remaining vector of least distance (equals: preference order),
@@ -173,7 +192,7 @@ fn pruned(block: &Block, w: i64) -> Answer {
         let (nearest, _) = least(&remaining, |v| block.distance(m, v));
         e = e.min(block.distortion(nearest));
         let before = remaining.len();
-        remaining.retain(|&v| block.distance(m, v) <= e);
+        remaining.retain(|&v| !block.is_dropped(m, v, e));
         dropped += (before - remaining.len()) as i64;
         m /= 2;
     }
@@ -334,22 +353,36 @@ pub fn is_refused_n(width: i64, height: i64, n: i64) -> bool {
     (n != 4 && n != 8 && n != 16) || n > width || n > height
 }
 
-/// Refusals 4 and 5.
-pub fn refused_window(search: i64, w: i64) -> i64 {
-    // "4 search not 1 to 4".
-    if search < 1 || search > 4 {
-        return 4;
+/// "4 search not 1 to 4".
+pub fn is_refused_search(search: i64) -> bool {
+    search < 1 || search > 4
+}
+
+/// "5 w not allowed for the search", asked of a search that 4 lets through.
+pub fn is_refused_window(search: i64, w: i64) -> bool {
+    match search {
+        1 | 2 => w < 0 || w > 16,
+        3 => w != 7,
+        _ => w != 2 && w != 4 && w != 8 && w != 16,
     }
-    // "5 w not allowed for the search".
-    let allowed = match search {
-        1 | 2 => (0..=16).contains(&w),
-        3 => w == 7,
-        _ => w == 2 || w == 4 || w == 8 || w == 16,
-    };
-    if !allowed {
-        return 5;
+}
+
+/// "51, measure not 1 or 2".
+fn is_refused_measure(measure: u32) -> bool {
+    measure != 1 && measure != 2
+}
+
+/// "T over 65,280" is refused; "T may go up to 16,646,400 with squares".
+pub fn largest_threshold(measure: u32) -> u32 {
+    match measure {
+        1 => 65_280,
+        _ => 16_646_400,
     }
-    0
+}
+
+/// "6 T over 65,280, or not 0 with search 1, 2 or 3", that limit by the measure.
+fn is_refused_threshold(search: i64, measure: u32, t: u32) -> bool {
+    t > largest_threshold(measure) || (t != 0 && search != 4)
 }
 
 /// Refusals 1, 2 and 3, which all calls on a pair test first.
@@ -378,27 +411,31 @@ fn refused_place(pair: &Pair, n: usize, row: usize, column: usize) -> i64 {
     0
 }
 
-/// The number of the first of 1 2 3 4 5 6 that applies to a pair and a request, or 0.
-pub fn refused_request(pair: &Pair, n: usize, search: u32, w: usize, t: u32) -> i64 {
-    let first = refused_pair(pair, n);
+/// The number of the first of 1 2 3 4 51 5 6 that applies to a pair and a request, or 0: 51 is "tested after 4".
+pub fn refused_request(pair: &Pair, request: &FieldRequest) -> i64 {
+    let first = refused_pair(pair, request.n);
     if first != 0 {
         return first;
     }
-    let (search, w, t) = (search as i64, plain(w), t as i64);
-    let window = refused_window(search, w);
-    if window != 0 {
-        return window;
+    let (search, w) = (request.search as i64, plain(request.w));
+    if is_refused_search(search) {
+        return 4;
     }
-    // "6 T over 65,280, or not 0 with search 1, 2 or 3".
-    if t > 65280 || (t != 0 && search != 4) {
+    if is_refused_measure(request.measure) {
+        return 51;
+    }
+    if is_refused_window(search, w) {
+        return 5;
+    }
+    if is_refused_threshold(search, request.measure, request.t) {
         return 6;
     }
     0
 }
 
-/// The number of the first refusal that applies to a single-block search, or 0: 1 2 3 4 5 6 7 in this order.
+/// The number of the first refusal that applies to a single-block search, or 0: 1 2 3 4 51 5 6 7 in this order.
 fn refused_search(pair: &Pair, request: &Request) -> i64 {
-    let first = refused_request(pair, request.n, request.search, request.w, request.t);
+    let first = refused_request(pair, &request.of_field());
     if first != 0 {
         return first;
     }
@@ -414,7 +451,8 @@ pub fn search_block(pair: &Pair, request: &Request) -> Answer {
             ..Answer::default()
         };
     }
-    let block = Block::new(pair, request.n, request.row, request.column);
+    let (row, column) = (request.row, request.column);
+    let block = Block::new(pair, request.n, row, column, request.measure);
     let w = plain(request.w);
     match request.search {
         1 => full(&block, w),
@@ -424,15 +462,19 @@ pub fn search_block(pair: &Pair, request: &Request) -> Answer {
     }
 }
 
-/// The measuring call: refusals 1 2 3 7 8, "8 measuring one vector: not a candidate of window 16".
+/// The measuring call: refusals 1 2 3 51 7 8, "8 measuring one vector: not a candidate of window 16".
 pub fn measure(pair: &Pair, question: &Measuring) -> Measured {
-    let mut refusal = refused_pair(pair, question.n);
+    let (n, row, column) = (question.n, question.row, question.column);
+    let mut refusal = refused_pair(pair, n);
+    if refusal == 0 && is_refused_measure(question.measure) {
+        refusal = 51;
+    }
     if refusal == 0 {
-        refusal = refused_place(pair, question.n, question.row, question.column);
+        refusal = refused_place(pair, n, row, column);
     }
     let vector = (question.dy as i64, question.dx as i64);
     if refusal == 0 {
-        let block = Block::new(pair, question.n, question.row, question.column);
+        let block = Block::new(pair, n, row, column, question.measure);
         if block.is_candidate(16, vector) {
             return Measured {
                 refusal: 0,

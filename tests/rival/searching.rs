@@ -1,11 +1,11 @@
-//! The four searches over made-up pairs: every answer against the rival's, and what the rules say of the searches among
-//! themselves. Blocks stand in corners, at borders and inside, on the grid and off it.
+//! The four searches over made-up pairs, by both measures: every answer against the rival's, and what the rules say of the searches
+//! among themselves. Blocks stand in corners, at borders and inside, on the grid and off it.
 
 use crate::archive;
 use crate::group::Group;
 use crate::pictures::{made_up, rough_pair, Chance, Kind, KINDS};
-use crate::question::{Answer, Pair, Request};
-use crate::rival::{self, Block};
+use crate::question::{Answer, Pair, Request, MEASURES};
+use crate::rival::{self, largest_threshold, Block};
 
 /// A made-up pair, the seed that it came from and the block size asked for.
 struct Case {
@@ -85,8 +85,12 @@ fn case_of(seed: u64, kind: Kind, n: usize, w: usize, room: usize) -> (Case, Cha
     (Case { seed, pair, n }, chance)
 }
 
-/// What the rules say of the searches among themselves, over all kinds of pairs.
+/// What the rules say of the searches among themselves, over all kinds of pairs, by one measure: "four-step and cross are held against
+/// pruned by the same measure".
 struct Relations {
+    measure: u32,
+    /// The measure's name.
+    by: &'static str,
     /// Pruned finds what full finds; dropped and finally measured are the candidates.
     pruned: Group,
     /// Four-step is never lower than the exhaustive best of window 7 and measures at most 27.
@@ -99,21 +103,35 @@ struct Relations {
     cross: Group,
 }
 
+/// The rival's block.
+fn block_of<'a>(case: &'a Case, request: &Request) -> Block<'a> {
+    let Request { n, row, column, .. } = *request;
+    Block::new(&case.pair, n, row, column, request.measure)
+}
+
 const UNCLIPPED_COUNTS: [i64; 6] = [17, 20, 22, 23, 25, 27];
 
 impl Relations {
-    fn new() -> Relations {
+    fn new((measure, by): (u32, &'static str)) -> Relations {
+        let group = |what: &str| Group::new(format!("{by}, {what}"));
         Relations {
-            pruned: Group::new("pruned against full"),
-            four_step: Group::new("four-step against full"),
-            unclipped: Group::new("four-step, counts of blocks with the window inside"),
+            measure,
+            by,
+            pruned: group("pruned against full"),
+            four_step: group("four-step against full"),
+            unclipped: group("four-step, counts of blocks with the window inside"),
             met: [0; 6],
-            cross: Group::new("cross against full"),
+            cross: group("cross against full"),
         }
     }
 
+    /// A group of searches by the measure.
+    fn group(&self, what: &str) -> Group {
+        Group::new(format!("{}, {what}", self.by))
+    }
+
     fn of_pruned(&mut self, case: &Case, request: &Request, pruned: &Answer, full: &Answer) {
-        let block = Block::new(&case.pair, request.n, request.row, request.column);
+        let block = block_of(case, request);
         let candidates = block.candidates(request.w as i64).len() as i64;
         let same = (pruned.dy, pruned.dx, pruned.distortion) == (full.dy, full.dx, full.distortion);
         let all = pruned.dropped + pruned.counts[4] == candidates && full.counts[4] == candidates;
@@ -126,7 +144,7 @@ impl Relations {
         let fact = found.distortion >= full.distortion && (1..=27).contains(&probes);
         self.four_step
             .holds(case.inputs(request), fact, found, full);
-        let block = Block::new(&case.pair, request.n, request.row, request.column);
+        let block = block_of(case, request);
         if block.is_candidate(7, (-7, -7)) && block.is_candidate(7, (7, 7)) {
             let known = UNCLIPPED_COUNTS.iter().position(|&count| count == probes);
             let fact = known.is_some();
@@ -162,8 +180,9 @@ impl Relations {
 
 /// Searches 1 and 2, every N and every w.
 fn full_and_pruned(kind: Kind, name: &str, relations: &mut Relations) -> u64 {
-    let mut full_group = Group::new(format!("full, {name}"));
-    let mut pruned_group = Group::new(format!("pruned, {name}"));
+    let measure = relations.measure;
+    let mut full_group = relations.group(&format!("full, {name}"));
+    let mut pruned_group = relations.group(&format!("pruned, {name}"));
     for n in [4, 8, 16] {
         for w in 0..=16 {
             for round in 0..4 {
@@ -177,6 +196,7 @@ fn full_and_pruned(kind: Kind, name: &str, relations: &mut Relations) -> u64 {
                         search,
                         w,
                         t: 0,
+                        measure,
                         row,
                         column,
                     };
@@ -192,7 +212,8 @@ fn full_and_pruned(kind: Kind, name: &str, relations: &mut Relations) -> u64 {
 
 /// Search 3, every N.
 fn four_step(kind: Kind, name: &str, relations: &mut Relations) -> u64 {
-    let mut group = Group::new(format!("four-step, {name}"));
+    let measure = relations.measure;
+    let mut group = relations.group(&format!("four-step, {name}"));
     for n in [4, 8, 16] {
         for round in 0..40 {
             let seed = 20_000 + n as u64 * 40 + round;
@@ -205,6 +226,7 @@ fn four_step(kind: Kind, name: &str, relations: &mut Relations) -> u64 {
                     search,
                     w: 7,
                     t: 0,
+                    measure,
                     row,
                     column,
                 };
@@ -219,7 +241,8 @@ fn four_step(kind: Kind, name: &str, relations: &mut Relations) -> u64 {
 
 /// Search 4, every N, every w, and thresholds at the ends of their range and around the distortion of (0,0).
 fn cross(kind: Kind, name: &str, relations: &mut Relations) -> u64 {
-    let mut group = Group::new(format!("cross, {name}"));
+    let measure = relations.measure;
+    let mut group = relations.group(&format!("cross, {name}"));
     for n in [4, 8, 16] {
         for w in [2, 4, 8, 16] {
             for round in 0..12 {
@@ -232,15 +255,17 @@ fn cross(kind: Kind, name: &str, relations: &mut Relations) -> u64 {
                         search,
                         w,
                         t,
+                        measure,
                         row,
                         column,
                     };
                     let full = archive::search_block(&case.pair, &request(1, 0));
-                    let block = Block::new(&case.pair, n, row, column);
+                    let block = Block::new(&case.pair, n, row, column, measure);
                     let d = block.distortion((0, 0)) as u32;
                     // The mean is near d / N²: a T that is held against it would end the search too soon or too late.
                     let mean = d / (n * n) as u32;
-                    let edges = [0, 1, d.saturating_sub(1), d, d + 1, 65280];
+                    let most = largest_threshold(measure);
+                    let edges = [0, 1, d.saturating_sub(1), d, d + 1, most];
                     for t in edges.into_iter().chain([mean, mean + 1]) {
                         let found = case.ask(&mut group, request(4, t));
                         if found.refusal == 0 {
@@ -256,8 +281,9 @@ fn cross(kind: Kind, name: &str, relations: &mut Relations) -> u64 {
 
 /// Rough pairs moved by a vector of window w, with a block around which that whole window lies inside: full and pruned find that
 /// very vector, with distortion 0, and still do where the window asked for is larger.
-fn known_vectors() -> u64 {
-    let mut group = Group::new("full and pruned, known vectors");
+fn known_vectors(relations: &Relations) -> u64 {
+    let measure = relations.measure;
+    let mut group = relations.group("full and pruned, known vectors");
     for n in [4, 8, 16] {
         for w in [1, 3, 16] {
             for round in 0..40 {
@@ -275,6 +301,7 @@ fn known_vectors() -> u64 {
                             search,
                             w: larger,
                             t: 0,
+                            measure,
                             row: w + 1,
                             column: w + 2,
                         };
@@ -291,8 +318,9 @@ fn known_vectors() -> u64 {
 }
 
 /// Small blocks of two pel values: distortions are few and most answers are decided among equals.
-fn ties() -> u64 {
-    let mut group = Group::new("all searches, ties");
+fn ties(relations: &Relations) -> u64 {
+    let measure = relations.measure;
+    let mut group = relations.group("all searches, ties");
     for seed in 60_000..60_800 {
         let (case, mut chance) = case_of(seed, Kind::TwoValued, 4, 3, 14);
         for (row, column) in case.places(&mut chance).into_iter().skip(7).step_by(2) {
@@ -302,6 +330,7 @@ fn ties() -> u64 {
                     search,
                     w,
                     t: 0,
+                    measure,
                     row,
                     column,
                 };
@@ -314,7 +343,8 @@ fn ties() -> u64 {
 
 /// Frames at the upper end of the sizes, a few blocks of each.
 fn large_frames(relations: &mut Relations) -> u64 {
-    let mut group = Group::new("all searches, large frames");
+    let measure = relations.measure;
+    let mut group = relations.group("all searches, large frames");
     let sizes = [
         (640, 480),
         (1024, 4),
@@ -339,6 +369,7 @@ fn large_frames(relations: &mut Relations) -> u64 {
                     search,
                     w,
                     t: 0,
+                    measure,
                     row,
                     column,
                 };
@@ -360,9 +391,8 @@ fn large_frames(relations: &mut Relations) -> u64 {
     group.end()
 }
 
-/// All searches; answers with the number of mismatches.
-pub fn run() -> u64 {
-    let mut relations = Relations::new();
+/// All searches by one measure.
+fn by_measure(mut relations: Relations) -> u64 {
     let mut mismatches = 0;
     for (kind, name) in KINDS {
         mismatches += full_and_pruned(kind, name, &mut relations);
@@ -373,8 +403,16 @@ pub fn run() -> u64 {
     for (kind, name) in KINDS {
         mismatches += cross(kind, name, &mut relations);
     }
-    mismatches += known_vectors();
-    mismatches += ties();
+    mismatches += known_vectors(&relations);
+    mismatches += ties(&relations);
     mismatches += large_frames(&mut relations);
     mismatches + relations.end()
+}
+
+/// All searches; answers with the number of mismatches.
+pub fn run() -> u64 {
+    MEASURES
+        .into_iter()
+        .map(|measure| by_measure(Relations::new(measure)))
+        .sum()
 }

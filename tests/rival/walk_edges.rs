@@ -5,7 +5,7 @@ use crate::archive;
 use crate::group::Group;
 use crate::log_calls::Case;
 use crate::logs::{self, blocks_of, bytes_of};
-use crate::question::{Cursor, Head, Walked};
+use crate::question::{Cursor, Head, Walked, NO_MEASURES};
 use crate::worked::{HEAD_OF_B, HEAD_OF_C, LOG_OF_B, LOG_OF_C};
 
 /// One call of the walker: both sides must answer with this refusal and this place, and alike in all else. Hands back the cursor for
@@ -40,6 +40,7 @@ pub const TWO_BLOCKS: Head = Head {
     n: 4,
     w: 4,
     search: 2,
+    measure: 1,
 };
 
 /// A walker among the blocks of this head, at the front of its log.
@@ -121,6 +122,7 @@ fn heads() -> u64 {
             n,
             w,
             search,
+            ..
         } = head;
         let sizes = 4..=1024;
         let fits = sizes.contains(&width) && sizes.contains(&height) && n <= width.min(height);
@@ -154,6 +156,7 @@ fn heads() -> u64 {
                         n,
                         w,
                         search,
+                        measure: 1,
                     });
                 }
             }
@@ -185,6 +188,7 @@ fn blocks() -> u64 {
                 n,
                 w,
                 search,
+                measure: 1,
             };
             for k in 0..blocks_of(&head) {
                 let (y, x) = ((k / 4 * n) as i64, (k % 4 * n) as i64);
@@ -398,6 +402,7 @@ fn cursors() -> u64 {
         n,
         w,
         search,
+        measure: 1,
     };
     for head in [
         five(3, 4, 4, 1, 2),
@@ -428,7 +433,45 @@ fn cursors() -> u64 {
     group.end()
 }
 
+/// Cursors whose head has any measure walk as one with measure 1 does, and have it in the next cursor.
+fn measures() -> u64 {
+    let mut group = Group::new("logs, measures in cursors built by hand");
+    let (b, c) = (HEAD_OF_B, HEAD_OF_C);
+    for measure in [1, 2, 7].into_iter().chain(NO_MEASURES) {
+        let by = |head: Head| Head { measure, ..head };
+        let wanted = head_read(b, reading(8, b, 0));
+        let before = Cursor {
+            head: by(b),
+            ..Cursor::default()
+        };
+        hands_out(&mut group, LOG_OF_B, before, wanted);
+        let wanted = block_read(1, reading(13, b, 1));
+        hands_out(&mut group, LOG_OF_B, reading(8, by(b), 0), wanted);
+        let wanted = end_read(1, 18);
+        hands_out(&mut group, LOG_OF_B, reading(13, by(b), 1), wanted);
+        let wanted = block_read(0, reading(9, c, 1));
+        hands_out(&mut group, LOG_OF_C, reading(8, by(c), 0), wanted);
+        // What is refused is refused all the same.
+        for (cursor, refusal, place) in [
+            (reading(8, by(b), 1), 14, 8),
+            (reading(18, by(b), 0), 13, 18),
+            (reading(8, by(c), 3), 16, 8),
+            (reading(13, by(c), 4), 17, 13),
+            (reading(8, by(b), 2), 34, 0),
+            (reading(8, by(Head { w: 17, ..b }), 0), 34, 0),
+        ] {
+            walk_ends(&mut group, LOG_OF_B, cursor, refusal, place);
+        }
+        let after = Cursor {
+            head: by(b),
+            ..standing(18, 2)
+        };
+        walk_ends(&mut group, LOG_OF_B, after, 34, 0);
+    }
+    group.end()
+}
+
 /// All edges of the walker; answers with the number of mismatches.
 pub fn run() -> u64 {
-    commands() + heads() + blocks() + ends() + whole_walks() + cursors()
+    commands() + heads() + blocks() + ends() + whole_walks() + cursors() + measures()
 }

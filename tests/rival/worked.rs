@@ -1,5 +1,5 @@
-//! The worked pairs A to J of docs/REFERENCE.md, with their numbers typed in, against the archive and against the rival; and what
-//! the rules write down of the preference order, against the rival.
+//! The worked pairs A to J of docs/REFERENCE.md, with their numbers typed in, against the archive and against the rival: by absolute,
+//! and then by squares with numbers worked out by hand; and what the rules write down of the preference order, against the rival.
 
 use crate::archive;
 use crate::group::Group;
@@ -31,13 +31,29 @@ fn measured(group: &mut Group, what: &str, pair: &Pair, question: Measuring, dis
     group.same(&inputs, rival::measure(pair, &question), wanted);
 }
 
-/// A request for a block of N 4; search, w, T and place follow.
+/// The rival's own distances of a vector at 4, 2 and 1, N 4.
+fn distances(
+    group: &mut Group,
+    what: &str,
+    pair: &Pair,
+    measure: u32,
+    vector: (i64, i64),
+    wanted: [i64; 3],
+) {
+    let block = rival::Block::new(pair, 4, 0, 0, measure);
+    let distances = [4, 2, 1].map(|m| block.distance(m, vector));
+    let inputs = format!("the rival's own distances of pair {what}, measure {measure}");
+    group.same(inputs, distances, wanted);
+}
+
+/// A request for a block of N 4 by absolute; search, w, T and place follow.
 fn block_of_4(search: u32, w: usize, t: u32, row: usize, column: usize) -> Request {
     Request {
         n: 4,
         search,
         w,
         t,
+        measure: 1,
         row,
         column,
     }
@@ -64,6 +80,7 @@ pub fn flat(width: usize, height: usize, older: u8, newer: u8) -> Pair {
     }
 }
 
+/// (0,0) by absolute, of the block at (0,0).
 fn at_zero(n: usize) -> Measuring {
     Measuring {
         n,
@@ -71,6 +88,7 @@ fn at_zero(n: usize) -> Measuring {
         column: 0,
         dy: 0,
         dx: 0,
+        measure: 1,
     }
 }
 
@@ -137,15 +155,18 @@ fn pair_c(group: &mut Group) {
     group.same("pair C: pruned sums", sums, [0, 0, 16, 16, 16]);
 }
 
-/// "D* 4×4, newer alternating 0 and 20 along and down, older all 10: distances 0 at 4 and 2, distortion 160".
-fn pair_d(group: &mut Group) {
-    let row = [0, 20, 0, 20, 20, 0, 20, 0];
-    let pair = Pair {
+fn frames_of_d() -> Pair {
+    Pair {
         older: vec![10; 16],
-        newer: row.repeat(2),
+        newer: [0, 20, 0, 20, 20, 0, 20, 0].repeat(2),
         width: 4,
         height: 4,
-    };
+    }
+}
+
+/// "D* 4×4, newer alternating 0 and 20 along and down, older all 10: distances 0 at 4 and 2, distortion 160".
+fn pair_d(group: &mut Group) {
+    let pair = frames_of_d();
     let full = found((0, 0), 160, [0, 0, 0, 0, 1], 0);
     let pruned = found((0, 0), 160, [0, 0, 1, 1, 1], 0);
     for w in [0, 16] {
@@ -153,10 +174,7 @@ fn pair_d(group: &mut Group) {
         searched(group, "D", &pair, block_of_4(2, w, 0, 0, 0), pruned);
     }
     measured(group, "D", &pair, at_zero(4), 160);
-    let block = rival::Block::new(&pair, 4, 0, 0);
-    let distances = [4, 2, 1].map(|m| block.distance(m, (0, 0)));
-    let inputs = "the rival's own distances of pair D at 4, 2 and 1";
-    group.same(inputs, distances, [0, 0, 160]);
+    distances(group, "D", &pair, 1, (0, 0), [0, 0, 160]);
 }
 
 /// "E* C's frames, block (2,2): four-step 17; cross w 2, T 0: 9; T 1: 1" and "F* the same at block (0,0): 7, 4, 1".
@@ -173,13 +191,14 @@ fn pairs_e_and_f(group: &mut Group) {
     }
 }
 
-/// A field or a step of N 4 and w 1.
+/// A field or a step of N 4 and w 1 by absolute.
 fn field_of_4(search: u32) -> FieldRequest {
     FieldRequest {
         n: 4,
         search,
         w: 1,
         t: 0,
+        measure: 1,
     }
 }
 
@@ -278,6 +297,7 @@ pub const HEAD_OF_B: Head = Head {
     n: 4,
     w: 1,
     search: 2,
+    measure: 1,
 };
 pub const HEAD_OF_C: Head = Head {
     width: 8,
@@ -345,11 +365,94 @@ fn pair_j(group: &mut Group) {
                 search,
                 w,
                 t,
+                measure: 1,
                 row: 0,
                 column: 0,
             };
             let wanted = found((0, 0), 65280, counts, 0);
             searched(group, "J", &pair, request, wanted);
+        }
+    }
+}
+
+/// Worked out by hand by squares: A, B, D and J, and a pair in which one grey level decides at which m a vector is dropped.
+fn by_squares(group: &mut Group) {
+    let squares = |request: Request| Request {
+        measure: 2,
+        ..request
+    };
+    let at_zero = |n| Measuring {
+        measure: 2,
+        ..at_zero(n)
+    };
+    let full_and_pruned = |group: &mut Group, what: &str, pair: &Pair, w, full, pruned| {
+        let request = |search| squares(block_of_4(search, w, 0, 0, 0));
+        searched(group, what, pair, request(1), full);
+        searched(group, what, pair, request(2), pruned);
+    };
+
+    // A: 16 × 2².
+    let (what, pair) = ("A by squares", flat(4, 4, 12, 10));
+    let full = found((0, 0), 64, [0, 0, 0, 0, 1], 0);
+    let pruned = found((0, 0), 64, [0, 0, 1, 1, 1], 0);
+    full_and_pruned(group, what, &pair, 16, full, pruned);
+    measured(group, what, &pair, at_zero(4), 64);
+    distances(group, what, &pair, 2, (0, 0), [32 * 32, 4 * 8 * 8, 64]);
+
+    // B: (0,0) has 16 × 10², which is E at m = 4. Its distance there, 160², is 4² × E and does not exceed it. At m = 2 (0,1) lowers E
+    // to 0.
+    let (what, pair) = ("B by squares", frames_of_b());
+    let full = found((0, 1), 0, [0, 0, 0, 0, 2], 0);
+    let pruned = found((0, 1), 0, [0, 0, 2, 2, 1], 1);
+    full_and_pruned(group, what, &pair, 1, full, pruned);
+    measured(group, what, &pair, at_zero(4), 1600);
+    distances(group, what, &pair, 2, (0, 0), [25_600, 6_400, 1_600]);
+    distances(group, what, &pair, 2, (0, 1), [0, 0, 0]);
+
+    // (0,0) is 3 off in one pel: E is 9. The block of (0,1) has another sum by 12, and 12² is 4² × E; or by 13, and 13² exceeds it.
+    // At m = 2, 3² + 15² exceeds 2² × E. By absolute 12 exceeds 3 at once.
+    for (pel, at_2, far) in [(25, 2, [144, 234, 234]), (26, 1, [169, 265, 265])] {
+        let (what, mut pair) = ("a pel more or less, by squares", flat(5, 4, 10, 10));
+        pair.newer[0] = 13;
+        pair.older[3 * 5 + 4] = pel;
+        let full = found((0, 0), 9, [0, 0, 0, 0, 2], 0);
+        let pruned = found((0, 0), 9, [0, 0, 2, at_2, 1], 1);
+        full_and_pruned(group, what, &pair, 1, full, pruned);
+        distances(group, what, &pair, 2, (0, 0), [9, 9, 9]);
+        distances(group, what, &pair, 2, (0, 1), far);
+        let pruned = found((0, 0), 3, [0, 0, 2, 1, 1], 1);
+        let request = block_of_4(2, 1, 0, 0, 0);
+        searched(group, "a pel more or less", &pair, request, pruned);
+    }
+
+    // D: 16 × 10².
+    let (what, pair) = ("D by squares", frames_of_d());
+    let full = found((0, 0), 1600, [0, 0, 0, 0, 1], 0);
+    let pruned = found((0, 0), 1600, [0, 0, 1, 1, 1], 0);
+    full_and_pruned(group, what, &pair, 0, full, pruned);
+    full_and_pruned(group, what, &pair, 16, full, pruned);
+    measured(group, what, &pair, at_zero(4), 1600);
+    distances(group, what, &pair, 2, (0, 0), [0, 0, 1600]);
+
+    // J, and smaller blocks in its frames: 65,025 × N². None is dropped, for all have the distance m² × E at each m. The largest T is
+    // larger than what N 4 and 8 can have.
+    for (older, newer) in [(0, 255), (255, 0)] {
+        for (n, candidates, most) in [(4, 169, 1_040_400), (8, 81, 4_161_600), (16, 1, 16_646_400)]
+        {
+            let (what, pair) = ("J by squares", flat(16, 16, older, newer));
+            measured(group, what, &pair, at_zero(n), most);
+            let tested = [16, 8, 4, 2, 1].map(|m| if m <= n { candidates } else { 0 });
+            for (search, t, counts) in [
+                (1, 0, [0, 0, 0, 0, candidates]),
+                (2, 0, tested),
+                (4, 16_646_400, [0, 0, 0, 0, 1]),
+            ] {
+                let request = squares(Request {
+                    n,
+                    ..block_of_4(search, 16, t, 0, 0)
+                });
+                searched(group, what, &pair, request, found((0, 0), most, counts, 0));
+            }
         }
     }
 }
@@ -390,6 +493,7 @@ pub fn run() -> u64 {
     pairs_g_and_h(&mut group);
     logs_of_b_c_and_i(&mut group);
     pair_j(&mut group);
+    by_squares(&mut group);
     preference_order(&mut group);
     group.end()
 }
