@@ -1,6 +1,7 @@
 /* include/gauge.h and include/gauge_text.c as C sees them: the layout of every struct against what the archive hands over, for every call
- * one that is accepted and one that is refused, in numbers that are all different, and what lent memory holds after each; the refusals by
- * name and by text, and the lengths that the macros give. The rules behind the numbers are tested by tests/rival.
+ * one that is accepted and one that is refused, in numbers that are all different, and what lent memory holds after each; the two
+ * measures, and where the refusal of any other stands among the refusals; the refusals by name and by text, and the lengths that the macros
+ * give. The rules behind the numbers are tested by tests/rival.
  *
  * What differs is printed as FILE:LINE: CALL: MEMBER: got THIS, wanted THAT. */
 #include <stdio.h>
@@ -57,8 +58,8 @@ static void same_place(int line, const char *array, size_t place, int64_t got, i
     } while (0)
 
 /* Structs, member by member. */
-#define SAME_HEAD(got, width_, height_, n_, w_, search_) \
-    (SAME(got.width, width_), SAME(got.height, height_), SAME(got.n, n_), SAME(got.w, w_), SAME(got.search, search_))
+#define SAME_HEAD(got, width_, height_, n_, w_, search_, measure_) \
+    (SAME(got.width, width_), SAME(got.height, height_), SAME(got.n, n_), SAME(got.w, w_), SAME(got.search, search_), SAME(got.measure, measure_))
 
 #define SAME_TRACK(got, homed_, y_, x_, steps_) (SAME(got.homed, homed_), SAME(got.y, y_), SAME(got.x, x_), SAME(got.steps, steps_))
 
@@ -100,6 +101,7 @@ HAS(gauge_request, n, size_t, 16);
 HAS(gauge_request, search, uint32_t, 24);
 HAS(gauge_request, w, size_t, 32);
 HAS(gauge_request, t, uint32_t, 40);
+HAS(gauge_request, measure, uint32_t, 44);
 SIZE(gauge_request, 48);
 
 HAS(gauge_found, refusal, uint32_t, 0);
@@ -137,6 +139,7 @@ HAS(gauge_head, height, size_t, 8);
 HAS(gauge_head, n, size_t, 16);
 HAS(gauge_head, w, size_t, 24);
 HAS(gauge_head, search, uint32_t, 32);
+HAS(gauge_head, measure, uint32_t, 36);
 SIZE(gauge_head, 40);
 
 HAS(gauge_written, refusal, uint32_t, 0);
@@ -187,8 +190,10 @@ static void take_pictures(void)
         }
 }
 
-static const gauge_request pruned = {WIDTH, HEIGHT, N, 2, W, 0};
+/* Search 2 by absolute and by squares. By squares the first block has another vector. */
+static const gauge_request pruned = {WIDTH, HEIGHT, N, 2, W, 0, 1}, squares = {WIDTH, HEIGHT, N, 2, W, 0, 2};
 static const int32_t field_list[] = {0, 0, 2679, 2, -5, 1481, 2, -5, 1599, -7, 0, 2809, 2, -5, 1473, 2, -5, 1578};
+static const int32_t squares_list[] = {9, 0, 43232, 2, -5, 11969, 2, -5, 13357, -7, 0, 47581, 2, -5, 11971, 2, -5, 13090};
 
 /* A few places more than are needed, and what they hold before a call. */
 enum { LIST = 18, TABLE = 58 * 38, LOG = 43, MORE = 5 };
@@ -218,10 +223,10 @@ static uint32_t sum_at(size_t i)
     return sum;
 }
 
-/* What the field leaves: list and table filled, and the places behind them kept. */
-#define FIELD_LENT()                           \
+/* What a field leaves: list and table filled, and the places behind them kept. */
+#define FIELD_LENT(numbers)                    \
     do {                                       \
-        EACH(list, 0, LIST, field_list[i]);    \
+        EACH(list, 0, LIST, numbers[i]);       \
         EACH(list, LIST, LIST + MORE, NUMBER); \
         EACH(table, 0, TABLE, sum_at(i));      \
         EACH(table, TABLE, TABLE + MORE, SUM); \
@@ -239,10 +244,13 @@ static uint32_t sum_at(size_t i)
 static void measuring(void)
 {
     call = "gauge_measure";
-    gauge_measured measured = gauge_measure(older, PELS, newer, PELS, WIDTH, HEIGHT, N, 3, 20, 4, -6);
+    gauge_measured measured = gauge_measure(older, PELS, newer, PELS, WIDTH, HEIGHT, N, 3, 20, 4, -6, 1);
     SAME(measured.refusal, GAUGE_ACCEPTED);
     SAME(measured.distortion, 3124);
-    measured = gauge_measure(older, PELS, newer, PELS, WIDTH, HEIGHT, N, 3, 20, -4, 6);
+    measured = gauge_measure(older, PELS, newer, PELS, WIDTH, HEIGHT, N, 3, 20, 4, -6, 2);
+    SAME(measured.refusal, GAUGE_ACCEPTED);
+    SAME(measured.distortion, 59092);
+    measured = gauge_measure(older, PELS, newer, PELS, WIDTH, HEIGHT, N, 3, 20, -4, 6, 1);
     SAME(measured.refusal, GAUGE_NO_CANDIDATE);
     SAME(measured.distortion, 0);
 }
@@ -265,10 +273,18 @@ static void searching(void)
     SAME_FOUND(found, GAUGE_ACCEPTED, 2, -5, 1600);
     SAME_COUNTS(found, 247, 139, 133, 132, 122, 125);
 
-    /* The threshold: (0,0) has 2,772 and ends the search at once. */
-    gauge_request cross = {WIDTH, HEIGHT, N, 4, 8, 2773};
+    found = gauge_search_block(older, PELS, newer, PELS, squares, 3, 20);
+    SAME_FOUND(found, GAUGE_ACCEPTED, 2, -5, 13460);
+    SAME_COUNTS(found, 247, 177, 162, 150, 133, 114);
+
+    /* The threshold: (0,0) has 2,772, by squares 49,976, and ends the search at once. */
+    gauge_request cross = {WIDTH, HEIGHT, N, 4, 8, 2773, 1};
     found = gauge_search_block(older, PELS, newer, PELS, cross, 3, 20);
     SAME_FOUND(found, GAUGE_ACCEPTED, 0, 0, 2772);
+    SAME_COUNTS(found, 0, 0, 0, 0, 1, 0);
+    cross = (gauge_request){WIDTH, HEIGHT, N, 4, 8, 49977, 2};
+    found = gauge_search_block(older, PELS, newer, PELS, cross, 3, 20);
+    SAME_FOUND(found, GAUGE_ACCEPTED, 0, 0, 49976);
     SAME_COUNTS(found, 0, 0, 0, 0, 1, 0);
 
     found = gauge_search_block(older, PELS, newer, PELS, pruned, 3, 42);
@@ -285,11 +301,17 @@ static void fields(void)
     gauge_field_answer answer = gauge_field(older, PELS, newer, PELS, pruned, list, LIST + MORE, table, TABLE + MORE);
     SAME_READING(answer, GAUGE_ACCEPTED, 2, -5, 4);
     SAME_COUNTS(answer, 1200, 626, 601, 571, 452, 748);
-    FIELD_LENT();
+    FIELD_LENT(field_list);
+
+    lend();
+    answer = gauge_field(older, PELS, newer, PELS, squares, list, LIST + MORE, table, TABLE + MORE);
+    SAME_READING(answer, GAUGE_ACCEPTED, 2, -5, 4);
+    SAME_COUNTS(answer, 1200, 806, 767, 692, 518, 682);
+    FIELD_LENT(squares_list);
 
     /* Search 1 leaves the table alone. */
     lend();
-    gauge_request full = {WIDTH, HEIGHT, N, 1, W, 0};
+    gauge_request full = {WIDTH, HEIGHT, N, 1, W, 0, 1};
     answer = gauge_field(older, PELS, newer, PELS, full, list, LIST, table, 0);
     SAME_READING(answer, GAUGE_ACCEPTED, 2, -5, 4);
     SAME_COUNTS(answer, 0, 0, 0, 0, 1200, 0);
@@ -326,44 +348,167 @@ static void homing(void)
     SAME_TRACK(homed.track, false, 31, 32, 33);
 }
 
-static gauge_stepped step(bool is_homed, int32_t y, int32_t x, uint32_t steps)
+static gauge_stepped step(gauge_request request, bool is_homed, int32_t y, int32_t x, uint32_t steps)
 {
     gauge_track track = {is_homed, y, x, steps};
     lend();
-    return gauge_step(track, older, PELS, newer, PELS, pruned, list, LIST + MORE, table, TABLE + MORE);
+    return gauge_step(track, older, PELS, newer, PELS, request, list, LIST + MORE, table, TABLE + MORE);
 }
 
 static void stepping(void)
 {
     call = "gauge_step";
-    gauge_stepped stepped = step(true, 100, 200, 7);
+    gauge_stepped stepped = step(pruned, true, 100, 200, 7);
     SAME_READING(stepped.answer, GAUGE_ACCEPTED, 2, -5, 4);
     SAME_COUNTS(stepped.answer, 1200, 626, 601, 571, 452, 748);
     SAME_TRACK(stepped.track, true, 98, 205, 8);
-    FIELD_LENT();
+    FIELD_LENT(field_list);
+    stepped = step(squares, true, 300, 400, 17);
+    SAME_READING(stepped.answer, GAUGE_ACCEPTED, 2, -5, 4);
+    SAME_COUNTS(stepped.answer, 1200, 806, 767, 692, 518, 682);
+    SAME_TRACK(stepped.track, true, 298, 405, 18);
+    FIELD_LENT(squares_list);
 
-    stepped = step(false, 11, 12, 13);
+    stepped = step(pruned, false, 11, 12, 13);
     SAME_READING(stepped.answer, GAUGE_NOT_HOMED, 0, 0, 0);
     SAME_COUNTS(stepped.answer, 0, 0, 0, 0, 0, 0);
     SAME_TRACK(stepped.track, false, 11, 12, 13);
     ALL_KEPT();
-    stepped = step(true, 21, -22, 1000000);
+    stepped = step(pruned, true, 21, -22, 1000000);
     SAME_READING(stepped.answer, GAUGE_STEPS_OVER, 0, 0, 0);
     SAME_COUNTS(stepped.answer, 0, 0, 0, 0, 0, 0);
     SAME_TRACK(stepped.track, true, 21, -22, 1000000);
     ALL_KEPT();
 
     /* Out of range: the old track, but list and table as after an accepted step. */
-    stepped = step(true, -999999, 32, 33);
+    stepped = step(pruned, true, -999999, 32, 33);
     SAME_READING(stepped.answer, GAUGE_OUT_OF_RANGE, 0, 0, 0);
     SAME_COUNTS(stepped.answer, 0, 0, 0, 0, 0, 0);
     SAME_TRACK(stepped.track, true, -999999, 32, 33);
-    FIELD_LENT();
+    FIELD_LENT(field_list);
+    stepped = step(squares, true, -999998, 999996, 34);
+    SAME_READING(stepped.answer, GAUGE_OUT_OF_RANGE, 0, 0, 0);
+    SAME_COUNTS(stepped.answer, 0, 0, 0, 0, 0, 0);
+    SAME_TRACK(stepped.track, true, -999998, 999996, 34);
+    FIELD_LENT(squares_list);
+}
+
+/* ---- the measure */
+
+/* Numbers that are none. Some have 1 or 2 in their last byte or two. */
+static const uint32_t no_measures[] = {0, 3, 7, 255, 256, 257, 258, 65537, 65538, 1u << 31, UINT32_MAX};
+enum { NO_MEASURES = sizeof no_measures / sizeof *no_measures };
+
+/* All 0 against all 255, by squares 65,025 a pel: measured, searched and in a field's list. */
+static void largest_distortions(void)
+{
+    static uint8_t dark[16 * 16], light[16 * 16];
+    static int32_t numbers[GAUGE_LIST_LENGTH(16, 16, 4)];
+    memset(light, 255, sizeof light);
+    for (size_t n = 4; n <= 16; n *= 2) {
+        call_of("0 against 255, N", (uint32_t)n);
+        SAME(gauge_measure(dark, 256, light, 256, 16, 16, n, 0, 0, 0, 0, 1).distortion, 255 * n * n);
+        SAME(gauge_measure(light, 256, dark, 256, 16, 16, n, 0, 0, 0, 0, 1).distortion, 255 * n * n);
+        SAME(gauge_measure(dark, 256, light, 256, 16, 16, n, 0, 0, 0, 0, 2).distortion, 65025 * n * n);
+        SAME(gauge_measure(light, 256, dark, 256, 16, 16, n, 0, 0, 0, 0, 2).distortion, 65025 * n * n);
+        for (uint32_t search = 1; search <= 4; search++) {
+            gauge_request request = {16, 16, n, search, search == 3 ? 7 : 16, 0, 2};
+            gauge_found found = gauge_search_block(dark, 256, light, 256, request, 0, 0);
+            SAME_FOUND(found, GAUGE_ACCEPTED, 0, 0, 65025 * n * n);
+            const size_t blocks = (16 / n) * (16 / n);
+            memset(numbers, 255, sizeof numbers);
+            gauge_field_answer answer = gauge_field(light, 256, dark, 256, request, numbers, 3 * blocks, table, TABLE);
+            SAME_READING(answer, GAUGE_ACCEPTED, 0, 0, blocks);
+            EACH(numbers, 0, 3 * blocks, i % 3 == 2 ? 65025 * n * n : 0);
+        }
+    }
+}
+
+/* One pel that differs by 1 to 255, and the square of that. */
+static void one_pel(void)
+{
+    static uint8_t dark[4 * 4], light[4 * 4];
+    for (uint32_t grey = 1; grey <= 255; grey++) {
+        call_of("one pel off by", grey);
+        light[5] = (uint8_t)grey;
+        SAME(gauge_measure(dark, 16, light, 16, 4, 4, 4, 0, 0, 0, 0, 1).distortion, grey);
+        SAME(gauge_measure(light, 16, dark, 16, 4, 4, 4, 0, 0, 0, 0, 1).distortion, grey);
+        SAME(gauge_measure(dark, 16, light, 16, 4, 4, 4, 0, 0, 0, 0, 2).distortion, grey * grey);
+        SAME(gauge_measure(light, 16, dark, 16, 4, 4, 4, 0, 0, 0, 0, 2).distortion, grey * grey);
+    }
+}
+
+/* A request that a search, a field and a step refuse alike, and before the place, the lengths of list and table and the track, which are bad
+ * too. */
+static void all_refuse(gauge_request request, uint32_t refusal)
+{
+    gauge_found found = gauge_search_block(older, PELS, newer, PELS, request, 3, 42);
+    SAME_FOUND(found, refusal, 0, 0, 0);
+    SAME_COUNTS(found, 0, 0, 0, 0, 0, 0);
+    lend();
+    gauge_field_answer answer = gauge_field(older, PELS, newer, PELS, request, list, LIST - 1, table, TABLE - 1);
+    SAME_READING(answer, refusal, 0, 0, 0);
+    SAME_COUNTS(answer, 0, 0, 0, 0, 0, 0);
+    ALL_KEPT();
+    gauge_stepped stepped = step(request, false, 41, -42, 43);
+    SAME_READING(stepped.answer, refusal, 0, 0, 0);
+    SAME_COUNTS(stepped.answer, 0, 0, 0, 0, 0, 0);
+    SAME_TRACK(stepped.track, false, 41, -42, 43);
+    ALL_KEPT();
+}
+
+static void measures_refused(void)
+{
+    for (size_t i = 0; i < NO_MEASURES; i++) {
+        const uint32_t measure = no_measures[i];
+        call_of("refusal 51, measure", measure);
+        /* Before w and T, whatever the search. */
+        all_refuse((gauge_request){WIDTH, HEIGHT, N, 2, W, 0, measure}, GAUGE_BAD_MEASURE);
+        all_refuse((gauge_request){WIDTH, HEIGHT, N, 1, 17, 0, measure}, GAUGE_BAD_MEASURE);
+        all_refuse((gauge_request){WIDTH, HEIGHT, N, 3, 7, 1, measure}, GAUGE_BAD_MEASURE);
+        all_refuse((gauge_request){WIDTH, HEIGHT, N, 4, 8, UINT32_MAX, measure}, GAUGE_BAD_MEASURE);
+        /* After sizes, frames, N and search. */
+        all_refuse((gauge_request){3, HEIGHT, N, 2, W, 0, measure}, GAUGE_BAD_SIZE);
+        all_refuse((gauge_request){WIDTH, HEIGHT + 1, N, 2, W, 0, measure}, GAUGE_BAD_FRAME);
+        all_refuse((gauge_request){WIDTH, HEIGHT, 5, 2, W, 0, measure}, GAUGE_BAD_N);
+        all_refuse((gauge_request){WIDTH, HEIGHT, N, 0, W, 0, measure}, GAUGE_BAD_SEARCH);
+
+        /* Measuring: after N, before place and vector. */
+        SAME(gauge_measure(older, PELS, newer, PELS, WIDTH, HEIGHT, N, 3, 20, 4, -6, measure).refusal, GAUGE_BAD_MEASURE);
+        SAME(gauge_measure(older, PELS, newer, PELS, WIDTH, HEIGHT, N, 3, 20, 4, -6, measure).distortion, 0);
+        SAME(gauge_measure(older, PELS, newer, PELS, WIDTH, HEIGHT, N, 3, 20, -4, 6, measure).refusal, GAUGE_BAD_MEASURE);
+        SAME(gauge_measure(older, PELS, newer, PELS, WIDTH, HEIGHT, N, 3, 42, 4, -6, measure).refusal, GAUGE_BAD_MEASURE);
+        SAME(gauge_measure(older, PELS, newer, PELS, WIDTH, HEIGHT, 5, 3, 20, 4, -6, measure).refusal, GAUGE_BAD_N);
+        SAME(gauge_measure(older, PELS, newer, PELS - 1, WIDTH, HEIGHT, N, 3, 20, 4, -6, measure).refusal, GAUGE_BAD_FRAME);
+        SAME(gauge_measure(older, PELS, newer, PELS, 3, HEIGHT, N, 3, 20, 4, -6, measure).refusal, GAUGE_BAD_SIZE);
+    }
+    call = "refusals by squares";
+    all_refuse((gauge_request){WIDTH, HEIGHT, N, 2, 17, 0, 2}, GAUGE_BAD_WINDOW);
+    all_refuse((gauge_request){WIDTH, HEIGHT, N, 2, W, 1, 2}, GAUGE_BAD_THRESHOLD);
+    SAME(gauge_measure(older, PELS, newer, PELS, WIDTH, HEIGHT, N, 3, 42, 4, -6, 2).refusal, GAUGE_BAD_PLACE);
+    SAME(gauge_measure(older, PELS, newer, PELS, WIDTH, HEIGHT, N, 3, 20, -4, 6, 2).refusal, GAUGE_NO_CANDIDATE);
+}
+
+/* The threshold's limit goes by the measure alone. */
+static void thresholds(void)
+{
+    static const struct {
+        uint32_t measure, t, refusal;
+    } limits[] = {
+        {1, 65280, GAUGE_ACCEPTED},    {1, 65281, GAUGE_BAD_THRESHOLD},    {1, 16646400, GAUGE_BAD_THRESHOLD},   {2, 65281, GAUGE_ACCEPTED},
+        {2, 16646400, GAUGE_ACCEPTED}, {2, 16646401, GAUGE_BAD_THRESHOLD}, {2, 4294901760, GAUGE_BAD_THRESHOLD}, {2, UINT32_MAX, GAUGE_BAD_THRESHOLD},
+    };
+    for (size_t n = 4; n <= 16; n *= 2)
+        for (size_t i = 0; i < sizeof limits / sizeof *limits; i++) {
+            call_of("the threshold", limits[i].t);
+            gauge_request cross = {WIDTH, HEIGHT, n, 4, 8, limits[i].t, limits[i].measure};
+            SAME(gauge_search_block(older, PELS, newer, PELS, cross, 3, 20).refusal, limits[i].refusal);
+        }
 }
 
 /* ---- logs: the field above */
 
-static const gauge_head head = {WIDTH, HEIGHT, N, W, 2};
+static const gauge_head head = {WIDTH, HEIGHT, N, W, 2, 1};
 static const uint8_t field_log[LOG] = {
     1, 0,   57, 0,  37,  16, 9, 2,                             /* head, at 0 */
     2, 0,   0,  10, 119, 2,  2, 251, 5, 201, 2, 2, 251, 6, 63, /* blocks, at 8, 13, 18 */
@@ -397,6 +542,23 @@ static void writing(void)
     written = gauge_write_log(head, spoilt, LIST, buffer, sizeof buffer);
     SAME_PART(written, GAUGE_LOG_BLOCK, 4, 0);
     ALL_KEPT();
+
+    /* No log has any measure but 1: 2 and all that are none are refused after the search, before w, list, blocks and buffer. */
+    for (size_t i = 0; i <= NO_MEASURES; i++) {
+        const uint32_t measure = i < NO_MEASURES ? no_measures[i] : 2;
+        call_of("gauge_write_log, measure", measure);
+        written = gauge_write_log((gauge_head){WIDTH, HEIGHT, N, W, 2, measure}, field_list, LIST, buffer, sizeof buffer);
+        SAME_PART(written, GAUGE_BAD_MEASURE, 0, 0);
+        written = gauge_write_log((gauge_head){WIDTH, HEIGHT, N, 17, 2, measure}, spoilt, LIST - 1, buffer, LOG - 1);
+        SAME_PART(written, GAUGE_BAD_MEASURE, 0, 0);
+        written = gauge_write_log((gauge_head){WIDTH, HEIGHT, N, 17, 5, measure}, spoilt, LIST - 1, buffer, LOG - 1);
+        SAME_PART(written, GAUGE_BAD_SEARCH, 0, 0);
+        written = gauge_write_log((gauge_head){WIDTH, HEIGHT, 5, W, 2, measure}, field_list, LIST, buffer, sizeof buffer);
+        SAME_PART(written, GAUGE_BAD_N, 0, 0);
+        written = gauge_write_log((gauge_head){3, HEIGHT, N, W, 2, measure}, field_list, LIST, buffer, sizeof buffer);
+        SAME_PART(written, GAUGE_BAD_SIZE, 0, 0);
+        ALL_KEPT();
+    }
 }
 
 static void reading(void)
@@ -406,7 +568,7 @@ static void reading(void)
     gauge_log_read read = gauge_read_log(field_log, LOG, list, LIST + MORE);
     SAME(read.refusal, GAUGE_ACCEPTED);
     SAME(read.place, 0);
-    SAME_HEAD(read.head, WIDTH, HEIGHT, N, W, 2);
+    SAME_HEAD(read.head, WIDTH, HEIGHT, N, W, 2, 1);
     EACH(list, 0, LIST, field_list[i]);
     EACH(list, LIST, LIST + MORE, NUMBER);
 
@@ -414,12 +576,12 @@ static void reading(void)
     read = gauge_read_log(wrong_log, LOG, list, LIST + MORE);
     SAME(read.refusal, GAUGE_LOG_END);
     SAME(read.place, 38);
-    SAME_HEAD(read.head, 0, 0, 0, 0, 0);
+    SAME_HEAD(read.head, 0, 0, 0, 0, 0, 0);
     ALL_KEPT();
     read = gauge_read_log(field_log, LOG, list, LIST - 1);
     SAME(read.refusal, GAUGE_SHORT_LIST);
     SAME(read.place, 8);
-    SAME_HEAD(read.head, 0, 0, 0, 0, 0);
+    SAME_HEAD(read.head, 0, 0, 0, 0, 0, 0);
     ALL_KEPT();
 }
 
@@ -447,47 +609,68 @@ static void printing(void)
 }
 
 /* A cursor among the field's blocks, and one that has a place alone. */
-#define SAME_AMONG(got, at_, blocks_) (SAME(got.at, at_), SAME(got.phase, 1), SAME_HEAD(got.head, WIDTH, HEIGHT, N, W, 2), SAME(got.blocks, blocks_))
-#define SAME_PLACE(got, at_, phase_) (SAME(got.at, at_), SAME(got.phase, phase_), SAME_HEAD(got.head, 0, 0, 0, 0, 0), SAME(got.blocks, 0))
+#define SAME_AMONG(got, at_, blocks_) \
+    (SAME(got.at, at_), SAME(got.phase, 1), SAME_HEAD(got.head, WIDTH, HEIGHT, N, W, 2, 1), SAME(got.blocks, blocks_))
+#define SAME_PLACE(got, at_, phase_) (SAME(got.at, at_), SAME(got.phase, phase_), SAME_HEAD(got.head, 0, 0, 0, 0, 0, 0), SAME(got.blocks, 0))
 
 static void walking(void)
 {
     call = "gauge_walk";
     gauge_walked walked = gauge_walk(field_log, LOG, (gauge_cursor){0});
     SAME_WALKED(walked, GAUGE_ACCEPTED, 0, 1, 0, 0, 0, 0);
-    SAME_HEAD(walked.head, WIDTH, HEIGHT, N, W, 2);
+    SAME_HEAD(walked.head, WIDTH, HEIGHT, N, W, 2, 1);
     SAME_AMONG(walked.next, 8, 0);
 
     for (uint32_t k = 0; k < 6; k++) {
         call_of("gauge_walk, block", k);
         walked = gauge_walk(field_log, LOG, walked.next);
         SAME_WALKED(walked, GAUGE_ACCEPTED, 0, 2, field_list[3 * k], field_list[3 * k + 1], field_list[3 * k + 2], 0);
-        SAME_HEAD(walked.head, 0, 0, 0, 0, 0);
+        SAME_HEAD(walked.head, 0, 0, 0, 0, 0, 0);
         SAME_AMONG(walked.next, 13 + 5 * k, k + 1);
     }
 
     call = "gauge_walk";
     gauge_walked refused = gauge_walk(wrong_log, LOG, walked.next);
     SAME_WALKED(refused, GAUGE_LOG_END, 38, 0, 0, 0, 0, 0);
-    SAME_HEAD(refused.head, 0, 0, 0, 0, 0);
+    SAME_HEAD(refused.head, 0, 0, 0, 0, 0, 0);
     SAME_PLACE(refused.next, 38, 3);
 
     walked = gauge_walk(field_log, LOG, walked.next);
     SAME_WALKED(walked, GAUGE_ACCEPTED, 0, 4, 0, 0, 0, 6);
-    SAME_HEAD(walked.head, 0, 0, 0, 0, 0);
+    SAME_HEAD(walked.head, 0, 0, 0, 0, 0, 0);
     SAME_PLACE(walked.next, LOG, 2);
 
     walked = gauge_walk(field_log, LOG, walked.next);
     SAME_WALKED(walked, GAUGE_WALK_OVER, 0, 0, 0, 0, 0, 0);
-    SAME_HEAD(walked.head, 0, 0, 0, 0, 0);
+    SAME_HEAD(walked.head, 0, 0, 0, 0, 0, 0);
     SAME_PLACE(walked.next, LOG, 3);
 
     /* A cursor built by hand: the fifth block of another log, a still one. */
     static const uint8_t other_log[] = {9, 9, 9, 3};
-    walked = gauge_walk(other_log, 4, (gauge_cursor){3, 1, {WIDTH, HEIGHT, N, W, 2}, 4});
+    walked = gauge_walk(other_log, 4, (gauge_cursor){3, 1, {WIDTH, HEIGHT, N, W, 2, 1}, 4});
     SAME_WALKED(walked, GAUGE_ACCEPTED, 0, 3, 0, 0, 0, 0);
-    SAME_HEAD(walked.head, 0, 0, 0, 0, 0);
+    SAME_HEAD(walked.head, 0, 0, 0, 0, 0, 0);
     SAME_AMONG(walked.next, 4, 5);
+
+    /* The measure in a cursor is not looked at: it walks as one with 1, and goes on with 1. */
+    for (size_t i = 0; i <= NO_MEASURES; i++) {
+        const uint32_t measure = i < NO_MEASURES ? no_measures[i] : 2;
+        call_of("gauge_walk, a cursor of measure", measure);
+        walked = gauge_walk(field_log, LOG, (gauge_cursor){13, 1, {WIDTH, HEIGHT, N, W, 2, measure}, 1});
+        SAME_WALKED(walked, GAUGE_ACCEPTED, 0, 2, 2, -5, 1481, 0);
+        SAME_HEAD(walked.head, 0, 0, 0, 0, 0, 0);
+        SAME_AMONG(walked.next, 18, 2);
+        walked = gauge_walk(field_log, LOG, (gauge_cursor){0, 0, {0, 0, 0, 0, 0, measure}, 0});
+        SAME_WALKED(walked, GAUGE_ACCEPTED, 0, 1, 0, 0, 0, 0);
+        SAME_HEAD(walked.head, WIDTH, HEIGHT, N, W, 2, 1);
+        SAME_AMONG(walked.next, 8, 0);
+        walked = gauge_walk(field_log, LOG, (gauge_cursor){LOG, 2, {0, 0, 0, 0, 0, measure}, 0});
+        SAME_WALKED(walked, GAUGE_WALK_OVER, 0, 0, 0, 0, 0, 0);
+        SAME_PLACE(walked.next, LOG, 3);
+        walked = gauge_walk(field_log, LOG, (gauge_cursor){13, 1, {WIDTH, HEIGHT, N, 17, 2, measure}, 1});
+        SAME_WALKED(walked, GAUGE_WALK_OVER, 0, 0, 0, 0, 0, 0);
+        SAME_PLACE(walked.next, 13, 3);
+    }
 }
 
 /* ---- what the header has besides calls */
@@ -516,6 +699,7 @@ static const struct {
     {GAUGE_SHORT_LIST, 10},   {GAUGE_BAD_HOME, 11},     {GAUGE_BAD_SIDE, 12},   {GAUGE_LOG_CUT, 13},       {GAUGE_LOG_COMMAND, 14},
     {GAUGE_LOG_HEAD, 15},     {GAUGE_LOG_BLOCK, 16},    {GAUGE_LOG_END, 17},    {GAUGE_LOG_AFTER_END, 18}, {GAUGE_SHORT_BUFFER, 19},
     {GAUGE_LOG_TOO_LONG, 20}, {GAUGE_NOT_HOMED, 31},    {GAUGE_STEPS_OVER, 32}, {GAUGE_OUT_OF_RANGE, 33},  {GAUGE_WALK_OVER, 34},
+    {GAUGE_BAD_MEASURE, 51},
 };
 enum { REFUSALS = sizeof refusals / sizeof *refusals };
 
@@ -526,7 +710,7 @@ static void texts(void)
     const char *unknown = gauge_refusal_text(UINT32_MAX);
     SAME(unknown != NULL && *unknown != 0, true);
     SAME(strcmp(gauge_refusal_text(0), "accepted"), 0);
-    SAME(REFUSALS, 25);
+    SAME(REFUSALS, 26);
     for (size_t i = 0; i < REFUSALS; i++) {
         call_of("gauge_refusal_text", refusals[i].number);
         SAME(refusals[i].refusal, refusals[i].number);
@@ -536,7 +720,7 @@ static void texts(void)
         for (size_t j = 0; j < i; j++)
             SAME(strcmp(text, gauge_refusal_text(refusals[j].number)) == 0, false);
     }
-    static const uint32_t others[] = {21, 22, 25, 30, 35, 36, 255, 256, 257, 65536, 1u << 31};
+    static const uint32_t others[] = {21, 22, 25, 30, 35, 36, 50, 52, 255, 256, 257, 307, 65536, 1u << 31};
     for (size_t i = 0; i < sizeof others / sizeof *others; i++) {
         call_of("gauge_refusal_text", others[i]);
         SAME(strcmp(gauge_refusal_text(others[i]), unknown), 0);
@@ -554,6 +738,10 @@ int main(void)
     fields();
     homing();
     stepping();
+    largest_distortions();
+    one_pel();
+    measures_refused();
+    thresholds();
     writing();
     reading();
     printing();
