@@ -3,7 +3,7 @@
  * travel OLDER.pgm NEWER.pgm reads a pair of grey pictures (binary PGM, 255 the lightest). It ends with status 0 where the travel can be trusted,
  * 1 where it cannot, 2 where the words or pictures will not do. With no words it makes its own pictures: a track is homed and stepped
  * through travelling paper that travels beyond the search window at last, and through blank pictures; then the first pair is read by each of the
- * four searches. */
+ * four searches, and by pruned once more with squares for its measure. */
 #include <ctype.h>
 #include <stdio.h>
 #include <stdlib.h>
@@ -19,9 +19,12 @@ static uint8_t older[MOST * MOST], newer[MOST * MOST];
 static int32_t list[GAUGE_LIST_LENGTH(MOST, MOST, N)];
 static uint32_t table[GAUGE_TABLE_LENGTH(MOST, MOST)];
 
-static gauge_field_answer field(uint32_t search, size_t w)
+/* The measures. All is read by absolute where nothing else is said. */
+enum { ABSOLUTE = 1, SQUARES = 2 };
+
+static gauge_field_answer field(uint32_t search, size_t w, uint32_t measure)
 {
-    gauge_request request = {width, height, N, search, w, 0};
+    gauge_request request = {width, height, N, search, w, 0, measure};
     return gauge_field(older, width * height, newer, width * height, request, list, sizeof list / sizeof *list, table,
                        sizeof table / sizeof *table);
 }
@@ -128,7 +131,7 @@ static int from_files(char **names)
         printf("the pictures differ in size: %zu x %zu and %zu x %zu\n", first_width, first_height, width, height);
         return 2;
     }
-    gauge_field_answer f = field(2, W);
+    gauge_field_answer f = field(2, W, ABSOLUTE);
     if (f.refusal != GAUGE_ACCEPTED)
         return refused(f.refusal);
     return report(f) ? 0 : 1;
@@ -146,7 +149,7 @@ static void next_picture(int down, int right)
 /* A step is taken over only where it can be trusted: the old track is still at hand. */
 static int step(gauge_track *track)
 {
-    gauge_request request = {width, height, N, 2, W, 0};
+    gauge_request request = {width, height, N, 2, W, 0, ABSOLUTE};
     gauge_stepped s = gauge_step(*track, older, width * height, newer, width * height, request, list, sizeof list / sizeof *list, table,
                                  sizeof table / sizeof *table);
     if (s.answer.refusal != GAUGE_ACCEPTED)
@@ -165,11 +168,16 @@ static void by_each_search(void)
         const char *name;
         uint32_t search;
         size_t w;
-    } searches[] = {{"full", 1, W}, {"pruned", 2, W}, {"four-step", 3, 7}, {"cross", 4, W}};
-    printf("\nThe first pair by each search    ---- candidates tested at m = 16, 8, 4, 2 ---    measured    dropped\n");
+        uint32_t measure;
+    } searches[] = {{"full", 1, W, ABSOLUTE},
+                    {"pruned", 2, W, ABSOLUTE},
+                    {"four-step", 3, 7, ABSOLUTE},
+                    {"cross", 4, W, ABSOLUTE},
+                    {"pruned, squares", 2, W, SQUARES}};
+    printf("\nThe first pair by each search         ---- candidates tested at m = 16, 8, 4, 2 ---    measured    dropped\n");
     for (size_t i = 0; i < sizeof searches / sizeof *searches; i++) {
-        gauge_field_answer f = field(searches[i].search, searches[i].w);
-        printf("%-10s vector (%2d,%2d) %3u %% %10u %10u %10u %10u %11u %10u\n", searches[i].name, f.dy, f.dx, share(f), f.counts[0], f.counts[1],
+        gauge_field_answer f = field(searches[i].search, searches[i].w, searches[i].measure);
+        printf("%-15s vector (%2d,%2d) %3u %% %10u %10u %10u %10u %11u %10u\n", searches[i].name, f.dy, f.dx, share(f), f.counts[0], f.counts[1],
                f.counts[2], f.counts[3], f.counts[4], f.dropped);
     }
 }
