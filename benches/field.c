@@ -1,15 +1,17 @@
 /* Fields of vectors, N 16, by all four searches: full, pruned and cross with w 16, four-step with w 7, T 0; and the pruned search of the same blocks
  * one by one. Beside the gauge run two full searches in C over the same grid: plain scalar code that leaves a candidate as soon as it
- * cannot win, and SSE2 (psadbw). All take turns, plain C, by far the slowest, every fourth time; the best of the turns counts, in processor time.
- * Prints speeds as multiples of plain C: the larger, the faster. The two C searches, search 1 and search 2 must agree on every block. With the
- * word `check` it looks at that alone, in small pictures, and prints no speed.
+ * cannot win, and SSE2 (psadbw). All these are by absolute; a second table has full and pruned by squares beside SSE2 code for squares (pmaddwd):
+ * one search that measures every candidate to its last row, as the one by psadbw does, and one that looks after every fourth row whether the
+ * candidate can still win. All take turns, plain C, by far the slowest, every fourth time; the best of the turns counts, in processor time.
+ * Prints speeds as multiples of plain C's, by absolute, in both tables: the larger, the faster. By each measure the C searches, search 1 and search 2
+ * must agree on every block. With the word `check` it looks at that alone, in small pictures, and prints no speed.
  *
  * Paper is made here: smoothed noise with fibres. The newer picture is the older one moved by a known vector, and each has sensor noise of its own:
  * noise of 2 grey levels is noise whose standard deviation is 2. Noise raises the least distortion, so search 2's coarse tests drop fewer candidates,
  * the fewer the less contrast the paper has. So fibres and plain paper stand here with noise of 2 and of 5 grey levels, nearly normal; the rows that
  * name no noise have even noise of -3 .. 3, that is of 2 grey levels too.
  *
- * The last column is the measure of Mohammad Gharavi-Alkhansari, "A fast motion estimation algorithm equivalent to exhaustive search", Table 2. A
+ * The last column is the yardstick of Mohammad Gharavi-Alkhansari, "A fast motion estimation algorithm equivalent to exhaustive search", Table 2. A
  * basic operation is one term of a distance's sum, so a test at m takes (N / m)^2 of them and a final measurement N^2; the making of the sums and
  * measurements only for E are not counted. The exhaustive search takes N^2 for each candidate. So that paper's 0.0275, of a video sequence with
  * p = 2, is (11,441,196 + 4 x 3,912,397 + 16 x 920,769 + 64 x 239,933 + 256 x 91,246) / (256 x 11,441,196). */
@@ -132,6 +134,42 @@ static int sse2_distortion(const uint8_t *a, const uint8_t *b, int width, int li
     return _mm_cvtsi128_si32(sum) + _mm_cvtsi128_si32(_mm_srli_si128(sum, 8));
 }
 
+/* The squared differences of two rows of pels, in four sums. */
+static __m128i row_of_squares(const uint8_t *a, const uint8_t *b)
+{
+    const __m128i zero = _mm_setzero_si128(), p = _mm_loadu_si128((const void *)a), q = _mm_loadu_si128((const void *)b);
+    __m128i left = _mm_sub_epi16(_mm_unpacklo_epi8(p, zero), _mm_unpacklo_epi8(q, zero));
+    __m128i right = _mm_sub_epi16(_mm_unpackhi_epi8(p, zero), _mm_unpackhi_epi8(q, zero));
+    return _mm_add_epi32(_mm_madd_epi16(left, left), _mm_madd_epi16(right, right));
+}
+
+static int sum_of_four(__m128i sums)
+{
+    sums = _mm_add_epi32(sums, _mm_srli_si128(sums, 8));
+    return _mm_cvtsi128_si32(_mm_add_epi32(sums, _mm_srli_si128(sums, 4)));
+}
+
+static int pmaddwd_distortion(const uint8_t *a, const uint8_t *b, int width, int limit)
+{
+    (void)limit;
+    __m128i sums = _mm_setzero_si128();
+    for (int i = 0; i < N; i++, a += width, b += width)
+        sums = _mm_add_epi32(sums, row_of_squares(a, b));
+    return sum_of_four(sums);
+}
+
+static int stopping_distortion(const uint8_t *a, const uint8_t *b, int width, int limit)
+{
+    __m128i sums = _mm_setzero_si128();
+    int sum = 0;
+    for (int i = 0; i < N && sum <= limit; i += 4) {
+        for (int j = 0; j < 4; j++, a += width, b += width)
+            sums = _mm_add_epi32(sums, row_of_squares(a, b));
+        sum = sum_of_four(sums);
+    }
+    return sum;
+}
+
 #define FULL_SEARCH(name, distortion_of)                                                                                                 \
     __attribute__((noipa)) static struct best name(const uint8_t *o, const uint8_t *a, int width, int height, int w, int y, int x)       \
     {                                                                                                                                    \
@@ -151,10 +189,12 @@ static int sse2_distortion(const uint8_t *a, const uint8_t *b, int width, int li
 
 FULL_SEARCH(plain_search, plain_distortion)
 FULL_SEARCH(sse2_search, sse2_distortion)
+FULL_SEARCH(pmaddwd_search, pmaddwd_distortion)
+FULL_SEARCH(stopping_search, stopping_distortion)
 
 /* ---- the turns */
 
-enum { PLAIN, SSE2, SINGLE, FULL, PRUNED, FOUR_STEP, CROSS, RUNS };
+enum { PLAIN, SSE2, PMADDWD, STOPPING, SINGLE, FULL, PRUNED, FOUR_STEP, CROSS, FULL_SQUARES, PRUNED_SQUARES, RUNS };
 
 static bool checking;
 static int width, height;
@@ -173,9 +213,19 @@ static struct best sse2(int y, int x)
     return sse2_search(older, newer, width, height, W, y, x);
 }
 
+static struct best pmaddwd(int y, int x)
+{
+    return pmaddwd_search(older, newer, width, height, W, y, x);
+}
+
+static struct best stopping(int y, int x)
+{
+    return stopping_search(older, newer, width, height, W, y, x);
+}
+
 static struct best single(int y, int x)
 {
-    gauge_request request = {(size_t)width, (size_t)height, N, 2, W, 0};
+    gauge_request request = {(size_t)width, (size_t)height, N, 2, W, 0, 1};
     size_t length = (size_t)(width * height);
     gauge_found f = gauge_search_block(older, length, newer, length, request, (size_t)y, (size_t)x);
     return (struct best){f.dy, f.dx, (int32_t)f.distortion};
@@ -184,32 +234,47 @@ static struct best single(int y, int x)
 /* The searches of single blocks go over the grid here, those of fields by themselves. */
 static void run(int r)
 {
+    static struct best (*const searches[])(int, int) = {plain, sse2, pmaddwd, stopping, single};
     if (r < FULL) {
-        struct best (*const search)(int, int) = r == PLAIN ? plain : r == SSE2 ? sse2 : single;
         int k = 0;
         for (int y = 0; y + N <= height; y += N)
             for (int x = 0; x + N <= width; x += N)
-                list[r][k++] = search(y, x);
+                list[r][k++] = searches[r](y, x);
         return;
     }
-    gauge_request request = {(size_t)width, (size_t)height, N, (uint32_t)(r - FULL + 1), r == FOUR_STEP ? 7 : W, 0};
+    bool squares = r >= FULL_SQUARES;
+    uint32_t search = (uint32_t)(r - (squares ? FULL_SQUARES : FULL) + 1);
+    gauge_request request = {(size_t)width, (size_t)height, N, search, r == FOUR_STEP ? 7 : W, 0, squares ? 2 : 1};
     size_t length = (size_t)(width * height);
     answer[r] = gauge_field(older, length, newer, length, request, &list[r][0].dy, 3 * BLOCKS, table, sizeof table / sizeof table[0]);
 }
 
-/* Search 2's basic operations, as a part of the exhaustive search's. */
-static double basic_operations(void)
+/* The basic operations of a run of search 2, as a part of the exhaustive search's. */
+static double basic_operations(int r)
 {
     double sum = 0;
     for (int i = 0, squares = 1; i < 5; i++, squares *= 4)
-        sum += (double)squares * answer[PRUNED].counts[i];
+        sum += (double)squares * answer[r].counts[i];
     return sum / (N * N * (double)answer[FULL].counts[4]);
 }
 
-/* A pair in which the paper has moved by (dy, dx): one line of the table, or none when checking. */
+/* Whether a run has the list of another. */
+static bool agree(int r, int other)
+{
+    return memcmp(list[r], list[other], (size_t)((width / N) * (height / N)) * sizeof list[r][0]) == 0;
+}
+
+/* The lines of the second table, until the first is done. */
+static struct {
+    const char *name;
+    double seconds[RUNS], operations;
+} lines[16];
+static int line_count;
+
+/* A pair in which the paper has moved by (dy, dx): one line of each table, or none when checking. */
 static int pair(const char *name, const int *sheet, struct noise n, int dy, int dx, int blank, int turns)
 {
-    double seconds[RUNS];
+    double *seconds = lines[line_count].seconds;
     photograph(sheet, n, MARGIN, MARGIN, width, height, blank, older);
     photograph(sheet, n, MARGIN - dy, MARGIN - dx, width, height, blank, newer);
     for (int turn = 0; turn < turns; turn++)
@@ -220,23 +285,41 @@ static int pair(const char *name, const int *sheet, struct noise n, int dy, int 
             if (turn == 0 || taken < seconds[r])
                 seconds[r] = taken;
         }
-    int blocks = (width / N) * (height / N);
     for (int r = FULL; r < RUNS; r++)
         if (answer[r].refusal != 0) {
-            printf("%s: search %d is refused\n", name, r - FULL + 1);
+            printf("%s: a field is refused by %u\n", name, (unsigned)answer[r].refusal);
             return 1;
         }
-    for (int r = SSE2; r <= PRUNED; r++)
-        if (memcmp(list[PLAIN], list[r], (size_t)blocks * sizeof list[r][0]) != 0) {
-            printf("%s: the searches differ\n", name);
-            return 1;
-        }
+    if (!agree(SSE2, PLAIN) || !agree(SINGLE, PLAIN) || !agree(FULL, PLAIN) || !agree(PRUNED, PLAIN)) {
+        printf("%s: the searches differ\n", name);
+        return 1;
+    }
+    if (!agree(STOPPING, PMADDWD) || !agree(FULL_SQUARES, PMADDWD) || !agree(PRUNED_SQUARES, PMADDWD)) {
+        printf("%s: the searches by squares differ\n", name);
+        return 1;
+    }
     if (checking)
         return 0;
+    lines[line_count].name = name;
+    lines[line_count++].operations = basic_operations(PRUNED_SQUARES);
     printf("%-27s %6.1f %6.1f %6.1f %6.1f %6.0f %6.0f %8.2f %8.2f %9.4f\n", name, seconds[PLAIN] / seconds[SSE2], seconds[PLAIN] / seconds[FULL],
            seconds[PLAIN] / seconds[PRUNED], seconds[PLAIN] / seconds[SINGLE], seconds[PLAIN] / seconds[FOUR_STEP], seconds[PLAIN] / seconds[CROSS],
-           seconds[SSE2] / seconds[FULL], seconds[FULL] / seconds[PRUNED], basic_operations());
+           seconds[SSE2] / seconds[FULL], seconds[FULL] / seconds[PRUNED], basic_operations(PRUNED));
     return 0;
+}
+
+static void squares_table(void)
+{
+    printf("\n%4d x %-4d by squares      pmaddwd  C that      1      2     1 to     1 to     2 to     basic\n", width, height);
+    printf("                                  C   stops   full pruned  pmaddwd    stops        1       ops\n");
+    for (int i = 0; i < line_count; i++) {
+        const double *seconds = lines[i].seconds;
+        printf("%-27s %7.1f %7.1f %6.1f %6.1f %8.2f %8.2f %8.2f %9.4f\n", lines[i].name, seconds[PLAIN] / seconds[PMADDWD],
+               seconds[PLAIN] / seconds[STOPPING], seconds[PLAIN] / seconds[FULL_SQUARES], seconds[PLAIN] / seconds[PRUNED_SQUARES],
+               seconds[PMADDWD] / seconds[FULL_SQUARES], seconds[STOPPING] / seconds[FULL_SQUARES], seconds[FULL_SQUARES] / seconds[PRUNED_SQUARES],
+               lines[i].operations);
+    }
+    line_count = 0;
 }
 
 /* All papers in pictures of one size. Plain paper is made last, so that the pictures before it do not hang on it. */
@@ -261,10 +344,14 @@ static int papers(int w, int h, int turns)
     if (!made)
         make_sheet(PLAIN_PAPER, plain_paper);
     made = true;
-    return pair("fibres, noise 2 (3,-4)", fibres, NOISE_2, 3, -4, width, turns) ||
-           pair("fibres, noise 5 (3,-4)", fibres, NOISE_5, 3, -4, width, turns) ||
-           pair("plain paper, noise 2 (3,-4)", plain_paper, NOISE_2, 3, -4, width, turns) ||
-           pair("plain paper, noise 5 (3,-4)", plain_paper, NOISE_5, 3, -4, width, turns);
+    if (pair("fibres, noise 2 (3,-4)", fibres, NOISE_2, 3, -4, width, turns) ||
+        pair("fibres, noise 5 (3,-4)", fibres, NOISE_5, 3, -4, width, turns) ||
+        pair("plain paper, noise 2 (3,-4)", plain_paper, NOISE_2, 3, -4, width, turns) ||
+        pair("plain paper, noise 5 (3,-4)", plain_paper, NOISE_5, 3, -4, width, turns))
+        return 1;
+    if (!checking)
+        squares_table();
+    return 0;
 }
 
 int main(int argc, char **argv)
@@ -276,7 +363,7 @@ int main(int argc, char **argv)
         printf("benches/field: the searches agree\n");
         return 0;
     }
-    printf("Speed of fields, N 16, plain C full search = 1; basic operations of search 2, exhaustive search = 1\n");
+    printf("Speed of fields, N 16, plain C full search by absolute = 1; basic operations of search 2, exhaustive search = 1\n");
     printf("(0.0275 in Gharavi-Alkhansari's paper, for a video)\n");
     return papers(640, 480, 21) || papers(1024, 1024, 9);
 }

@@ -31,7 +31,7 @@ int main(int argc, char **argv)
         if (!checking)
             printf("(%3d,%3d)    ", down, right);
         for (size_t n = 4; n <= 16; n *= 2) {
-            gauge_request request = {WIDTH, HEIGHT, n, 2, W, 0};
+            gauge_request request = {WIDTH, HEIGHT, n, 2, W, 0, 1};
             gauge_field_answer f =
                 gauge_field(older, sizeof older, newer, sizeof newer, request, list, sizeof list / sizeof *list, table, sizeof table / sizeof *table);
             if (f.refusal != GAUGE_ACCEPTED || (within(down) && within(right) && (f.dy != -down || f.dx != -right))) {
