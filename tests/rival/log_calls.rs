@@ -245,10 +245,10 @@ impl Logs {
             ("printing", &met.printing, &[13, 14, 15, 16, 17, 18, 20, 34]),
             ("walking", &met.walking, &[0, 13, 14, 15, 16, 17, 18, 34]),
         ] {
-            let met = |&refusal: &usize| (refusal.to_string(), counts[refusal]);
+            let count_of = |&refusal: &usize| (refusal.to_string(), counts[refusal]);
             each(
                 &format!("logs, refusals of {what}"),
-                wanted.iter().map(met).collect(),
+                wanted.iter().map(count_of).collect(),
             );
         }
         // A list has no command 2, and a log cannot say a distortion below 0.
