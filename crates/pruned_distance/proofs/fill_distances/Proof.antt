@@ -123,7 +123,8 @@ fill-many-requires : tie.Need-fill-many-requires
 fill-many-requires c κs =
     let k = many-cut (c .before) in
     let many = c .before .before .before in
-    let fits = together-fits _ _ _ (sym (many .before .each-by-itself .ensures) ∙ many .if1 .left) in
+    let a = start k .args in
+    let fits = together-fits (a .b .setting) (a .m) (a .count) (sym (many .before .each-by-itself .ensures) ∙ many .if1 .left) in
     ((start k .pre .0, start k .pre .1, tested k), (tested k .whole, squares k, fits))
 
 returns : tie.Need-returns
