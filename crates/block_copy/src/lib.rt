@@ -40,8 +40,8 @@ pub fn copy_distortion(older: &[u8], block: &[u8; 256], width: usize, b: u32) ->
     ensures { λ d. ⌜ d ≡ rowsApart (measureOf 1) (now (older .entry)) (now (block .entry)) 16 width 0 b 16 16 ⌝ }
 {
     let mut sum: u32 = 0;
-    let mut q = b as usize;
     let mut g: usize = 0;
+    let mut q = b as usize;
     while g < 4 {
         sum += distortion::four_rows(older, block, measures::ABSOLUTE, 16, width, 64 * g, q, 16);
         q += 4 * width;

@@ -51,8 +51,8 @@ fn choose_copied(
     while i < count {
         let k = signed::wide_u16(remaining[i]);
         let d = copied_distortion_of(older, newer, order, b, k, block);
-        best = candidates::improved(best, k, d);
         i += 1;
+        best = candidates::improved(best, k, d);
     }
     best
 }

@@ -11,11 +11,11 @@ use Rattle.block_copy.proofs.copy_distortion.Statement.{statement}
 use Rattle.block_copy.proofs.copy_distortion.Tie as tie
 
 abbrev Inv-loop : tie.InvT-loop
-Inv-loop older block width b sum₀ q₀ g₀ sum q g =
+Inv-loop older block width b sum₀ g₀ q₀ sum g q =
     (g ≤ 4) × (q ≡ b + 4 * g * width) × (sum ≤ g * 4161600) × (sum ≡ rowsApart (measureOf 1) older block 16 width 0 b 16 (4 * g))
 
 abbrev μ-loop : tie.MeasureT-loop
-μ-loop older block width b sum₀ q₀ g₀ sum q g = 4 - g
+μ-loop older block width b sum₀ g₀ q₀ sum g q = 4 - g
 
 -- a turn's rows end above the last
 turn : (i : tie.In-loop Inv-loop μ-loop) → let a = i .before .before .before .args in

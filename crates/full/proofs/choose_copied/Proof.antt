@@ -39,11 +39,11 @@ copied-distortion-of-requires c κs =
     let k = listed-at (s .pre .1 .0) (c .before .before .loop-test .taken) (c .wide-u16 .ensures) in
     (s .pre .0, (k .0, k .1, s .pre .1 .2))
 
-improved-requires : tie.Need-improved-requires Inv-loop μ-loop
-improved-requires c κs = search needs
-
 add-i : tie.Need-add-i Inv-loop μ-loop
 add-i c = search needs
+
+improved-requires : tie.Need-improved-requires Inv-loop μ-loop
+improved-requires c κs = search needs
 
 loop-less : tie.Need-loop-less Inv-loop μ-loop
 loop-less c = search needs
@@ -77,8 +77,8 @@ choose-copied-spec =
     element-copy-out-wide-u16
     wide-u16-requires
     copied-distortion-of-requires
-    improved-requires
     add-i
+    improved-requires
     loop-less
     loop-again
     returns)
