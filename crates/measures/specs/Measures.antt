@@ -7,7 +7,7 @@
 --   squares     "the sum of squared differences": Gharavi-Alkhansari's paper with exponent 2, where a vector is dropped "when it exceeds m² × E"
 --   measureOf   the measure of a number that 51 lets pass, measureOk: 1 or 2
 use Prim.Native.Nat.{ℕ, _*_, _≤_, _<_}
-use mathlib.Core.Path.{_≡_, refl}
+use mathlib.Core.Path.{_≡_}
 use mathlib.Core.Bool.{Bool, true, false, cond, _&&_}
 use native.Mathlib.Nat.{mul-le-mul}
 use native.Mathlib.Omega.{arith}

@@ -8,7 +8,7 @@ use native.Mathlib.Omega.{arith}
 use lib.IntN.{ℤ, natAbs}
 use lib.ListN.{length}
 use Rattle.base.specs.Tests.{T-true, true-T}
-use Rattle.base.specs.Sum.{sumTo, sumTo-ext, sumTo-zero, sumTo-one, sumTo-swap, sumOver, sumOver-ext}
+use Rattle.base.specs.Sum.{sumTo, sumTo-ext, sumTo-zero, sumTo-one, sumTo-swap, sumOver}
 use Rattle.base.specs.Picks.{pick, pick-length}
 use Rattle.signed.specs.Int.{parts, same}
 use Rattle.signed.specs.Values.{bias, unbias, bias-is, unbias-is, bias-unbias}

@@ -1,7 +1,7 @@
 -- Answers that the promise of the tracks excludes, by accepted steps of pair B: by window 1 it travels (0,-1), by window 0 not at all. Whatever keeps
 -- that promise ends where the reckoning ends, and where that is, is computed.
 use Prim.Native.Nat.{ℕ}
-use mathlib.Core.Path.{_≡_, refl, sym, ap, _∙_}
+use mathlib.Core.Path.{_≡_, sym, ap, _∙_}
 use mathlib.Core.Bool.{true}
 use mathlib.Core.List.{List, [], _∷_}
 use native.Mathlib.Omega.{arith}
