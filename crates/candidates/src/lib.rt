@@ -143,7 +143,8 @@ pub fn distortion_of(
     let width = s.width;
     let here = b.y * width + b.x;
     let there = begins_at(order, b, k);
-    distortion::distortion_from(older, newer, s.measure, width, s.n, here, there, ceiling)
+    let kernel = distortion::kernel(s.measure, s.n);
+    distortion::distortion_from(older, newer, width, kernel, here, there, ceiling)
 }
 
 // The first listed candidate.

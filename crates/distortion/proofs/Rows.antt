@@ -1,15 +1,17 @@
 -- Rows of a block one below the other: four of them are four terms of a sum, the rows below the first k begin k widths on,
 -- and a sum as far as a ceiling goes tells of all rows.
-use Prim.Native.Nat.{ℕ, _+_, _*_, _/_, _≤_}
+use Prim.Native.Nat.{ℕ, _+_, _*_, _/_, _≤_, _<_}
 use mathlib.Core.Path.{_≡_, refl, sym, ap, ap₂, _∙_}
 use mathlib.Core.List.{List}
-use native.Mathlib.Nat.{add-zero, zero-mul, one-mul, add-mul, mul-assoc, mul-comm, mul-div-cancel}
+use mathlib.Core.Logic.{_⊎_, inl, inr, ⊎-elim}
+use native.Mathlib.Nat.{add-zero, zero-mul, one-mul, add-mul, mul-assoc, mul-comm, mul-div-cancel, lt-of-not-le}
+use native.Mathlib.Decide.{decLe}
 use native.Mathlib.Omega.{arith}
 use lib.Dec.{T}
 use Rattle.base.specs.Sum.{sumTo, sumTo-none, sumTo-ext, sumTo-four, sumTo-cut, sumTo-group, sumOver-ext}
 use Rattle.refusals.specs.Refusals.{blockSizeOk, block-size-elim}
 use Rattle.measures.specs.Measures.{Measure, measureOf}
-use Rattle.distortion.specs.Blocks.{rowFrom, rowsApart, rowsFrom, rowsUpTo, sumUpTo-is, Rows, BlockRows, BlockSum, UpTo}
+use Rattle.distortion.specs.Blocks.{rowFrom, rowsApart, rowsFrom, rowsUpTo, sumUpTo-is, Rows, BlockRows, BlockSum, UpTo, sizeBy}
 
 module _ (μ : Measure) (older newer : List ℕ) (across width a b n : ℕ) where
   pub rows-four :
@@ -71,6 +73,18 @@ block-sum measure ceiling older newer width n a b m groups d e four h =
       is = rw quarter is;
     }
 
--- an allowed N that is not 16 and not 8
-pub last-size : (n : ℕ) → T (blockSizeOk n) → (n ≡ 16 → ⊥) → (n ≡ 8 → ⊥) → n ≡ 4
-last-size n t = block-size-elim (λ m. (m ≡ 16 → ⊥) → (m ≡ 8 → ⊥) → m ≡ 4) (λ a b. refl) (λ a b. absurd (b refl)) (λ a b. absurd (a refl)) n t
+-- a kernel that is none of the first five
+pub last-kernel : (k : ℕ) → k < 128 → T (blockSizeOk (sizeBy k)) → (k ≡ 16 → ⊥) → (k ≡ 8 → ⊥) → (k ≡ 4 → ⊥) → (k ≡ 80 → ⊥) → (k ≡ 72 → ⊥) → k ≡ 68
+last-kernel k h t a b c d e =
+    block-size-elim (λ (m : ℕ). sizeBy k ≡ m → k ≡ 68)
+    (λ q. ⊎-elim (λ i. absurd (c i)) (λ i. i) (either 4 q))
+    (λ q. ⊎-elim (λ i. absurd (b i)) (λ i. absurd (e i)) (either 8 q))
+    (λ q. ⊎-elim (λ i. absurd (a i)) (λ i. absurd (d i)) (either 16 q))
+    (sizeBy k) t refl
+  where
+    either : (m : ℕ) → sizeBy k ≡ m → (k ≡ m) ⊎ (k ≡ m + 64)
+    either m q = go (decLe 64 k)
+      where
+        go : Dec (64 ≤ k) → (k ≡ m) ⊎ (k ≡ m + 64)
+        go (yes l) = inr (omega arith)
+        go (no l) = let s : k < 64 = lt-of-not-le l in inl (omega arith)

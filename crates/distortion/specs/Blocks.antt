@@ -9,15 +9,17 @@
 --   rowFrom       a row's share of it, rowsFrom: of several rows, rowsApart: of rows that begin otherwise far apart in the two frames
 --   rowsUpTo      a distortion as far as a ceiling goes: sumUpTo of its rows, four at a time
 --   UpTo          what such a sum tells of the whole; BlockSum: of a block, that sum and what it tells
-use Prim.Native.Nat.{ℕ, zero, suc, _+_, _*_, _/_, _≤_, _<_}
+--   kernelOf      which code measures a block, one number for N and the measure; sizeBy and measureBy: back
+use Prim.Native.Nat.{ℕ, zero, suc, _+_, _*_, _/_, _%_, _≤_, _<_}
 use mathlib.Core.Path.{_≡_, refl, ap₂}
 use mathlib.Core.Bool.{Bool, true, false, cond}
 use mathlib.Core.List.{List}
 use native.Mathlib.Nat.{add-zero, add-suc, add-mul, mul-le-mul-right}
 use native.Mathlib.Numerals.{add-one}
 use native.Mathlib.Omega.{arith}
-use lib.Dec.{T, leb}
-use borrow.Author.Tests.{leb-true, leb-false, le-leb, lt-leb}
+use lib.Dec.{T, leb, eqb}
+use native.Mathlib.Decide.{ℕ-discrete}
+use borrow.Author.Tests.{leb-true, leb-false, le-leb, lt-leb, eq-eqb, ne-eqb}
 use lib.ListN.{length, getD}
 use Rattle.base.specs.Sum.{sumTo, sumTo-none, sumTo-more, sumOver, sumOver-ext, sumOver-bound}
 use Rattle.base.specs.Index.{row-fits}
@@ -118,12 +120,40 @@ pub record BlockSum (measure ceiling : ℕ) (older newer : List ℕ) (width n a 
   pub most : d ≤ n * (n * measureOf measure .most)
   pub is : d ≡ rowsUpTo (measureOf measure) ceiling older newer width a b n (n / 4)
 
--- every number but 1 has squares' sum
-pub by-squares : {measure ceiling : ℕ} {older newer : List ℕ} {width n a b d : ℕ} → (measure ≡ 1 → ⊥) → BlockSum 2 ceiling older newer width n a b d
+-- which code measures a block: N for absolute differences, N + 64 for squares; and back
+unfoldable pub kernelOf : ℕ → ℕ → ℕ
+kernelOf measure n = cond (eqb measure 1) n (n + 64)
+
+abbrev pub sizeBy : ℕ → ℕ
+sizeBy kernel = kernel % 64
+
+abbrev pub measureBy : ℕ → ℕ
+measureBy kernel = kernel / 64 + 1
+
+-- a kernel has its N and its measure
+pub record Kernel (measure n kernel : ℕ) : Type 0 where
+  pub small : kernel < 128
+  pub size : sizeBy kernel ≡ n
+  pub measure-is : measureOf (measureBy kernel) ≡ measureOf measure
+
+pub kernel-is : (measure n : ℕ) → n < 64 → Kernel measure n (kernelOf measure n)
+unfolding kernelOf
+kernel-is measure n h = go (ℕ-discrete measure 1)
+  where
+    go : Dec (measure ≡ 1) → Kernel measure n (cond (eqb measure 1) n (n + 64))
+    go (yes e) =
+        let one : n / 64 + 1 ≡ 1 = omega arith in
+        rw (eq-eqb measure 1 e) (record { small = omega arith; size = omega arith; measure-is = rw (one, e) })
+    go (no e) =
+        let two : (n + 64) / 64 + 1 ≡ 2 = omega arith in
+        rw (ne-eqb measure 1 e) (record { small = omega arith; size = omega arith; measure-is = rw two (measure-other measure e) })
+
+-- a sum by the kernel of a measure and N
+pub kernel-sum : {measure n kernel ceiling : ℕ} {older newer : List ℕ} {width a b d : ℕ} → Kernel measure n kernel
+    → BlockSum (measureBy kernel) ceiling older newer width (sizeBy kernel) a b d
     → BlockSum measure ceiling older newer width n a b d
-by-squares {measure} h s =
-    let e = measure-other measure h in
-    record { up-to = rw e at (s .up-to); most = rw e at (s .most); is = rw e at (s .is) }
+kernel-sum k s =
+    record { up-to = rw (k .size, k .measure-is) at (s .up-to); most = rw (k .size, k .measure-is) at (s .most); is = rw (k .size, k .measure-is) at (s .is) }
 
 module _ (ceiling : ℕ) (f : ℕ → ℕ) where
   pub sumUpTo-none : sumUpTo ceiling f 0 ≡ 0
@@ -178,6 +208,10 @@ block-inside older newer s y x r c k = record {
   wide = k .placed .paired .fitting .wide;
   allowed = k .placed .paired .allowed;
 }
+
+-- an allowed N is small
+pub size-small : (n : ℕ) → T (blockSizeOk n) → n < 64
+size-small = block-size-elim (λ (n : ℕ). n < 64) (omega arith) (omega arith) (omega arith)
 
 -- no distortion by either measure reaches the top of its type
 pub distortion-small : (measure n : ℕ) → T (blockSizeOk n) → n * (n * measureOf measure .most) < 4294967295

@@ -1,10 +1,10 @@
 // Distortion: the sum of the pel differences of two blocks, by a measure.
 
 ghost use mathlib.Core.Path.{_≡_};
-ghost use Prim.Native.Nat.{_+_, _*_, _≤_};
+ghost use Prim.Native.Nat.{_+_, _*_, _≤_, _<_};
 ghost use lib.ListN.{length};
 ghost use Rattle.measures.specs.Measures.{measureOf};
-ghost use Rattle.distortion.specs.Blocks.{blockAt, distortionBy, rowFrom, rowsApart, rowsUpTo, Rows, BlockRows, BlockSum, Comparable};
+ghost use Rattle.distortion.specs.Blocks.{blockAt, distortionBy, rowFrom, rowsApart, rowsUpTo, Rows, BlockRows, BlockSum, kernelOf, sizeBy, measureBy, Comparable};
 use frame::Setting;
 
 // n pels of the newer frame from place a on, against n pels of the older frame from place b on.
@@ -73,22 +73,33 @@ fn rows_by_four(
     sum
 }
 
-// For each measure and N the compiler makes code of its own: that is why both are written out in what follows.
+// Which code measures a block: N for absolute differences, N + 64 for squares. For each the compiler makes code of its own; one number says both, so that
+// a call has no more numbers than registers take.
+pub fn kernel(measure: u32, n: usize) -> usize
+    requires { ⌜ n < 64 ⌝ }
+    ensures { λ r. ⌜ r ≡ kernelOf measure n ⌝ }
+{
+    if measure == measures::ABSOLUTE {
+        return n;
+    }
+    n + 64
+}
 
-// A block's rows by absolute differences, as far as the ceiling goes.
-fn absolute_from(
+// The distortion of the newer block that begins at place a against the older block that begins at place b, as far as the ceiling goes: its
+// rows are added four at a time until the sum has reached the ceiling. N and the measure are a kernel's.
+pub fn distortion_from(
     older: &[u8],
     newer: &[u8],
     width: usize,
-    n: usize,
+    kernel: usize,
     a: usize,
     b: usize,
     ceiling: u32,
 ) -> u32
-    requires { ⌜ BlockRows (now older) (now newer) width n a b ⌝ }
-    ensures { λ d. ⌜ BlockSum 1 ceiling (now (older .entry)) (now (newer .entry)) width n a b d ⌝ }
+    requires { ⌜ (kernel < 128) × BlockRows (now older) (now newer) width (sizeBy kernel) a b ⌝ }
+    ensures { λ d. ⌜ BlockSum (measureBy kernel) ceiling (now (older .entry)) (now (newer .entry)) width (sizeBy kernel) a b d ⌝ }
 {
-    if n == 16 {
+    if kernel == 16 {
         return rows_by_four(
             older,
             newer,
@@ -101,53 +112,19 @@ fn absolute_from(
             ceiling,
         );
     }
-    if n == 8 {
+    if kernel == 8 {
         return rows_by_four(older, newer, measures::ABSOLUTE, width, a, b, 8, 2, ceiling);
     }
-    rows_by_four(older, newer, measures::ABSOLUTE, width, a, b, 4, 1, ceiling)
-}
-
-// A block's rows by squares, as far as the ceiling goes.
-fn squares_from(
-    older: &[u8],
-    newer: &[u8],
-    width: usize,
-    n: usize,
-    a: usize,
-    b: usize,
-    ceiling: u32,
-) -> u32
-    requires { ⌜ BlockRows (now older) (now newer) width n a b ⌝ }
-    ensures { λ d. ⌜ BlockSum 2 ceiling (now (older .entry)) (now (newer .entry)) width n a b d ⌝ }
-{
-    if n == 16 {
+    if kernel == 4 {
+        return rows_by_four(older, newer, measures::ABSOLUTE, width, a, b, 4, 1, ceiling);
+    }
+    if kernel == 80 {
         return rows_by_four(older, newer, measures::SQUARES, width, a, b, 16, 4, ceiling);
     }
-    if n == 8 {
+    if kernel == 72 {
         return rows_by_four(older, newer, measures::SQUARES, width, a, b, 8, 2, ceiling);
     }
     rows_by_four(older, newer, measures::SQUARES, width, a, b, 4, 1, ceiling)
-}
-
-// The distortion of the newer block that begins at place a against the older block that begins at place b, as far as the ceiling goes: its
-// rows are added four at a time until the sum has reached the ceiling.
-pub fn distortion_from(
-    older: &[u8],
-    newer: &[u8],
-    measure: u32,
-    width: usize,
-    n: usize,
-    a: usize,
-    b: usize,
-    ceiling: u32,
-) -> u32
-    requires { ⌜ BlockRows (now older) (now newer) width n a b ⌝ }
-    ensures { λ d. ⌜ BlockSum measure ceiling (now (older .entry)) (now (newer .entry)) width n a b d ⌝ }
-{
-    if measure == measures::ABSOLUTE {
-        return absolute_from(older, newer, width, n, a, b, ceiling);
-    }
-    squares_from(older, newer, width, n, a, b, ceiling)
 }
 
 // The distortion of the newer block at row y, column x against the older block at row r, column c.
@@ -167,8 +144,13 @@ pub fn block_distortion(
     let width = s.width;
     let a = y * width + x;
     let b = r * width + c;
-    if s.measure == measures::ABSOLUTE {
-        return absolute_from(older, newer, width, s.n, a, b, 4294967295);
-    }
-    squares_from(older, newer, width, s.n, a, b, 4294967295)
+    distortion_from(
+        older,
+        newer,
+        width,
+        kernel(s.measure, s.n),
+        a,
+        b,
+        4294967295,
+    )
 }

@@ -6,7 +6,7 @@ use mathlib.Core.Path.{_≡_}
 use lib.ListN.{length}
 use Rattle.measures.specs.Measures.{measureOf}
 use Rattle.frame.specs.declared.Setting.{Setting}
-use Rattle.distortion.specs.Blocks.{blockAt, distortionBy, Comparable, BlockSum, by-squares, block-rows, begins, block-inside, distortion-small}
+use Rattle.distortion.specs.Blocks.{blockAt, distortionBy, Comparable, BlockSum, kernel-is, kernel-sum, size-small, block-rows, begins, block-inside, distortion-small}
 use Rattle.distortion.proofs.block_distortion.Statement.{statement}
 use Rattle.distortion.proofs.block_distortion.Tie as tie
 
@@ -35,22 +35,20 @@ mul-b c = omega (arith, firsts (c .before .before))
 add-b : tie.Need-add-b
 add-b c = omega (arith, firsts (c .before .before))
 
-absolute-from-requires : tie.Need-absolute-from-requires
-absolute-from-requires c κs = block-inside _ _ _ _ _ _ _ (c .before .before .before .before .pre)
+kernel-requires : tie.Need-kernel-requires
+kernel-requires c κs = size-small _ (c .before .before .pre .placed .paired .allowed)
+
+distortion-from-requires : tie.Need-distortion-from-requires
+distortion-from-requires c κs =
+    let s = c .before .before .before in
+    let k = kernel-is (s .args .s .measure) (s .args .s .n) (size-small _ (s .pre .placed .paired .allowed)) in
+    rw (c .kernel .ensures) (k .small, rw (k .size) (block-inside _ _ _ _ _ _ _ (s .pre)))
 
 returns : tie.Need-returns
 returns c =
-    let s = c .before .before .before .before .before in
-    whole (s .pre) (rw (c .before .if1 .taken) (c .absolute-from .ensures))
-
-squares-from-requires : tie.Need-squares-from-requires
-squares-from-requires c κs = block-inside _ _ _ _ _ _ _ (c .before .before .before .before .pre)
-
-returns-2 : tie.Need-returns-2
-returns-2 c =
-    let s = c .before .before .before .before .before in
-    whole (s .pre) (by-squares (c .before .if1 .left) (c .squares-from .ensures))
+    let s = c .before .before .before .before in
+    let k = kernel-is (s .args .s .measure) (s .args .s .n) (size-small _ (s .pre .placed .paired .allowed)) in
+    whole (s .pre) (kernel-sum k (rw (c .before .kernel .ensures) at (c .distortion-from .ensures)))
 
 pub block-distortion-spec : {M : Type 1} → statement M
-block-distortion-spec =
-    tie.close (tie.spec mul-a add-a mul-b add-b absolute-from-requires returns squares-from-requires returns-2)
+block-distortion-spec = tie.close (tie.spec mul-a add-a mul-b add-b kernel-requires distortion-from-requires returns)

@@ -1,20 +1,72 @@
--- `distortion_from`: the rows by each measure's own code; all numbers but 1 have that of squares.
-use borrow.Author.Needs.{needs}
-use Rattle.distortion.specs.Blocks.{by-squares}
+-- `distortion_from`: each kernel is a measure and an allowed N, whose N rows are N / 4 groups of four.
+use mathlib.Core.Path.{_≡_, refl, ap}
+use native.Mathlib.Omega.{arith}
+use Rattle.distortion.specs.Blocks.{sizeBy}
+use Rattle.distortion.proofs.Rows.{by-four, block-sum, last-kernel}
 use Rattle.distortion.proofs.distortion_from.Statement.{statement}
 use Rattle.distortion.proofs.distortion_from.Tie as tie
 
-absolute-from-requires : tie.Need-absolute-from-requires
-absolute-from-requires c κs = search needs
+-- back to the function's entry
+abbrev entry : tie.Else1 → tie.Start
+entry e = e .before .before .before
+
+left : (e : tie.Else5) → entry (e .before .before .before .before) .args .kernel ≡ 68
+left e =
+    let d = e .before in
+    let c = d .before in
+    let b = c .before in
+    let a = b .before in
+    last-kernel _ (entry a .pre .0) (entry a .pre .1 .allowed) (a .if1 .left) (b .if2 .left) (c .if3 .left) (d .if4 .left) (e .if5 .left)
+
+rows-by-four-requires : tie.Need-rows-by-four-requires
+rows-by-four-requires c κs = by-four _ _ _ _ _ _ 16 4 (c .before .before .before .pre .1) (ap sizeBy (c .if1 .taken)) refl (omega arith)
 
 returns : tie.Need-returns
-returns c = rw (c .before .if1 .taken) (c .absolute-from .ensures)
+returns c = rw (c .before .if1 .taken) (block-sum 1 _ _ _ _ 16 _ _ 16 4 _ refl refl (c .rows-by-four .ensures))
 
-squares-from-requires : tie.Need-squares-from-requires
-squares-from-requires c κs = search needs
+rows-by-four-requires-2 : tie.Need-rows-by-four-requires-2
+rows-by-four-requires-2 c κs = by-four _ _ _ _ _ _ 8 2 (entry (c .before) .pre .1) (ap sizeBy (c .if2 .taken)) refl (omega arith)
 
 returns-2 : tie.Need-returns-2
-returns-2 c = by-squares (c .before .if1 .left) (c .squares-from .ensures)
+returns-2 c = rw (c .before .if2 .taken) (block-sum 1 _ _ _ _ 8 _ _ 8 2 _ refl refl (c .rows-by-four2 .ensures))
+
+rows-by-four-requires-3 : tie.Need-rows-by-four-requires-3
+rows-by-four-requires-3 c κs = by-four _ _ _ _ _ _ 4 1 (entry (c .before .before) .pre .1) (ap sizeBy (c .if3 .taken)) refl (omega arith)
+
+returns-3 : tie.Need-returns-3
+returns-3 c = rw (c .before .if3 .taken) (block-sum 1 _ _ _ _ 4 _ _ 4 1 _ refl refl (c .rows-by-four3 .ensures))
+
+rows-by-four-requires-4 : tie.Need-rows-by-four-requires-4
+rows-by-four-requires-4 c κs = by-four _ _ _ _ _ _ 16 4 (entry (c .before .before .before) .pre .1) (ap sizeBy (c .if4 .taken)) refl (omega arith)
+
+returns-4 : tie.Need-returns-4
+returns-4 c = rw (c .before .if4 .taken) (block-sum 2 _ _ _ _ 16 _ _ 16 4 _ refl refl (c .rows-by-four4 .ensures))
+
+rows-by-four-requires-5 : tie.Need-rows-by-four-requires-5
+rows-by-four-requires-5 c κs = by-four _ _ _ _ _ _ 8 2 (entry (c .before .before .before .before) .pre .1) (ap sizeBy (c .if5 .taken)) refl (omega arith)
+
+returns-5 : tie.Need-returns-5
+returns-5 c = rw (c .before .if5 .taken) (block-sum 2 _ _ _ _ 8 _ _ 8 2 _ refl refl (c .rows-by-four5 .ensures))
+
+rows-by-four-requires-6 : tie.Need-rows-by-four-requires-6
+rows-by-four-requires-6 c κs = by-four _ _ _ _ _ _ 4 1 (entry (c .before .before .before .before) .pre .1) (ap sizeBy (left c)) refl (omega arith)
+
+returns-6 : tie.Need-returns-6
+returns-6 c = rw (left (c .before)) (block-sum 2 _ _ _ _ 4 _ _ 4 1 _ refl refl (c .rows-by-four6 .ensures))
 
 pub distortion-from-spec : {M : Type 1} → statement M
-distortion-from-spec = tie.close (tie.spec absolute-from-requires returns squares-from-requires returns-2)
+distortion-from-spec =
+    tie.close
+    (tie.spec
+    rows-by-four-requires
+    returns
+    rows-by-four-requires-2
+    returns-2
+    rows-by-four-requires-3
+    returns-3
+    rows-by-four-requires-4
+    returns-4
+    rows-by-four-requires-5
+    returns-5
+    rows-by-four-requires-6
+    returns-6)
