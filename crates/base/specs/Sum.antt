@@ -82,14 +82,6 @@ unfolding sumTo
 sumTo-cut f n zero = rw (add-zero n, add-zero (sumTo f n))
 sumTo-cut f n (suc m) = rw (add-suc n m, sumTo-cut f n m, add-assoc)
 
--- four more terms
-pub sumTo-four : (f : ℕ → ℕ) (n : ℕ) → sumTo f (n + 4) ≡ sumTo f n + (f n + f (n + 1) + f (n + 2) + f (n + 3))
-sumTo-four f n =
-    omega (arith, sumTo-more f n, next (n + 1) (n + 2) (omega arith), next (n + 2) (n + 3) (omega arith), next (n + 3) (n + 4) (omega arith))
-  where
-    next : (k m : ℕ) → m ≡ k + 1 → sumTo f m ≡ sumTo f k + f k
-    next k m e = rw e (sumTo-more f k)
-
 -- rows first or columns first
 pub sumTo-swap : (f : ℕ → ℕ → ℕ) (n m : ℕ) → sumTo (λ i. sumTo (λ j. f i j) m) n ≡ sumTo (λ j. sumTo (λ i. f i j) n) m
 unfolding sumTo

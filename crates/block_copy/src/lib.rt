@@ -3,32 +3,28 @@
 
 ghost use mathlib.Core.Path.{_≡_};
 ghost use Prim.Native.Nat.{_+_, _*_, _≤_};
-ghost use lib.ListN.{length, getD};
-ghost use Rattle.base.specs.Lists.{fillTo};
+ghost use lib.ListN.{length};
 ghost use Rattle.measures.specs.Measures.{measureOf};
 ghost use Rattle.distortion.specs.Blocks.{rowsApart};
 ghost use Rattle.block_copy.specs.Copy.{blockCopy};
 
-// 16 pels from place `from` on, copied to place `to` on.
-fn copy_row(newer: &[u8], from: usize, block: &mut [u8; 256], to: usize)
-    requires { ⌜ (from + 16 ≤ length (now newer)) × (to + 16 ≤ 256) × (length (now block) ≡ 256) ⌝ }
-    ensures { λ _. ⌜ now (block .exit) ≡ fillTo (now (block .entry)) to (λ j. getD (now (newer .entry)) (from + j) 0) 16 ⌝ }
-{
-    let mut j: usize = 0;
-    while j < 16 {
-        block[to + j] = newer[from + j];
-        j += 1;
-    }
-}
-
-// The 16 × 16 block that begins at place a, row after row.
+// The 16 × 16 block that begins at place a, row after row. Of the pel at row i and column j, p is the place in the frame and k the place in the copy.
 pub fn copy_block(newer: &[u8], width: usize, a: usize, block: &mut [u8; 256])
     requires { ⌜ (a + 16 * width + 16 ≤ length (now newer) + width) × (width ≤ 1024) × (length (now block) ≡ 256) ⌝ }
     ensures { λ _. ⌜ now (block .exit) ≡ blockCopy (now (newer .entry)) width a 16 ⌝ }
 {
+    let mut p = a;
+    let mut k: usize = 0;
     let mut i: usize = 0;
     while i < 16 {
-        copy_row(newer, a + i * width, block, i * 16);
+        let mut j: usize = 0;
+        while j < 16 {
+            block[k] = newer[p];
+            p += 1;
+            k += 1;
+            j += 1;
+        }
+        p = p + width - 16;
         i += 1;
     }
 }
@@ -41,10 +37,13 @@ pub fn copy_distortion(older: &[u8], block: &[u8; 256], width: usize, b: u32) ->
 {
     let mut sum: u32 = 0;
     let mut g: usize = 0;
+    let mut p: usize = 0;
     let mut q = b as usize;
+    let down = 4 * width;
     while g < 4 {
-        sum += distortion::four_rows(older, block, measures::ABSOLUTE, 16, width, 64 * g, q, 16);
-        q += 4 * width;
+        sum += distortion::four_rows(older, block, measures::ABSOLUTE, 16, width, p, q, 16);
+        p += 64;
+        q += down;
         g += 1;
     }
     sum

@@ -83,6 +83,10 @@ pub row-more : (μ : Measure) (older newer : List ℕ) (a b j : ℕ)
 unfolding rowFrom
 row-more μ older newer a b j = sumTo-more _ j
 
+-- 02, request 2, "row times width plus column": as far on from a block's first place as its own row and column say, the frame's row and column say too
+pub running-place : (width y x i j : ℕ) → y * width + x + (i * width + j) ≡ (y + i) * width + (x + j)
+running-place width y x i j = omega (arith, add-mul y i width)
+
 -- a block's distortion, row by row
 pub block-rows : (μ : Measure) (older newer : List ℕ) (width y x r c n : ℕ)
     → distortionBy μ n (blockAt newer width y x) (blockAt older width r c) ≡ rowsFrom μ older newer width (y * width + x) (r * width + c) n n
@@ -92,12 +96,12 @@ block-rows μ older newer width y x r c n =
     (λ i j hi hj. ap₂ (λ (k l : ℕ). μ .diff (getD newer k 0) (getD older l 0)) (place y x i j) (place r c i j))
   where
     place : (y x i j : ℕ) → (y + i) * width + (x + j) ≡ y * width + x + i * width + j
-    place y x i j = omega (arith, add-mul y i width)
+    place y x i j = omega (arith, running-place width y x i j)
 
--- 4 × groups rows of n pels, from places a and b on, lie inside two frames of so many columns
-pub record Rows (older newer : List ℕ) (width a b n groups : ℕ) : Type 0 where
-  pub in-newer : a + 4 * groups * width + n ≤ length newer + width
-  pub in-older : b + 4 * groups * width + n ≤ length older + width
+-- 4 × groups rows of n pels lie inside two frames of so many columns
+pub record Rows (older newer : List ℕ) (width n groups : ℕ) : Type 0 where
+  pub in-newer : 4 * groups * width + n ≤ length newer + width
+  pub in-older : 4 * groups * width + n ≤ length older + width
   pub wide : width ≤ 1024
   pub thin : n ≤ 64
   pub few : groups ≤ 16
@@ -177,6 +181,12 @@ module _ (ceiling : ℕ) (f : ℕ → ℕ) where
       one : (s : ℕ) (t : Bool) → leb ceiling s ≡ t → UpTo ceiling (sumTo f n) s → UpTo ceiling (sumTo f n + f n) (cond t s (s + f n))
       one s true e u = let h = leb-true ceiling s e in record { below = λ l. absurd (omega arith); beyond = λ l. omega (arith, u .beyond h) }
       one s false e u = let q = u .below (leb-false ceiling s e) in record { below = λ l. omega arith; beyond = λ l. omega arith }
+
+-- terms that agree
+pub sumUpTo-ext : (ceiling : ℕ) (f g : ℕ → ℕ) (n : ℕ) → ((i : ℕ) → f i ≡ g i) → sumUpTo ceiling f n ≡ sumUpTo ceiling g n
+unfolding sumUpTo
+sumUpTo-ext ceiling f g zero h = refl
+sumUpTo-ext ceiling f g (suc n) h = rw (sumUpTo-ext ceiling f g n h, h n)
 
 -- two blocks that stand wholly inside frames of an allowed setting: the newer one at (y, x), the older one at (r, c)
 pub record Comparable (older newer : List ℕ) (s : Setting) (y x r c : ℕ) : Type 0 where

@@ -4,24 +4,11 @@ ghost use mathlib.Core.Path.{_≡_};
 ghost use Prim.Native.Nat.{_+_, _*_, _≤_, _<_};
 ghost use lib.ListN.{length};
 ghost use Rattle.measures.specs.Measures.{measureOf};
-ghost use Rattle.distortion.specs.Blocks.{blockAt, distortionBy, rowFrom, rowsApart, rowsUpTo, Rows, BlockRows, BlockSum, kernelOf, sizeBy, measureBy, Comparable};
+ghost use Rattle.distortion.specs.Blocks.{blockAt, distortionBy, rowsApart, rowsUpTo, Rows, BlockRows, BlockSum, kernelOf, sizeBy, measureBy, Comparable};
 use frame::Setting;
 
-// n pels of the newer frame from place a on, against n pels of the older frame from place b on.
-fn row(older: &[u8], newer: &[u8], measure: u32, a: usize, b: usize, n: usize) -> u32
-    requires { ⌜ (a + n ≤ length (now newer)) × (b + n ≤ length (now older)) × (n ≤ 64) ⌝ }
-    ensures { λ d. ⌜ (d ≡ rowFrom (measureOf measure) (now (older .entry)) (now (newer .entry)) a b n) × (d ≤ n * measureOf measure .most) ⌝ }
-{
-    let mut sum: u32 = 0;
-    let mut j = 0;
-    while j < n {
-        sum += measures::pel_difference(measure, newer[a + j], older[b + j]);
-        j += 1;
-    }
-    sum
-}
-
-// Four rows in a straight line: the newer ones begin `across` pels apart, the older ones `width` pels.
+// Four rows of n pels, the first at places a and b: the newer ones begin `across` pels apart, the older ones `width` pels. p and q are the places of the pel
+// at row i and column j.
 pub fn four_rows(
     older: &[u8],
     newer: &[u8],
@@ -35,39 +22,49 @@ pub fn four_rows(
     requires { ⌜ (a + 3 * across + n ≤ length (now newer)) × (b + 3 * width + n ≤ length (now older)) × (n ≤ 64) × (across ≤ 1024) × (width ≤ 1024) ⌝ }
     ensures { λ d. ⌜ (d ≡ rowsApart (measureOf measure) (now (older .entry)) (now (newer .entry)) across width a b n 4) × (d ≤ 4 * (n * measureOf measure .most)) ⌝ }
 {
-    row(older, newer, measure, a, b, n)
-        + row(older, newer, measure, a + across, b + width, n)
-        + row(older, newer, measure, a + 2 * across, b + 2 * width, n)
-        + row(older, newer, measure, a + 3 * across, b + 3 * width, n)
+    let mut sum: u32 = 0;
+    let mut p = a;
+    let mut q = b;
+    let mut i: usize = 0;
+    while i < 4 {
+        let mut j = 0;
+        while j < n {
+            sum += measures::pel_difference(measure, newer[p], older[q]);
+            p += 1;
+            q += 1;
+            j += 1;
+        }
+        p = p + across - n;
+        q = q + width - n;
+        i += 1;
+    }
+    sum
 }
 
-// 4 × groups rows, four at a time, as far as the ceiling goes.
+// 4 × groups rows of two frames that begin with the blocks, four at a time, as far as the ceiling goes. So a row's place is the same number in both.
 fn rows_by_four(
     older: &[u8],
     newer: &[u8],
     measure: u32,
     width: usize,
-    a: usize,
-    b: usize,
     n: usize,
     groups: usize,
     ceiling: u32,
 ) -> u32
-    requires { ⌜ Rows (now older) (now newer) width a b n groups ⌝ }
-    ensures { λ d. ⌜ (d ≡ rowsUpTo (measureOf measure) ceiling (now (older .entry)) (now (newer .entry)) width a b n groups)
+    requires { ⌜ Rows (now older) (now newer) width n groups ⌝ }
+    ensures { λ d. ⌜ (d ≡ rowsUpTo (measureOf measure) ceiling (now (older .entry)) (now (newer .entry)) width 0 0 n groups)
         × (d ≤ groups * (4 * (n * measureOf measure .most))) ⌝ }
 {
+    let down = 4 * width;
     let mut sum: u32 = 0;
-    let mut p = a;
-    let mut q = b;
+    let mut p: usize = 0;
     let mut g = 0;
     while g < groups {
         if ceiling <= sum {
             return sum;
         }
-        sum += four_rows(older, newer, measure, width, width, p, q, n);
-        p += 4 * width;
-        q += 4 * width;
+        sum += four_rows(older, newer, measure, width, width, p, p, n);
+        p += down;
         g += 1;
     }
     sum
@@ -99,32 +96,24 @@ pub fn distortion_from(
     requires { ⌜ (kernel < 128) × BlockRows (now older) (now newer) width (sizeBy kernel) a b ⌝ }
     ensures { λ d. ⌜ BlockSum (measureBy kernel) ceiling (now (older .entry)) (now (newer .entry)) width (sizeBy kernel) a b d ⌝ }
 {
+    let here = &newer[a..];
+    let there = &older[b..];
     if kernel == 16 {
-        return rows_by_four(
-            older,
-            newer,
-            measures::ABSOLUTE,
-            width,
-            a,
-            b,
-            16,
-            4,
-            ceiling,
-        );
+        return rows_by_four(there, here, measures::ABSOLUTE, width, 16, 4, ceiling);
     }
     if kernel == 8 {
-        return rows_by_four(older, newer, measures::ABSOLUTE, width, a, b, 8, 2, ceiling);
+        return rows_by_four(there, here, measures::ABSOLUTE, width, 8, 2, ceiling);
     }
     if kernel == 4 {
-        return rows_by_four(older, newer, measures::ABSOLUTE, width, a, b, 4, 1, ceiling);
+        return rows_by_four(there, here, measures::ABSOLUTE, width, 4, 1, ceiling);
     }
     if kernel == 80 {
-        return rows_by_four(older, newer, measures::SQUARES, width, a, b, 16, 4, ceiling);
+        return rows_by_four(there, here, measures::SQUARES, width, 16, 4, ceiling);
     }
     if kernel == 72 {
-        return rows_by_four(older, newer, measures::SQUARES, width, a, b, 8, 2, ceiling);
+        return rows_by_four(there, here, measures::SQUARES, width, 8, 2, ceiling);
     }
-    rows_by_four(older, newer, measures::SQUARES, width, a, b, 4, 1, ceiling)
+    rows_by_four(there, here, measures::SQUARES, width, 4, 1, ceiling)
 }
 
 // The distortion of the newer block at row y, column x against the older block at row r, column c.

@@ -1,4 +1,5 @@
--- `copy_distortion`: after g turns the sum is that of the first 4 × g rows, and the next older row begins 4 × g widths on.
+-- `copy_distortion`: after g turns the sum is that of the first 4 × g rows, and the next row is at place 4 × g × 16 and 4 × g × width on from
+-- the older block's first.
 use Prim.Native.Nat.{_+_, _-_, _*_, _≤_}
 use mathlib.Core.Path.{_≡_, refl}
 use native.Mathlib.Nat.{zero-mul, add-mul, mul-le-mul-right}
@@ -11,11 +12,11 @@ use Rattle.block_copy.proofs.copy_distortion.Statement.{statement}
 use Rattle.block_copy.proofs.copy_distortion.Tie as tie
 
 abbrev Inv-loop : tie.InvT-loop
-Inv-loop older block width b sum₀ g₀ q₀ sum g q =
-    (g ≤ 4) × (q ≡ b + 4 * g * width) × (sum ≤ g * 4161600) × (sum ≡ rowsApart (measureOf 1) older block 16 width 0 b 16 (4 * g))
+Inv-loop older block width b sum₀ g₀ p₀ q₀ down sum g p q =
+    (g ≤ 4) × (p ≡ 4 * g * 16) × (q ≡ b + 4 * g * width) × (sum ≤ g * 4161600) × (sum ≡ rowsApart (measureOf 1) older block 16 width 0 b 16 (4 * g))
 
 abbrev μ-loop : tie.MeasureT-loop
-μ-loop older block width b sum₀ g₀ q₀ sum g q = 4 - g
+μ-loop older block width b sum₀ g₀ p₀ q₀ down sum g p q = 4 - g
 
 -- a turn's rows end above the last
 turn : (i : tie.In-loop Inv-loop μ-loop) → let a = i .before .before .before .args in
@@ -27,12 +28,12 @@ turn i =
     let e : 4 * (g + 1) ≡ 4 * g + 4 = omega arith in
     (rw e (add-mul (4 * g) 4 (a .width)), mul-le-mul-right (a .width) (omega arith))
 
+mul-down : tie.Need-mul-down Inv-loop μ-loop
+mul-down c = omega arith
+
 loop-holds : tie.Need-loop-holds Inv-loop μ-loop
 unfolding sumTo
-loop-holds c = (omega arith, omega (arith, zero-mul (c .before .args .width)), omega arith, refl)
-
-mul-four-rows : tie.Need-mul-four-rows Inv-loop μ-loop
-mul-four-rows c = omega arith
+loop-holds c = (omega arith, omega arith, omega (arith, zero-mul (c .before .args .width)), omega arith, refl)
 
 four-rows-requires : tie.Need-four-rows-requires Inv-loop μ-loop
 four-rows-requires c κs = omega (arith, turn (c .before))
@@ -40,8 +41,8 @@ four-rows-requires c κs = omega (arith, turn (c .before))
 add-sum : tie.Need-add-sum Inv-loop μ-loop
 add-sum c = omega (arith, most-small 1)
 
-mul-q : tie.Need-mul-q Inv-loop μ-loop
-mul-q c = omega arith
+add-p : tie.Need-add-p Inv-loop μ-loop
+add-p c = omega arith
 
 add-q : tie.Need-add-q Inv-loop μ-loop
 add-q c = omega (arith, turn (c .before .before))
@@ -58,16 +59,16 @@ loop-again c =
     let l = i .before .loop in
     let a = i .before .before .before .args in
     let e : 4 * (l .g + 1) ≡ 4 * l .g + 4 = omega arith in
-    let p : 64 * l .g ≡ 0 + 4 * l .g * 16 = omega arith in
+    let p : l .p ≡ 0 + 4 * l .g * 16 = omega arith in
     let cut = rows-cut (measureOf 1) (a .older .now) (a .block .now) 16 (a .width) 0 (a .b) 16 (4 * l .g) 4 in
-    let four = rw (l .inv .1, p) at (c .four-rows .ensures .0) in
-    (omega arith, omega (arith, turn i), omega (arith, c .four-rows .ensures .1, most-small 1), rw e (omega (arith, cut, four, l .inv .3)))
+    let four = rw (l .inv .2, p) at (c .four-rows .ensures .0) in
+    (omega arith, omega arith, omega (arith, turn i), omega (arith, c .four-rows .ensures .1, most-small 1), rw e (omega (arith, cut, four, l .inv .4)))
 
 returns : tie.Need-returns Inv-loop μ-loop
 returns c =
     let l = c .before .loop in
     let e : l .g ≡ 4 = omega arith in
-    rw e at (l .inv .3)
+    rw e at (l .inv .4)
 
 pub copy-distortion-spec : {M : Type 1} → statement M
 copy-distortion-spec =
@@ -75,11 +76,11 @@ copy-distortion-spec =
     (tie.spec
     Inv-loop
     μ-loop
+    mul-down
     loop-holds
-    mul-four-rows
     four-rows-requires
     add-sum
-    mul-q
+    add-p
     add-q
     add-g
     loop-less

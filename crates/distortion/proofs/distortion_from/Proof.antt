@@ -1,14 +1,22 @@
--- `distortion_from`: each kernel is a measure and an allowed N, whose N rows are N / 4 groups of four.
+-- `distortion_from`: the frames are taken from where the blocks begin on; each kernel is a measure and an allowed N, whose N rows are N / 4 groups of four.
+use Prim.Native.Nat.{_≤_}
 use mathlib.Core.Path.{_≡_, refl, ap}
 use native.Mathlib.Omega.{arith}
+use borrow.Author.Needs.{needs}
+use lib.ListN.{length}
+use denote.Ref.{now}
 use Rattle.distortion.specs.Blocks.{sizeBy}
-use Rattle.distortion.proofs.Rows.{by-four, block-sum, last-kernel}
+use Rattle.distortion.proofs.Rows.{block-begins, by-four, block-sum, last-kernel}
 use Rattle.distortion.proofs.distortion_from.Statement.{statement}
 use Rattle.distortion.proofs.distortion_from.Tie as tie
 
 -- back to the function's entry
 abbrev entry : tie.Else1 → tie.Start
-entry e = e .before .before .before
+entry e = e .before .before .before .before .before
+
+-- both blocks begin inside their frames
+firsts : (s : tie.Start) → let a = s .args in (a .a ≤ length (now (a .newer))) × (a .b ≤ length (now (a .older)))
+firsts s = block-begins _ _ _ _ _ _ (s .pre .1)
 
 left : (e : tie.Else5) → entry (e .before .before .before .before) .args .kernel ≡ 68
 left e =
@@ -18,8 +26,26 @@ left e =
     let a = b .before in
     last-kernel _ (entry a .pre .0) (entry a .pre .1 .allowed) (a .if1 .left) (b .if2 .left) (c .if3 .left) (d .if4 .left) (e .if5 .left)
 
+sub-here : tie.Need-sub-here
+sub-here c = firsts (c .before .before) .0
+
+part-here-start : tie.Need-part-here-start
+part-here-start c = firsts (c .before .before) .0
+
+part-here-end : tie.Need-part-here-end
+part-here-end c = search needs
+
+sub-there : tie.Need-sub-there
+sub-there c = firsts (c .before .before .before) .1
+
+part-there-start : tie.Need-part-there-start
+part-there-start c = firsts (c .before .before .before) .1
+
+part-there-end : tie.Need-part-there-end
+part-there-end c = search needs
+
 rows-by-four-requires : tie.Need-rows-by-four-requires
-rows-by-four-requires c κs = by-four _ _ _ _ _ _ 16 4 (c .before .before .before .pre .1) (ap sizeBy (c .if1 .taken)) refl (omega arith)
+rows-by-four-requires c κs = by-four _ _ _ _ _ _ 16 4 (c .before .before .before .before .before .pre .1) (ap sizeBy (c .if1 .taken)) refl (omega arith)
 
 returns : tie.Need-returns
 returns c = rw (c .before .if1 .taken) (block-sum 1 _ _ _ _ 16 _ _ 16 4 _ refl refl (c .rows-by-four .ensures))
@@ -58,6 +84,12 @@ pub distortion-from-spec : {M : Type 1} → statement M
 distortion-from-spec =
     tie.close
     (tie.spec
+    sub-here
+    part-here-start
+    part-here-end
+    sub-there
+    part-there-start
+    part-there-end
     rows-by-four-requires
     returns
     rows-by-four-requires-2

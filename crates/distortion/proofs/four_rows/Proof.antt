@@ -1,94 +1,145 @@
--- `four_rows`: where the last of four rows lies inside, all four do, and their sums are the four terms.
-use Prim.Native.Nat.{_*_, _≤_}
-use native.Mathlib.Nat.{mul-le-mul}
+-- `four_rows`: at row i and column j the places are i × across + j and i × width + j on from where the rows begin, and the sum is that of the pels before.
+use Prim.Native.Nat.{_+_, _-_, _*_, _≤_, _<_}
+use mathlib.Core.Path.{_≡_}
+use native.Mathlib.Nat.{mul-le-mul, mul-le-mul-right}
 use native.Mathlib.Omega.{arith}
+use Rattle.base.specs.Index.{row-next}
 use Rattle.measures.specs.Measures.{measureOf, most-small}
-use Rattle.distortion.proofs.Rows.{rows-four}
+use Rattle.distortion.proofs.Rows.{Summed, summed-none, summed-pel, summed-row, summed-all}
 use Rattle.distortion.proofs.four_rows.Statement.{statement}
 use Rattle.distortion.proofs.four_rows.Tie as tie
 
-abbrev start : tie.After-row3 → tie.Start
-start c = c .before .before .before .before .before
+abbrev Inv-loop2 : tie.InvT-loop2
+Inv-loop2 older newer measure across width a b n sum₀ p₀ q₀ i j₀ sum p q j =
+    (p ≡ a + (i * across + j)) × (q ≡ b + (i * width + j)) × (i < 4) × (j ≤ n) × Summed (measureOf measure) older newer across width a b n i j sum
 
--- a row's sum is small
-few : (s : tie.Start) → s .args .n * measureOf (s .args .measure) .most ≤ 64 * 65025
-few s = mul-le-mul (s .pre .2) (most-small (s .args .measure))
+abbrev μ-loop2 : tie.MeasureT-loop2
+μ-loop2 older newer measure across width a b n sum₀ p₀ q₀ i j₀ sum p q j = n - j
 
-row-requires : tie.Need-row-requires
-row-requires c κs = omega arith
+abbrev Inv-loop : tie.InvT-loop
+Inv-loop older newer measure across width a b n sum₀ p₀ q₀ i₀ sum p q i =
+    (p ≡ a + i * across) × (q ≡ b + i * width) × (i ≤ 4) × Summed (measureOf measure) older newer across width a b n i 0 sum
 
-add-row : tie.Need-add-row
-add-row c = omega arith
+abbrev μ-loop : tie.MeasureT-loop
+μ-loop older newer measure across width a b n sum₀ p₀ q₀ i₀ sum p q i = 4 - i
 
-add-row-2 : tie.Need-add-row-2
-add-row-2 c = omega arith
+abbrev start : tie.At-loop2 Inv-loop2 μ-loop2 Inv-loop μ-loop → tie.Start Inv-loop2 μ-loop2 Inv-loop μ-loop
+start l = l .before .before .before .before .before
 
-row-requires-2 : tie.Need-row-requires-2
-row-requires-2 c κs = omega arith
+-- no row begins below the last
+inside : (l : tie.At-loop2 Inv-loop2 μ-loop2 Inv-loop μ-loop) → let a = start l .args in
+    (l .before .before .loop .i * a .across ≤ 3 * a .across) × (l .before .before .loop .i * a .width ≤ 3 * a .width)
+inside l =
+    let a = start l .args in
+    (mul-le-mul-right (a .across) (omega arith), mul-le-mul-right (a .width) (omega arith))
 
-add-result : tie.Need-add-result
-add-result c = omega (arith, few (c .before .before .before .before))
+-- the sum with a pel more fits
+fits : (d : tie.In-loop2 Inv-loop2 μ-loop2 Inv-loop μ-loop) → let a = start (d .before) .args in
+    let m = measureOf (a .measure) .most in
+    (d .before .before .before .loop .i * (a .n * m) ≤ 3 * (64 * 65025)) × (d .before .loop2 .j * m ≤ 64 * 65025) × (m ≤ 65025)
+fits d =
+    let s = start (d .before) in
+    let m = most-small (s .args .measure) in
+    (mul-le-mul {n₂ = 3} (omega arith) (mul-le-mul (s .pre .2) m), mul-le-mul {n₂ = 64} (omega arith) m, m)
 
-mul-row : tie.Need-mul-row
-mul-row c = omega arith
+loop-holds : tie.Need-loop-holds Inv-loop2 μ-loop2 Inv-loop μ-loop
+loop-holds c = (omega arith, omega arith, omega arith, summed-none _ _ _ _ _ _ _ _)
 
-add-row-3 : tie.Need-add-row-3
-add-row-3 c = omega arith
+loop2-holds : tie.Need-loop2-holds Inv-loop2 μ-loop2 Inv-loop μ-loop
+loop2-holds c =
+    let v = c .before .loop .inv in
+    (omega arith, omega arith, omega arith, omega arith, v .3)
 
-mul-row-2 : tie.Need-mul-row-2
-mul-row-2 c = omega arith
+shared-slice-read-pel-difference : tie.Need-shared-slice-read-pel-difference Inv-loop2 μ-loop2 Inv-loop μ-loop
+shared-slice-read-pel-difference c = omega (arith, inside (c .before .before))
 
-add-row-4 : tie.Need-add-row-4
-add-row-4 c = omega arith
+shared-slice-read-pel-difference-2 : tie.Need-shared-slice-read-pel-difference-2 Inv-loop2 μ-loop2 Inv-loop μ-loop
+shared-slice-read-pel-difference-2 c = omega (arith, inside (c .before .before .before))
 
-row-requires-3 : tie.Need-row-requires-3
-row-requires-3 c κs = omega arith
+pel-difference-requires : tie.Need-pel-difference-requires Inv-loop2 μ-loop2 Inv-loop μ-loop
+pel-difference-requires c κs = tt
 
-add-result-2 : tie.Need-add-result-2
-add-result-2 c = omega (arith, few (c .before .before .before .before .before))
+add-sum : tie.Need-add-sum Inv-loop2 μ-loop2 Inv-loop μ-loop
+add-sum c =
+    let d = c .before .before .before in
+    omega (arith, d .before .loop2 .inv .4 .most, fits d, c .pel-difference .ensures .1)
 
-mul-row-3 : tie.Need-mul-row-3
-mul-row-3 c = omega arith
+add-p : tie.Need-add-p Inv-loop2 μ-loop2 Inv-loop μ-loop
+add-p c = omega (arith, inside (c .before .before .before .before))
 
-add-row-5 : tie.Need-add-row-5
-add-row-5 c = omega arith
+add-q : tie.Need-add-q Inv-loop2 μ-loop2 Inv-loop μ-loop
+add-q c = omega (arith, inside (c .before .before .before .before))
 
-mul-row-4 : tie.Need-mul-row-4
-mul-row-4 c = omega arith
+add-j : tie.Need-add-j Inv-loop2 μ-loop2 Inv-loop μ-loop
+add-j c = omega arith
 
-add-row-6 : tie.Need-add-row-6
-add-row-6 c = omega arith
+loop2-less : tie.Need-loop2-less Inv-loop2 μ-loop2 Inv-loop μ-loop
+loop2-less c = omega arith
 
-row-requires-4 : tie.Need-row-requires-4
-row-requires-4 c κs = omega arith
+loop2-again : tie.Need-loop2-again Inv-loop2 μ-loop2 Inv-loop μ-loop
+loop2-again c =
+    let l = c .before .before .before .before in
+    let v = l .loop2 .inv in
+    let d = rw (v .0, v .1) at (c .pel-difference .ensures .0) in
+    (omega arith, omega arith, omega arith, omega arith, summed-pel _ _ _ _ _ _ _ _ _ _ _ _ (v .4) d (c .pel-difference .ensures .1))
 
-add-result-3 : tie.Need-add-result-3
-add-result-3 c = omega (arith, few (start (c .before)))
+add-p-2 : tie.Need-add-p-2 Inv-loop2 μ-loop2 Inv-loop μ-loop
+add-p-2 c = omega (arith, inside (c .before))
 
-returns : tie.Need-returns
+sub-p : tie.Need-sub-p Inv-loop2 μ-loop2 Inv-loop μ-loop
+sub-p c = omega arith
+
+add-q-2 : tie.Need-add-q-2 Inv-loop2 μ-loop2 Inv-loop μ-loop
+add-q-2 c = omega (arith, inside (c .before))
+
+sub-q : tie.Need-sub-q Inv-loop2 μ-loop2 Inv-loop μ-loop
+sub-q c = omega arith
+
+add-i : tie.Need-add-i Inv-loop2 μ-loop2 Inv-loop μ-loop
+add-i c = omega arith
+
+loop-less : tie.Need-loop-less Inv-loop2 μ-loop2 Inv-loop μ-loop
+loop-less c = omega arith
+
+loop-again : tie.Need-loop-again Inv-loop2 μ-loop2 Inv-loop μ-loop
+loop-again c =
+    let l = c .before in
+    let a = start l .args in
+    let i = l .before .before .loop .i in
+    let e : l .loop2 .j ≡ a .n = omega arith in
+    let over = summed-row _ _ _ _ _ _ _ _ i _ (rw e at (l .loop2 .inv .4)) in
+    (omega (arith, row-next i (a .across)), omega (arith, row-next i (a .width)), omega arith, over)
+
+returns : tie.Need-returns Inv-loop2 μ-loop2 Inv-loop μ-loop
 returns c =
-    let a = start (c .before) .args in
-    omega (arith, rows-four (measureOf (a .measure)) (a .older .now) (a .newer .now) (a .across) (a .width) (a .a) (a .b) (a .n))
+    let l = c .before .loop in
+    let e : l .i ≡ 4 = omega arith in
+    summed-all _ _ _ _ _ _ _ _ _ _ (rw e at (l .inv .3))
 
 pub four-rows-spec : {M : Type 1} → statement M
 four-rows-spec =
     tie.close
     (tie.spec
-    row-requires
-    add-row
-    add-row-2
-    row-requires-2
-    add-result
-    mul-row
-    add-row-3
-    mul-row-2
-    add-row-4
-    row-requires-3
-    add-result-2
-    mul-row-3
-    add-row-5
-    mul-row-4
-    add-row-6
-    row-requires-4
-    add-result-3
+    Inv-loop2
+    μ-loop2
+    Inv-loop
+    μ-loop
+    loop-holds
+    loop2-holds
+    shared-slice-read-pel-difference
+    shared-slice-read-pel-difference-2
+    pel-difference-requires
+    add-sum
+    add-p
+    add-q
+    add-j
+    loop2-less
+    loop2-again
+    add-p-2
+    sub-p
+    add-q-2
+    sub-q
+    add-i
+    loop-less
+    loop-again
     returns)

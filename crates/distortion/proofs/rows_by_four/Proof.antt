@@ -1,7 +1,7 @@
--- `rows_by_four`: after g turns the sum is that of the first 4 × g rows as far as the ceiling goes, and the next row begins 4 × g widths on.
+-- `rows_by_four`: after g turns the sum is that of the first 4 × g rows as far as the ceiling goes, and the next row's place is 4 × g × width.
 use Prim.Native.Nat.{_+_, _-_, _*_, _≤_}
 use mathlib.Core.Path.{_≡_, sym, ap₂, _∙_}
-use native.Mathlib.Nat.{zero-mul, add-mul, mul-le-mul, mul-le-mul-right}
+use native.Mathlib.Nat.{zero-add, zero-mul, add-mul, mul-le-mul, mul-le-mul-right}
 use native.Mathlib.Omega.{arith}
 use Rattle.base.specs.Index.{row-next}
 use Rattle.measures.specs.Measures.{measureOf, most-small}
@@ -10,12 +10,12 @@ use Rattle.distortion.proofs.rows_by_four.Statement.{statement}
 use Rattle.distortion.proofs.rows_by_four.Tie as tie
 
 abbrev Inv-loop : tie.InvT-loop
-Inv-loop older newer measure width a b n groups ceiling sum₀ p₀ q₀ g₀ sum p q g =
-    (g ≤ groups) × (p ≡ a + 4 * g * width) × (q ≡ b + 4 * g * width) × (sum ≤ g * (4 * (n * measureOf measure .most)))
-    × (sum ≡ rowsUpTo (measureOf measure) ceiling older newer width a b n g)
+Inv-loop older newer measure width n groups ceiling down sum₀ p₀ g₀ sum p g =
+    (g ≤ groups) × (p ≡ 4 * g * width) × (sum ≤ g * (4 * (n * measureOf measure .most)))
+    × (sum ≡ rowsUpTo (measureOf measure) ceiling older newer width 0 0 n g)
 
 abbrev μ-loop : tie.MeasureT-loop
-μ-loop older newer measure width a b n groups ceiling sum₀ p₀ q₀ g₀ sum p q g = groups - g
+μ-loop older newer measure width n groups ceiling down sum₀ p₀ g₀ sum p g = groups - g
 
 abbrev start : tie.At-loop Inv-loop μ-loop → tie.Start Inv-loop μ-loop
 start c = c .before .before .before
@@ -42,11 +42,14 @@ more i =
     let line = mul-le-mul (r .thin) (most-small (a .measure)) in
     (row-next g (4 * (a .n * measureOf (a .measure) .most)), mul-le-mul {n₂ = 16} {m₂ = 16646400} (omega (arith, r .few)) (omega (arith, line)))
 
+mul-down : tie.Need-mul-down Inv-loop μ-loop
+mul-down c = omega arith
+
 loop-holds : tie.Need-loop-holds Inv-loop μ-loop
 loop-holds c =
     let a = c .before .before .args in
     let z = zero-mul (a .width) in
-    (omega arith, omega (arith, z), omega (arith, z), omega (arith, zero-mul (4 * (a .n * measureOf (a .measure) .most))), sym (sumUpTo-none _ _))
+    (omega arith, omega (arith, z), omega (arith, zero-mul (4 * (a .n * measureOf (a .measure) .most))), sym (sumUpTo-none _ _))
 
 returns : tie.Need-returns Inv-loop μ-loop
 returns c =
@@ -55,8 +58,8 @@ returns c =
     let all : a .groups ≡ l .g + (a .groups - l .g) = omega arith in
     let four = 4 * (a .n * measureOf (a .measure) .most) in
     let most : l .g * four ≤ a .groups * four = mul-le-mul-right four (l .inv .0) in
-    let stopped = sumUpTo-reached (a .ceiling) _ (l .g) (a .groups - l .g) (rw (l .inv .4) at (c .if1 .taken)) in
-    (l .inv .4 ∙ sym (rw (← all) at stopped), omega arith)
+    let stopped = sumUpTo-reached (a .ceiling) _ (l .g) (a .groups - l .g) (rw (l .inv .3) at (c .if1 .taken)) in
+    (l .inv .3 ∙ sym (rw (← all) at stopped), omega arith)
 
 four-rows-requires : tie.Need-four-rows-requires Inv-loop μ-loop
 four-rows-requires c κs = omega (arith, turn (c .before), c .before .before .before .before .before .pre)
@@ -64,17 +67,8 @@ four-rows-requires c κs = omega (arith, turn (c .before), c .before .before .be
 add-sum : tie.Need-add-sum Inv-loop μ-loop
 add-sum c = omega (arith, more (c .before .before))
 
-mul-p : tie.Need-mul-p Inv-loop μ-loop
-mul-p c = omega arith
-
 add-p : tie.Need-add-p Inv-loop μ-loop
 add-p c = omega (arith, turn (c .before .before), start (c .before .before .before) .pre .in-newer)
-
-mul-q : tie.Need-mul-q Inv-loop μ-loop
-mul-q c = omega arith
-
-add-q : tie.Need-add-q Inv-loop μ-loop
-add-q c = omega (arith, turn (c .before .before), start (c .before .before .before) .pre .in-older)
 
 add-g : tie.Need-add-g Inv-loop μ-loop
 add-g c = omega arith
@@ -87,15 +81,15 @@ loop-again c =
     let i = c .before .before in
     let l = i .before .loop in
     let a = i .before .before .before .before .args in
-    let four = rw (l .inv .1, l .inv .2) at (c .four-rows .ensures .0) in
-    let next = sumUpTo-more (a .ceiling) _ (l .g) (rw (l .inv .4) at (c .before .if1 .left)) in
-    (omega arith, omega (arith, turn i), omega (arith, turn i), omega (arith, more i), ap₂ _+_ (l .inv .4) four ∙ sym next)
+    let four = rw (l .inv .1, ← zero-add (4 * l .g * a .width)) at (c .four-rows .ensures .0) in
+    let next = sumUpTo-more (a .ceiling) _ (l .g) (rw (l .inv .3) at (c .before .if1 .left)) in
+    (omega arith, omega (arith, turn i), omega (arith, more i), ap₂ _+_ (l .inv .3) four ∙ sym next)
 
 returns-2 : tie.Need-returns-2 Inv-loop μ-loop
 returns-2 c =
     let l = c .before .loop in
     let e : l .g ≡ c .before .before .before .before .args .groups = omega arith in
-    rw (← e) (l .inv .4, l .inv .3)
+    rw (← e) (l .inv .3, l .inv .2)
 
 pub rows-by-four-spec : {M : Type 1} → statement M
 rows-by-four-spec =
@@ -103,14 +97,12 @@ rows-by-four-spec =
     (tie.spec
     Inv-loop
     μ-loop
+    mul-down
     loop-holds
     returns
     four-rows-requires
     add-sum
-    mul-p
     add-p
-    mul-q
-    add-q
     add-g
     loop-less
     loop-again
