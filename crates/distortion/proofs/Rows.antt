@@ -1,5 +1,5 @@
--- Rows of a block one below the other: four of them are four terms of a sum, the rows below the first k begin k widths on,
--- and a sum as far as a ceiling goes tells of all rows.
+-- Rows of a block one below the other: their sum pel by pel, the rows below the first k, which begin k widths on, what a sum as far as a ceiling goes
+-- tells of all rows, and the rows of a frame that is cut where the block begins.
 use Prim.Native.Nat.{ℕ, _+_, _-_, _*_, _/_, _≤_, _<_}
 use mathlib.Core.Path.{_≡_, refl, sym, ap, ap₂, _∙_}
 use mathlib.Core.List.{List}

@@ -11,6 +11,7 @@ use Rattle.block_copy.specs.Copy.{blockCopy}
 use Rattle.block_copy.proofs.copy_block.Statement.{statement}
 use Rattle.block_copy.proofs.copy_block.Tie as tie
 
+-- 02, request 2: at each pel the running place is row × width + column, from where the block begins
 abbrev Inv-loop2 : tie.InvT-loop2
 Inv-loop2 newer width a block₀ p₀ k₀ i j₀ block p k j =
     (p ≡ a + (i * width + j)) × (k ≡ i * 16 + j) × (i < 16) × (j ≤ 16) × (block ≡ fillTo block₀ (i * 16) (λ c. getD newer (a + i * width + c) 0) j)

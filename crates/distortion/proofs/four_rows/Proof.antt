@@ -9,6 +9,7 @@ use Rattle.distortion.proofs.Rows.{Summed, summed-none, summed-pel, sum
 use Rattle.distortion.proofs.four_rows.Statement.{statement}
 use Rattle.distortion.proofs.four_rows.Tie as tie
 
+-- 02, request 2: at each pel the running place is row × width + column, from where the rows begin
 abbrev Inv-loop2 : tie.InvT-loop2
 Inv-loop2 older newer measure across width a b n sum₀ p₀ q₀ i j₀ sum p q j =
     (p ≡ a + (i * across + j)) × (q ≡ b + (i * width + j)) × (i < 4) × (j ≤ n) × Summed (measureOf measure) older newer across width a b n i j sum
@@ -46,9 +47,7 @@ loop-holds : tie.Need-loop-holds Inv-loop2 μ-loop2 Inv-loop μ-loop
 loop-holds c = (omega arith, omega arith, omega arith, summed-none _ _ _ _ _ _ _ _)
 
 loop2-holds : tie.Need-loop2-holds Inv-loop2 μ-loop2 Inv-loop μ-loop
-loop2-holds c =
-    let v = c .before .loop .inv in
-    (omega arith, omega arith, omega arith, omega arith, v .3)
+loop2-holds c = (omega arith, omega arith, omega arith, omega arith, c .before .loop .inv .3)
 
 shared-slice-read-pel-difference : tie.Need-shared-slice-read-pel-difference Inv-loop2 μ-loop2 Inv-loop μ-loop
 shared-slice-read-pel-difference c = omega (arith, inside (c .before .before))
