@@ -8,7 +8,7 @@ ghost use Rattle.measures.specs.Measures.{measureOf};
 ghost use Rattle.distortion.specs.Blocks.{rowsApart};
 ghost use Rattle.block_copy.specs.Copy.{blockCopy};
 
-// The 16 × 16 block that begins at place a, row after row. Of the pel at row i and column j, p is the place in the frame and k the place in the copy.
+// The 16 × 16 block that begins at place a, row after row. Of the pel at row i and column j, p is the place in the frame and k the one in the copy.
 pub fn copy_block(newer: &[u8], width: usize, a: usize, block: &mut [u8; 256])
     requires { ⌜ (a + 16 * width + 16 ≤ length (now newer) + width) × (width ≤ 1024) × (length (now block) ≡ 256) ⌝ }
     ensures { λ _. ⌜ now (block .exit) ≡ blockCopy (now (newer .entry)) width a 16 ⌝ }

@@ -7,8 +7,8 @@ ghost use Rattle.measures.specs.Measures.{measureOf};
 ghost use Rattle.distortion.specs.Blocks.{blockAt, distortionBy, rowsApart, rowsUpTo, Rows, BlockRows, BlockSum, kernelOf, sizeBy, measureBy, Comparable};
 use frame::Setting;
 
-// Four rows of n pels, the first at places a and b: the newer ones begin `across` pels apart, the older ones `width` pels. p and q are the places of the pel
-// at row i and column j.
+// Four rows of n pels, the first at places a and b: the newer ones begin `across` pels apart, the older ones `width` pels. p and q are the places of
+// the pel at row i and column j.
 pub fn four_rows(
     older: &[u8],
     newer: &[u8],
@@ -83,7 +83,8 @@ pub fn kernel(measure: u32, n: usize) -> usize
 }
 
 // The distortion of the newer block that begins at place a against the older block that begins at place b, as far as the ceiling goes: its
-// rows are added four at a time until the sum has reached the ceiling. N and the measure are a kernel's.
+// rows are added four at a time until the sum has reached the ceiling. N and the measure are a kernel's. Each frame is cut where its block begins,
+// so that a pel's place is row × width + column.
 pub fn distortion_from(
     older: &[u8],
     newer: &[u8],

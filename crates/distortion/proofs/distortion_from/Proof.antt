@@ -1,4 +1,4 @@
--- `distortion_from`: the frames are taken from where the blocks begin on; each kernel is a measure and an allowed N, whose N rows are N / 4 groups of four.
+-- `distortion_from`: the frames are cut where the blocks begin; each kernel is a measure and an allowed N, whose N rows are N / 4 groups of four.
 use Prim.Native.Nat.{_≤_}
 use mathlib.Core.Path.{_≡_, refl, ap}
 use native.Mathlib.Omega.{arith}

@@ -1,4 +1,5 @@
--- `four_rows`: at row i and column j the places are i × across + j and i × width + j on from where the rows begin, and the sum is that of the pels before.
+-- `four_rows`: at row i and column j the places are i × across + j and i × width + j on from where the rows begin, and the sum is that of the pels
+-- before.
 use Prim.Native.Nat.{_+_, _-_, _*_, _≤_, _<_}
 use mathlib.Core.Path.{_≡_}
 use native.Mathlib.Nat.{mul-le-mul, mul-le-mul-right}
