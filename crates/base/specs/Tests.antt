@@ -7,6 +7,7 @@ use native.Mathlib.Nat.{eq-or-lt-of-le, le-of-suc-le-suc, not-suc-le-zero}
 use native.Mathlib.Omega.{arith}
 use lib.Dec.{T, leb, eqb, leb→le, eqb→eq}
 use borrow.Author.Tests.{not-true, not-false}
+use mir.Val.{boolByte}
 
 pub and-left : (a b : Bool) → T (a && b) → T a
 and-left true b t = tt
@@ -54,6 +55,11 @@ failed {r} e h = sym e ∙ not-true r h
 -- 1 where a test holds
 abbrev pub one : Bool → ℕ
 one t = cond t 1 0
+
+-- as code makes it of a test
+pub byte-one : (t : Bool) → boolByte t ≡ one t
+byte-one true = refl
+byte-one false = refl
 
 pub one-le : (t : Bool) → one t ≤ 1
 one-le true = omega arith

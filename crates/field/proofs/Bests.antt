@@ -1,5 +1,5 @@
 -- A field by a search that answers with the exhaustive best, as searches 1 and 2 do: each block is listed by its exhaustive best with that vector's distortion,
--- and the reading is the vector that most blocks have as exhaustive best.
+-- and the reading is the vector that most voters have as exhaustive best.
 --   Exact                        at each place where a block may stand, the search answers so: full-exact, pruned-exact
 --   exact-at                     at grid block k
 --   exact-entries, exact-reading the list and the reading
@@ -22,6 +22,7 @@ use Rattle.pruned.specs.Answer.{prunedSearch}
 use Rattle.pruned.proofs.Blocks.{block-size-power}
 use Rattle.pruned.proofs.Laws.{pruned-distortion, pruned-is-best}
 use Rattle.block.specs.Block.{searchBy, searched-full, searched-pruned}
+use Rattle.voter.specs.Voter.{voting}
 use Rattle.reading.specs.Reading.{majority}
 use Rattle.reading.proofs.Majority.{majority-ext}
 use Rattle.field_block.specs.Blocks.{searchAt, vectorOf}
@@ -59,8 +60,8 @@ module _ (p : Pair) (q : Request) (fits : Fitting (p .setting)) (exact : Exact p
   unfolding searchAt
   exact-at k h = exact .at (blockRow (p .setting) k) (blockColumn (p .setting) k) (block-down (p .setting) fits k h) (block-across (p .setting) fits k h)
 
-  pub exact-reading : majority (vectorOf p q) (blocks (p .setting)) ≡ majority bestAt (blocks (p .setting))
-  exact-reading = majority-ext _ _ (blocks (p .setting)) (λ k h. exact-at k h .0)
+  pub exact-reading : majority (voting p) (vectorOf p q) (blocks (p .setting)) ≡ majority (voting p) bestAt (blocks (p .setting))
+  exact-reading = majority-ext _ _ _ (blocks (p .setting)) (λ k h. exact-at k h .0)
 
   pub exact-entries : entriesOf (searchAt p q) (blocks (p .setting)) ≡ concatTo (λ k. bestAt k .dy ∷ bestAt k .dx ∷ pos (leastAt k) ∷ []) (blocks (p .setting))
   unfolding entriesOf

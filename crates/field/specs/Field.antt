@@ -1,7 +1,8 @@
 -- 01, "Field, reading, track": "A field fills a lent list of 32-bit signed numbers, three a grid block: dy, dx, distortion; it answers with the
 -- reading and, summed over the blocks, counts and dropped." "Search 2 also fills a lent table of unsigned 32-bit sums: place r × (width + 1) + c
 -- holds the sum of older pels in rows before r and columns before c, r to height, c to width. Searches 1, 3 and 4 leave that table unchanged.
--- Places past the used part of any lent memory keep what they held."
+-- Places past the used part of any lent memory keep what they held." 02, request 3: "The reading gives votes and voters; a field call without a voter
+-- reads (0,0), 0 and 0."
 --   entryOf, entriesOf   the three numbers of a block, and of all grid blocks in order
 --   tableOf              the table of sums
 --   countOver            a count, summed over the blocks
@@ -27,7 +28,8 @@ use Rattle.distortion.specs.Blocks.{blockAt}
 use Rattle.search.specs.declared.SearchResult.{SearchResult}
 use Rattle.search.specs.SearchResult.{onlyAtOne}
 use Rattle.pruned_sums.specs.Area.{summed}
-use Rattle.reading.specs.Reading.{votes, majority}
+use Rattle.voter.specs.Voter.{voting}
+use Rattle.reading.specs.Reading.{voters, votes, majority}
 use Rattle.field_rules.specs.Rules.{tableSize, listSize, fieldRefusal}
 use Rattle.field_block.specs.Blocks.{searchAt, vectorOf}
 use Rattle.field.specs.declared.FieldAnswer.{FieldAnswer}
@@ -58,18 +60,19 @@ droppedOver found n = sumTo (λ k. found k .dropped) n
 unfoldable pub fieldAnswer : Pair → Request → FieldAnswer
 fieldAnswer p q =
     let n = blocks (p .setting) in
-    let reading = majority (vectorOf p q) n in
+    let reading = majority (voting p) (vectorOf p q) n in
     record {
       refusal = 0;
       dy = reading .dy;
       dx = reading .dx;
-      votes = votes (vectorOf p q) n reading;
+      votes = votes (voting p) (vectorOf p q) n reading;
+      voters = voters (voting p) n;
       counts = countsOver (searchAt p q) n;
       dropped = droppedOver (searchAt p q) n;
     }
 
 abbrev pub refusedField : ℕ → FieldAnswer
-refusedField refusal = record { refusal = refusal; dy = pos 0; dx = pos 0; votes = 0; counts = onlyAtOne 0; dropped = 0 }
+refusedField refusal = record { refusal = refusal; dy = pos 0; dx = pos 0; votes = 0; voters = 0; counts = onlyAtOne 0; dropped = 0 }
 
 -- ---- the call
 

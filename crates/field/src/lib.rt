@@ -8,6 +8,7 @@ ghost use Rattle.order.specs.Vectors.{vectorCount};
 ghost use Rattle.frame.specs.Pictures.{pairOf};
 ghost use Rattle.frame.specs.Grid.{blocks};
 ghost use Rattle.refusals.specs.Refusals.{settingOf};
+ghost use Rattle.voter.specs.Voter.{voting};
 ghost use Rattle.field_rules.specs.Rules.{listSize, HasRoom};
 ghost use Rattle.field_block.specs.Blocks.{searchAt, Prepared};
 ghost use Rattle.field.specs.Field.{refusedField, filledTable, fieldResult, acceptedField, field};
@@ -16,13 +17,14 @@ use field_block::Total;
 use order::Vector;
 use refusals::Request;
 
-// What a field call answers: the reading with its votes, and the counts and the number dropped, summed over the blocks.
+// What a field call answers: the reading with its votes and the voters, and the counts and the number dropped, summed over the blocks.
 #[repr(C)]
 pub struct FieldAnswer {
     pub refusal: u32,
     pub dy: i32,
     pub dx: i32,
     pub votes: u32,
+    pub voters: u32,
     pub counts: [u32; frame::COUNTS],
     pub dropped: u32,
 }
@@ -35,6 +37,7 @@ pub fn refused_field(refusal: u32) -> FieldAnswer
         dy: 0,
         dx: 0,
         votes: 0,
+        voters: 0,
         counts: search::only_at_one(0),
         dropped: 0,
     }
@@ -62,21 +65,24 @@ fn fill_list(
 ) -> Total
     requires { ⌜ Prepared (now older) (now newer) q (now table) × (now order ≡ flat preference) ⌝ }
     requires { ⌜ (listSize (settingOf q) ≤ length (now list)) × (now votes ≡ replicate vectorCount 0) ⌝ }
-    ensures { λ r. ⌜ BlocksFilled (searchAt (pairOf (now (older .entry)) (now (newer .entry)) (settingOf q)) q) (blocks (settingOf q)) (now (list .entry))
-        (now (list .exit)) (now (votes .exit)) r ⌝ }
+    ensures { λ r. ⌜ (let p = pairOf (now (older .entry)) (now (newer .entry)) (settingOf q) in
+        BlocksFilled (voting p) (searchAt p q) (blocks (settingOf q)) (now (list .entry)) (now (list .exit)) (now (votes .exit)) r) ⌝ }
 {
-    let n = frame::block_count(refusals::setting_of(q));
+    let s = refusals::setting_of(q);
+    let n = frame::block_count(s);
     let mut total = Total {
         counts: [0; frame::COUNTS],
         dropped: 0,
+        voters: 0,
     };
     let mut k: usize = 0;
     while k < n {
         let f = field_block::search_at(older, newer, order, q, table, k);
         put::put_entry(list, 3 * k, f.dy, f.dx, f.distortion);
         let v = Vector { dy: f.dy, dx: f.dx };
-        reading::vote(votes, v);
-        total = field_block::join(total, f);
+        let voting = voter::is_voter_at(newer, s, k);
+        reading::vote(votes, v, voting);
+        total = field_block::join(total, f, voting);
         k += 1;
     }
     total
@@ -99,6 +105,7 @@ fn fill(older: &[u8], newer: &[u8], q: Request, list: &mut [i32], table: &mut [u
         dy: r.dy,
         dx: r.dx,
         votes: r.votes,
+        voters: total.voters,
         counts,
         dropped: total.dropped,
     }

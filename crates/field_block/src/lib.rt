@@ -13,10 +13,11 @@ use frame::SearchBlock;
 use refusals::Request;
 use search::SearchResult;
 
-// Counts and dropped, summed over the blocks so far.
+// Counts, dropped and voters, summed over the blocks so far.
 pub struct Total {
     pub counts: [u32; frame::COUNTS],
     pub dropped: u32,
+    pub voters: u32,
 }
 
 // The whole of the older frame, which the table is of.
@@ -58,10 +59,10 @@ pub fn search_at(
     block::search_block(older, newer, q, y, x)
 }
 
-// The sums with one block more.
-pub fn join(s: Total, f: SearchResult) -> Total
+// The sums with one block more, a voter or not.
+pub fn join(s: Total, f: SearchResult, voting: bool) -> Total
     requires { ⌜ Bounded s × Sound f ⌝ }
-    ensures { λ r. ⌜ r ≡ join s f ⌝ }
+    ensures { λ r. ⌜ r ≡ join s f voting ⌝ }
 {
     let more = f.counts;
     let mut counts = s.counts;
@@ -73,5 +74,6 @@ pub fn join(s: Total, f: SearchResult) -> Total
     Total {
         counts,
         dropped: s.dropped + f.dropped,
+        voters: s.voters + voting as u32,
     }
 }

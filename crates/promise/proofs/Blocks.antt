@@ -27,6 +27,7 @@ use Rattle.field_block.specs.Blocks.{searchAt, vectorOf}
 use Rattle.field.specs.Field.{entriesOf, droppedOver, countOver}
 use Rattle.field.proofs.Places.{entry-at}
 use Rattle.field.proofs.Bests.{Exact, pruned-exact, pruned-exact-at, exact-at, exact-reading, exact-entries}
+use Rattle.voter.specs.Voter.{voting}
 use Rattle.reading.specs.Reading.{majority}
 use Rattle.promise.specs.Demand.{bestOf, bestEntries, EachBlock, EachPlace, EachGridPlace, overGrid, reported, howMany, isDropped, isMeasured, blockOn}
 use Rattle.promise.proofs.Chains.{requestChain, Fine, fine-paired, request-any}
@@ -140,7 +141,8 @@ module _ (p : Pair) (w : ℕ) (f : Fine p w) where
     abbrev founds : ℕ → SearchResult
     founds = searchAt p (requestOf (p .setting) 2 w t)
 
-    pub reading-best : majority (vectorOf p (requestOf (p .setting) 2 w t)) (blocks (p .setting)) ≡ majority (bestOf p w) (blocks (p .setting))
+    pub reading-best : majority (voting p) (vectorOf p (requestOf (p .setting) 2 w t)) (blocks (p .setting))
+        ≡ majority (voting p) (bestOf p w) (blocks (p .setting))
     reading-best = exact-reading p (requestOf (p .setting) 2 w t) fits (exact t)
 
     pub entries-best : entriesOf founds (blocks (p .setting)) ≡ bestEntries p w

@@ -1,10 +1,9 @@
 -- One call, whatever the track: it is refused by the number by which the reckoning refuses it and hands the reckoning's track back, because the reading of an
--- accepted field by search 2 is the majority of exhaustive bests.
+-- accepted field by search 2 is the voters' majority of exhaustive bests.
 use Prim.Native.Nat.{ℕ}
 use mathlib.Core.Path.{_≡_, refl, sym, ap, _∙_}
-use mathlib.Core.Bool.{Bool, true, false, cond, not, _&&_}
+use mathlib.Core.Bool.{cond, not}
 use mathlib.Core.List.{List}
-use native.Mathlib.Omega.{arith}
 use native.Mathlib.Decide.{ℕ-discrete}
 use borrow.Author.Tests.{ne-eqb}
 use lib.Dec.{leb, eqb}
@@ -16,14 +15,15 @@ use Rattle.order.specs.Vectors.{vec, turned}
 use Rattle.frame.specs.Pictures.{Pair}
 use Rattle.frame.specs.Grid.{blocks}
 use Rattle.refusals.specs.declared.Request.{Request}
-use Rattle.refusals.specs.Refusals.{unless, first-refusal-zero, requestOf}
+use Rattle.refusals.specs.Refusals.{first-refusal-zero, requestOf}
+use Rattle.voter.specs.Voter.{voting}
 use Rattle.reading.specs.Reading.{majority}
 use Rattle.field.specs.declared.FieldAnswer.{FieldAnswer}
 use Rattle.field.specs.Field.{fieldAnswer, FieldResult, filledList, field-accepted}
 use Rattle.track.specs.declared.Track.{Track}
-use Rattle.track_rules.specs.Rules.{inRange, arrivalRefusal}
+use Rattle.track_rules.specs.Rules.{arrivalRefusal}
 use Rattle.track.specs.Track.{movedTo, trackHome, stepRefusal, unmoved, travelOf, arrived, StepResult, stepResult, landed, trackStep, step-refused, step-landed}
-use Rattle.promise.specs.Demand.{Call, bestOf, travel, refusalOf, accept, reckon, Result, trackIn, refusalIn, answerTo, AtStep, fieldOn}
+use Rattle.promise.specs.Demand.{Call, bestOf, travel, votersIn, refusalOf, accept, reckon, Result, trackIn, refusalIn, answerTo, AtStep, fieldOn}
 use Rattle.promise.specs.Demand.Call.{home, step}
 use Rattle.promise.specs.Demand.Result.{stepping}
 use Rattle.promise.proofs.Chains.{chain-late, chain-early, fieldChain, Fine, request-fine, field-request}
@@ -47,16 +47,20 @@ record Landing (t : Track) (f : FieldResult) (s : StepResult) (new : Track) (lat
   list : s .list ≡ f .list
   whole : late ≡ 0 → s .stepped .answer ≡ f .answer
 
-landing-at : (t : Track) (f : FieldResult) (new : Track) (stays : Bool) →
-    let late = unless stays 33 0 in
-    Landing t f (stepResult (cond (eqb late 0) (record { track = new; answer = f .answer }) (unmoved late t)) (f .list) (f .table)) new late
-landing-at t f new true = record { refusal = λ e. e; track = refl; list = refl; whole = λ e. refl }
-landing-at t f new false = record { refusal = λ e. refl; track = refl; list = refl; whole = λ e. absurd (omega arith) }
+abbrev landsBy : Track → FieldResult → Track → ℕ → StepResult
+landsBy t f new late = stepResult (cond (eqb late 0) (record { track = new; answer = f .answer }) (unmoved late t)) (f .list) (f .table)
 
-landing : (t : Track) (f : FieldResult) (v : Vector) → travelOf (f .answer) ≡ v
-    → let new = movedTo t v in Landing t f (landed t f) new (arrivalRefusal (new .y) (new .x))
+landing-at : (t : Track) (f : FieldResult) (new : Track) (late : ℕ) → Landing t f (landsBy t f new late) new late
+landing-at t f new late = go (ℕ-discrete late 0)
+  where
+    go : Dec (late ≡ 0) → Landing t f (landsBy t f new late) new late
+    go (yes z) = rw z (record { refusal = λ e. e; track = refl; list = refl; whole = λ e. refl })
+    go (no n) = rw (ne-eqb late 0 n) (record { refusal = λ e. refl; track = rw (ne-eqb late 0 n); list = refl; whole = λ z. absurd (n z) })
+
+landing : (t : Track) (f : FieldResult) (v : Vector) (n : ℕ) → travelOf (f .answer) ≡ v → f .answer .voters ≡ n
+    → let new = movedTo t v in Landing t f (landed t f) new (arrivalRefusal n (new .y) (new .x))
 unfolding arrived
-landing t f v e = let new = movedTo t (travelOf (f .answer)) in rw (← e) (landing-at t f new (inRange (new .y) && inRange (new .x)))
+landing t f v n e s = let new = movedTo t (travelOf (f .answer)) in rw (← e, ← s) (landing-at t f new (arrivalRefusal (f .answer .voters) (new .y) (new .x)))
 
 -- ---- Step
 
@@ -78,7 +82,7 @@ module _ (t : Track) (p : Pair) (w threshold : ℕ) (list : List ℤ) (table : L
   early = stepRefusal t (length (p .older)) (length (p .newer)) request (length list) (length table)
 
   abbrev late : ℕ
-  late = let new = movedTo t (travel p w) in arrivalRefusal (new .y) (new .x)
+  late = let new = movedTo t (travel p w) in arrivalRefusal (votersIn p) (new .y) (new .x)
 
   abbrev fieldEarly : ℕ
   fieldEarly = fieldChain p 2 w threshold (length list) (length table)
@@ -110,13 +114,17 @@ module _ (t : Track) (p : Pair) (w threshold : ℕ) (list : List ℤ) (table : L
     unfolding fieldAnswer
     unrefused = ap (λ (a : FieldAnswer). a .refusal) answer-is
 
-    pub reading-is : vec (field .answer .dy) (field .answer .dx) ≡ majority (bestOf p w) (blocks (p .setting))
+    pub reading-is : vec (field .answer .dy) (field .answer .dx) ≡ majority (voting p) (bestOf p w) (blocks (p .setting))
     unfolding fieldAnswer
     reading-is = ap (λ (a : FieldAnswer). vec (a .dy) (a .dx)) answer-is ∙ reading-best p w field-fine threshold
 
+    voters-is : field .answer .voters ≡ votersIn p
+    unfolding fieldAnswer
+    voters-is = ap (λ (a : FieldAnswer). a .voters) answer-is
+
     lands : Landing t field (landed t field) (accept t this) late
     unfolding accept travel
-    lands = landing t field (travel p w) (ap turned reading-is)
+    lands = landing t field (travel p w) (votersIn p) (ap turned reading-is) voters-is
 
   step-agrees : Agrees t this (answerTo t this)
   unfolding answerTo reckonCall

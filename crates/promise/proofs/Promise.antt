@@ -13,9 +13,10 @@ use Rattle.order.specs.declared.Vector.{Vector}
 use Rattle.order.specs.Vectors.{turned}
 use Rattle.base.specs.Lists.{listTo}
 use Rattle.frame.specs.Pictures.{Pair, lastCount}
-use Rattle.frame.specs.Grid.{blocks-some, blocks}
+use Rattle.frame.specs.Grid.{blocks}
 use Rattle.frame.specs.Candidates.{candidate}
 use Rattle.distortion.specs.Blocks.{distortion}
+use Rattle.voter.specs.Voter.{voting}
 use Rattle.reading.specs.Reading.{majority, Most}
 use Rattle.field.specs.declared.FieldAnswer.{FieldAnswer}
 use Rattle.refusals.specs.Refusals.{requestOf}
@@ -31,7 +32,7 @@ use Rattle.promise.specs.Demand.{isMeasured, overGrid, Promise}
 use Rattle.promise.specs.Demand.Call.{home}
 use Rattle.promise.specs.Demand.Standing.{nowhere, from}
 use Rattle.reading.proofs.Majority.{majority-most}
-use Rattle.promise.proofs.Chains.{Fine, fine-paired}
+use Rattle.promise.proofs.Chains.{Fine}
 use Rattle.promise.proofs.Blocks.{Lists, entries-third, pos-le, pos-lt, each-place, best-within, block-result, grid-distortion, grid-no-less}
 use Rattle.promise.proofs.Blocks.{grid-worse, entries-best, sum-dropped, sum-measured, sum-both}
 use Rattle.promise.proofs.Probing.{four-step-runs, cross-runs, four-step-block, cross-block, four-step-over, cross-over}
@@ -50,11 +51,11 @@ module _ (t : Track) (p : Pair) (w threshold : ℕ) (list : List ℤ) (table : L
   answered : answer ≡ fieldAnswer p (requestOf (p .setting) 2 w threshold)
   answered = k .answer-same ∙ answer-is t p w threshold list table (k .fine)
 
-  travels : (v : Vector) × Most (bestOf p w) (blocks (p .setting)) v × (travel p w ≡ turned v) × (answer .dy ≡ v .dy) × (answer .dx ≡ v .dx)
+  travels : (v : Vector) × Most (voting p) (bestOf p w) (blocks (p .setting)) v × (travel p w ≡ turned v) × (answer .dy ≡ v .dy) × (answer .dx ≡ v .dx)
   unfolding travel
   travels = (
-    majority (bestOf p w) (blocks (p .setting)),
-    majority-most (bestOf p w) (blocks (p .setting)) (blocks-some (p .setting) (fine-paired p fine .fitting)) (best-within p w fine),
+    majority (voting p) (bestOf p w) (blocks (p .setting)),
+    majority-most (voting p) (bestOf p w) (blocks (p .setting)) (λ j h votes. best-within p w fine j h),
     refl,
     ap (λ (a : FieldAnswer). a .dy) (k .answer-same) ∙ ap (λ (v : Vector). v .dy) (reading-is t p w threshold list table (k .fine)),
     ap (λ (a : FieldAnswer). a .dx) (k .answer-same) ∙ ap (λ (v : Vector). v .dx) (reading-is t p w threshold list table (k .fine)),

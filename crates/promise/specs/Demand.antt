@@ -1,5 +1,5 @@
 -- Demand 3, whole: "one claim about the whole list of calls". To be read from top to bottom beside docs/REFERENCE.md, "Field, reading, track",
--- "Demand 3"; in quotation marks stand 01's own words. proofs/Promise.antt has the theorem, promise : (calls : List Call) → Promise calls.
+-- "Demand 3"; in quotation marks stand 01's own words, with 02's where it changes them. proofs/Promise.antt has the theorem, promise : (calls : List Call) → Promise calls.
 --   Call                     the calls
 --   travel                   a pair's travel, by exhaustive bests
 --   refusalOf, accept        which refusal applies to a call, and what an accepted one does
@@ -9,13 +9,13 @@
 --   EachCall, EachStep       of each call, of each accepted step
 --   Promise                  what is promised
 -- From below come: reckonCall, acceptedFrom, runFrom, lastHanded and EachCall, of any list of calls (base: Calls), candidate and distortion (frame,
--- distortion), Best and best (search), votes, majority and Most (reading), turned (order), homedAt and movedTo (track), the steps of search 2 (pruned), and
--- what the contracts of the code cite: searchBlock (block), field (field), trackNew, trackHome and trackStep (track).
+-- distortion), Best and best (search), voting (voter), voters, majority and Most (reading), turned (order), homedAt and movedTo (track), the steps of search 2
+-- (pruned), and what the contracts of the code cite: searchBlock (block), field (field), trackNew, trackHome and trackStep (track).
 use Prim.Native.Nat.{ℕ, _+_, _*_, _≤_, _<_}
 use mathlib.Core.Path.{_≡_}
 use mathlib.Core.Bool.{Bool, true, not, _&&_}
 use mathlib.Core.List.{List, [], _∷_, _++_, foldl}
-use lib.Dec.{T, leb}
+use lib.Dec.{T, leb, eqb}
 use lib.IntN.{ℤ, pos, _+ℤ_}
 use lib.Signed.{_≤ℤ_, _<ℤ_}
 use lib.ListN.{length, getD, drop}
@@ -37,7 +37,8 @@ use Rattle.search.specs.Exhaustive.{Best, passing, best}
 use Rattle.probe.specs.Probe.{isIn}
 use Rattle.pruned.specs.Answer.{pruning}
 use Rattle.block.specs.Block.{searchBlock}
-use Rattle.reading.specs.Reading.{majority, Most}
+use Rattle.voter.specs.Voter.{voting}
+use Rattle.reading.specs.Reading.{voters, majority, Most}
 use Rattle.field_rules.specs.Rules.{listSize, fieldRefusal}
 use Rattle.field.specs.Field.{FieldResult, field}
 use Rattle.track.specs.declared.Track.{Track}
@@ -59,9 +60,14 @@ pub data Call : Type 0 where
 abbrev pub bestOf : Pair → ℕ → ℕ → Vector
 bestOf p w k = best p w (blockRow (p .setting) k) (blockColumn (p .setting) k)
 
--- "the travel is the one most grid blocks have (likewise), reversed"
+-- "the travel is the one most grid blocks have (likewise), reversed", and 02, request 3: "a travel means the reverse of the most frequent exhaustive best
+-- among voters"
 unfoldable pub travel : Pair → ℕ → Vector
-travel p w = turned (majority (bestOf p w) (blocks (p .setting)))
+travel p w = turned (majority (voting p) (bestOf p w) (blocks (p .setting)))
+
+-- how many grid blocks vote
+abbrev pub votersIn : Pair → ℕ
+votersIn p = voters (voting p) (blocks (p .setting))
 
 -- the refusal that applies to a call, with these values as the track; 0 where none does
 unfoldable pub refusalOf : Track → Call → ℕ
@@ -70,7 +76,8 @@ refusalOf t (step p w threshold list table) =
     firstRefusal (fieldRefusal (length (p .older)) (length (p .newer)) (requestOf (p .setting) 2 w threshold) (length list) (length table))
     (unless (t .homed) 31
     (unless (not (leb 1000000 (t .steps))) 32
-    (unless (inRange (t .y +ℤ travel p w .dy) && inRange (t .x +ℤ travel p w .dx)) 33 0)))
+    (unless (not (eqb (votersIn p) 0)) 52
+    (unless (inRange (t .y +ℤ travel p w .dy) && inRange (t .x +ℤ travel p w .dx)) 33 0))))
 
 -- "Any other is accepted, a step's pair with it, and does as Home and Step above."
 unfoldable pub accept : Track → Call → Track
@@ -234,8 +241,8 @@ pub record Promise (calls : List Call) : Type 0 where
   -- and each call was refused exactly when the reckoning refuses it": by the same number, and with the reckoning's track handed back
   pub refusals : EachCall reckon (λ t c r. refusalIn r ≡ refusalOf t c) trackNew calls (run calls)
   pub tracks : EachCall reckon (λ t c r. trackIn r ≡ reckon t c) trackNew calls (run calls)
-  -- the travel is the reverse of the vector that most grid blocks have as exhaustive best, and that vector is the reading
-  pub travels : EachStep calls (λ p w list s. (v : Vector) × Most (bestOf p w) (blocks (p .setting)) v × (travel p w ≡ turned v)
+  -- the travel is the reverse of the vector that most voters have as exhaustive best, and that vector is the reading
+  pub travels : EachStep calls (λ p w list s. (v : Vector) × Most (voting p) (bestOf p w) (blocks (p .setting)) v × (travel p w ≡ turned v)
       × (s .stepped .answer .dy ≡ v .dy) × (s .stepped .answer .dx ≡ v .dx))
   -- a candidate of least distortion, by preference order: of each block's exhaustive best, on the grid or off it
   pub bests : EachStep calls (λ p w list s. EachPlace p (λ y x. Best p w y x (best p w y x)))

@@ -1,24 +1,27 @@
--- The vector of most blocks is the one that the walk along the preference table keeps: every vector of window 16 stands there, in the order's order,
--- and a vector outside it has no block.
+-- The vector of most voters is the one that the walk along the preference table keeps: every vector of window 16 stands there, in the order's order,
+-- and a vector outside it has no voter. All laws are of any set of voters; where that is empty the majority is (0,0), the first of the order.
 --   same-no                             what the test of two vectors says
 --   votes-none, votes-more, votes-few   how votes grow; votes-ext: blocks with the same vectors, the same votes
---   majority-most                       the majority has most blocks, ties by preference order; most-unique: no other has
-use Prim.Native.Nat.{ℕ, zero, suc, _+_, _≤_, _<_}
+--   votes-outside, votes-blank          a vector that no voter has, and a set without a voter
+--   majority-most                       the majority has most voters, ties by preference order; most-unique: no other has
+--   majority-blank                      no voter: (0,0)
+use Prim.Native.Nat.{ℕ, _+_, _≤_, _<_}
 use mathlib.Core.Path.{_≡_, refl, sym, ap, _∙_, subst}
 use mathlib.Core.Logic.{_⊎_, inl, inr, ⊎-elim}
-use mathlib.Core.Bool.{Bool, true, false, cond}
-use native.Mathlib.Nat.{le-of-lt, le-of-eq, eq-or-lt-of-le}
+use mathlib.Core.Bool.{Bool, true, false, _&&_}
+use native.Mathlib.Nat.{eq-or-lt-of-le}
 use native.Mathlib.Decide.{decLe}
 use native.Mathlib.Omega.{arith, ne-cases}
-use lib.IntN.{natAbs}
+use lib.IntN.{pos, natAbs}
 use Rattle.base.specs.Tests.{one, one-le}
 use Rattle.base.specs.Greatest.{mostTo, most-ext, greatest}
-use Rattle.base.specs.Sum.{sumTo, sumTo-none, sumTo-more, sumTo-ext, sumTo-bound}
+use Rattle.base.specs.Sum.{sumTo-none, sumTo-more, sumTo-ext, sumTo-mono, sumTo-bound, sumTo-zero}
 use Rattle.order.specs.declared.Vector.{Vector}
-use Rattle.order.specs.Vectors.{Within, Precedes, same?, same-yes, same-self, vectorCount}
+use Rattle.order.specs.Vectors.{vec, cityBlock, Within, Precedes, same?, same-yes, same-self, vectorCount}
+use Rattle.order.specs.Vectors.Precedes.{nearer}
 use Rattle.order.specs.Preference.{preferred}
-use Rattle.order.proofs.Order.{stands, in-order, precedes-trans, precedes-irrefl}
-use Rattle.reading.specs.Reading.{votes, majority, Most}
+use Rattle.order.proofs.Order.{stands, in-order, precedes-trans, precedes-irrefl, first-still}
+use Rattle.reading.specs.Reading.{voters, votes, majority, Most}
 
 -- ---- the test that two vectors are one
 
@@ -30,44 +33,47 @@ same-no u v e q =
 
 -- ---- votes
 
-pub votes-none : (has : ℕ → Vector) (v : Vector) → votes has 0 v ≡ 0
-unfolding votes
-votes-none has v = sumTo-none _
+module _ (voting : ℕ → Bool) where
+  pub votes-none : (has : ℕ → Vector) (v : Vector) → votes voting has 0 v ≡ 0
+  unfolding votes voters
+  votes-none has v = sumTo-none _
 
-pub votes-more : (has : ℕ → Vector) (n : ℕ) (v : Vector) → votes has (n + 1) v ≡ votes has n v + cond (same? (has n) v) 1 0
-unfolding votes
-votes-more has n v = sumTo-more _ n
+  pub votes-more : (has : ℕ → Vector) (n : ℕ) (v : Vector) → votes voting has (n + 1) v ≡ votes voting has n v + one (voting n && same? (has n) v)
+  unfolding votes voters
+  votes-more has n v = sumTo-more _ n
 
-pub votes-few : (has : ℕ → Vector) (n : ℕ) (v : Vector) → votes has n v ≤ n
-unfolding votes
-votes-few has n v = omega (arith, sumTo-bound 1 (λ k. cond (same? (has k) v) 1 0) n (λ i h. one-le (same? (has i) v)))
+  pub votes-few : (has : ℕ → Vector) (n : ℕ) (v : Vector) → votes voting has n v ≤ n
+  unfolding votes voters
+  votes-few has n v = omega (arith, sumTo-bound 1 _ n (λ i h. one-le (voting i && same? (has i) v)))
 
-pub votes-ext : (f g : ℕ → Vector) (n : ℕ) → ((k : ℕ) → k < n → f k ≡ g k) → (v : Vector) → votes f n v ≡ votes g n v
-unfolding votes
-votes-ext f g n e v = sumTo-ext _ _ n (λ k h. ap (λ (u : Vector). one (same? u v)) (e k h))
+  pub votes-ext : (f g : ℕ → Vector) (n : ℕ) → ((k : ℕ) → k < n → f k ≡ g k) → (v : Vector) → votes voting f n v ≡ votes voting g n v
+  unfolding votes voters
+  votes-ext f g n e v = sumTo-ext _ _ n (λ k h. ap (λ (u : Vector). one (voting k && same? u v)) (e k h))
 
--- a block has its own vector
-votes-some : (has : ℕ → Vector) (n : ℕ) → 0 < n → 0 < votes has n (has 0)
-unfolding votes sumTo
-votes-some has zero h = h
-votes-some has (suc zero) h = omega (arith, ap one (same-self (has 0)))
-votes-some has (suc (suc n)) h = omega (arith, votes-some has (suc n) (omega arith))
+  -- a vector that no voter has
+  pub votes-outside : (has : ℕ → Vector) (u : Vector) (n : ℕ) → ((k : ℕ) → k < n → voting k ≡ true → has k ≡ u → ⊥) → votes voting has n u ≡ 0
+  unfolding votes voters
+  votes-outside has u n h = sumTo-zero _ n (λ k l. none k l (voting k) refl (same? (has k) u) refl)
+    where
+      none : (k : ℕ) → k < n → (a : Bool) → voting k ≡ a → (b : Bool) → same? (has k) u ≡ b → one (a && b) ≡ 0
+      none k l true e true q = absurd (h k l e (same-yes (has k) u q))
+      none k l true e false q = refl
+      none k l false e b q = refl
 
--- a vector that no block has
-votes-outside : (has : ℕ → Vector) (u : Vector) (n : ℕ) → ((k : ℕ) → k < n → has k ≡ u → ⊥) → votes has n u ≡ 0
-unfolding votes sumTo
-votes-outside has u zero h = refl
-votes-outside has u (suc n) h = omega (arith, votes-outside has u n (λ k l. h k (omega arith)), none (same? (has n) u) refl)
-  where
-    none : (t : Bool) → same? (has n) u ≡ t → one t ≡ 0
-    none true e = absurd (h n (omega arith) (same-yes (has n) u e))
-    none false e = refl
+  -- no vector has more votes than there are voters
+  pub votes-blank : (has : ℕ → Vector) (n : ℕ) (v : Vector) → voters voting n ≡ 0 → votes voting has n v ≡ 0
+  unfolding votes voters
+  votes-blank has n v e = omega (arith, sumTo-mono _ _ n (λ k l. both (voting k) (same? (has k) v)))
+    where
+      both : (a b : Bool) → one (a && b) ≤ one a
+      both true b = one-le b
+      both false b = omega arith
+
+  pub majority-ext : (f g : ℕ → Vector) (n : ℕ) → ((k : ℕ) → k < n → f k ≡ g k) → majority voting f n ≡ majority voting g n
+  unfolding majority
+  majority-ext f g n e = ap preferred (most-ext _ _ vectorCount (λ k h. votes-ext f g n e (preferred k)))
 
 -- ---- the majority
-
-pub majority-ext : (f g : ℕ → Vector) (n : ℕ) → ((k : ℕ) → k < n → f k ≡ g k) → majority f n ≡ majority g n
-unfolding majority
-majority-ext f g n e = ap preferred (most-ext _ _ vectorCount (λ k h. votes-ext f g n e (preferred k)))
 
 decWithin : (v : Vector) → Dec (Within 16 v)
 decWithin v = go (decLe (natAbs (v .dy)) 16) (decLe (natAbs (v .dx)) 16)
@@ -77,55 +83,73 @@ decWithin v = go (decLe (natAbs (v .dy)) 16) (decLe (natAbs (v .dx)) 16)
     go (no a) b = no (λ w. a (w .down))
     go (yes a) (no b) = no (λ w. b (w .across))
 
--- what Most says of another vector
-abbrev Behind : (ℕ → Vector) → ℕ → Vector → Vector → Type 0
-Behind has n v u = (votes has n u < votes has n v) ⊎ ((votes has n u ≡ votes has n v) × Precedes v u)
+-- (0,0) precedes every vector outside the window
+far : (u : Vector) → (Within 16 u → ⊥) → Precedes (preferred 0) u
+far u w = rw first-still (nearer (go (decLe 1 (cityBlock u))))
+  where
+    go : Dec (1 ≤ cityBlock u) → 0 < cityBlock u
+    go (yes h) = h
+    go (no h) = absurd (w (record { down = omega (arith, h); across = omega (arith, h) }))
 
-module _ (has : ℕ → Vector) (n : ℕ) where
+module _ (voting : ℕ → Bool) (has : ℕ → Vector) (n : ℕ) where
+  -- what Most says of another vector
+  abbrev Behind : Vector → Vector → Type 0
+  Behind v u = (votes voting has n u < votes voting has n v) ⊎ ((votes voting has n u ≡ votes voting has n v) × Precedes v u)
+
   abbrev score : ℕ → ℕ
-  score k = votes has n (preferred k)
+  score k = votes voting has n (preferred k)
 
   -- the place of the majority in the table
   abbrev top : ℕ
   top = mostTo score vectorCount
 
-  at-place : (k : ℕ) → k < vectorCount → (k ≡ top → ⊥) → Behind has n (preferred top) (preferred k)
+  at-place : (k : ℕ) → k < vectorCount → (k ≡ top → ⊥) → Behind (preferred top) (preferred k)
   at-place k h ne =
       let g = greatest score vectorCount k h in
       ne-cases k top _ ne (λ l. inl (g .1 l))
       (λ l. ⊎-elim (λ e. inr (e, in-order top k l h)) inl (eq-or-lt-of-le (g .0)))
 
-  behind : (u : Vector) → Within 16 u → (u ≡ preferred top → ⊥) → Behind has n (preferred top) u
-  behind u w ne =
+  within : (u : Vector) → Within 16 u → (u ≡ preferred top → ⊥) → Behind (preferred top) u
+  within u w ne =
       let s = stands u w in
-      subst (Behind has n (preferred top)) (s .2) (at-place (s .0) (s .1) (λ e. ne (sym (s .2) ∙ ap preferred e)))
+      subst (Behind (preferred top)) (s .2) (at-place (s .0) (s .1) (λ e. ne (sym (s .2) ∙ ap preferred e)))
 
-  -- no vector of the window has more votes
-  highest : (u : Vector) → Within 16 u → votes has n u ≤ votes has n (preferred top)
-  highest u w = go (same? u (preferred top)) refl
+  -- where no vector has votes, the first is kept
+  first : score top ≡ 0 → top ≡ 0
+  first e = go (decLe 1 top)
     where
-      go : (t : Bool) → same? u (preferred top) ≡ t → votes has n u ≤ votes has n (preferred top)
-      go true e = le-of-eq (ap (votes has n) (same-yes u (preferred top) e))
-      go false e = ⊎-elim le-of-lt (λ q. le-of-eq (q .0)) (behind u w (same-no u (preferred top) e))
+      go : Dec (1 ≤ top) → top ≡ 0
+      go (yes h) = absurd (omega (arith, greatest score vectorCount 0 (omega arith) .1 h))
+      go (no h) = omega (arith, h)
 
-pub majority-most : (has : ℕ → Vector) (n : ℕ) → 0 < n → ((k : ℕ) → k < n → Within 16 (has k)) → Most has n (majority has n)
-unfolding majority
-majority-most has n some all = record { most = λ u ne. other u ne (decWithin u) }
-  where
-    other : (u : Vector) → (u ≡ preferred (top has n) → ⊥) → Dec (Within 16 u) → Behind has n (preferred (top has n)) u
-    other u ne (yes w) = behind has n u w ne
-    other u ne (no w) =
-        inl (omega (arith, votes-outside has u n (λ k l q. w (subst (Within 16) q (all k l))), votes-some has n some, highest has n (has 0) (all 0 some)))
+  outside : (u : Vector) → (Within 16 u → ⊥) → votes voting has n u ≡ 0 → Behind (preferred top) u
+  outside u w z = go (decLe 1 (score top))
+    where
+      go : Dec (1 ≤ score top) → Behind (preferred top) u
+      go (yes h) = inl (omega (arith, z))
+      go (no h) = let e : score top ≡ 0 = omega (arith, h) in inr (z ∙ sym e, subst (λ (k : ℕ). Precedes (preferred k) u) (sym (first e)) (far u w))
 
-pub most-unique : (has : ℕ → Vector) (n : ℕ) (u v : Vector) → Most has n u → Most has n v → u ≡ v
-most-unique has n u v a b = go (same? u v) refl
-  where
-    clash : Behind has n v u → Behind has n u v → ⊥
-    clash (inl l) (inl m) = omega arith
-    clash (inl l) (inr m) = omega arith
-    clash (inr l) (inl m) = omega arith
-    clash (inr l) (inr m) = precedes-irrefl (precedes-trans (l .1) (m .1))
+  pub majority-most : ((k : ℕ) → k < n → voting k ≡ true → Within 16 (has k)) → Most voting has n (majority voting has n)
+  unfolding majority
+  majority-most all = record { most = λ u ne. other u ne (decWithin u) }
+    where
+      other : (u : Vector) → (u ≡ preferred top → ⊥) → Dec (Within 16 u) → Behind (preferred top) u
+      other u ne (yes w) = within u w ne
+      other u ne (no w) = outside u w (votes-outside voting has u n (λ k l t q. w (subst (Within 16) q (all k l t))))
 
-    go : (t : Bool) → same? u v ≡ t → u ≡ v
-    go true e = same-yes u v e
-    go false e = let ne = same-no u v e in absurd (clash (b .most u ne) (a .most v (λ q. ne (sym q))))
+  pub majority-blank : voters voting n ≡ 0 → majority voting has n ≡ vec (pos 0) (pos 0)
+  unfolding majority
+  majority-blank e = ap preferred (first (votes-blank voting has n (preferred top) e)) ∙ first-still
+
+  pub most-unique : (u v : Vector) → Most voting has n u → Most voting has n v → u ≡ v
+  most-unique u v a b = go (same? u v) refl
+    where
+      clash : Behind v u → Behind u v → ⊥
+      clash (inl l) (inl m) = omega arith
+      clash (inl l) (inr m) = omega arith
+      clash (inr l) (inl m) = omega arith
+      clash (inr l) (inr m) = precedes-irrefl (precedes-trans (l .1) (m .1))
+
+      go : (t : Bool) → same? u v ≡ t → u ≡ v
+      go true e = same-yes u v e
+      go false e = let ne = same-no u v e in absurd (clash (b .most u ne) (a .most v (λ q. ne (sym q))))

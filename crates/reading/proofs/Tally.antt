@@ -1,4 +1,4 @@
--- A vote more counts for its vector alone, since two vectors of window 16 have different places; the walk along the preference table then keeps
+-- A voter's vote counts for its vector alone, since two vectors of window 16 have different places; the walk along the preference table then keeps
 -- the first greatest count.
 --   code-below                         a vector's place is one of the 1,089
 --   tally-first, tally-more, tally-room the votes before the first block, with one block more, and that a vote fits
@@ -6,12 +6,13 @@
 --   Walked                             the walk after k vectors; walked-first, walked-yes, walked-no, walked-last
 use Prim.Native.Nat.{ℕ, _+_, _≤_, _<_}
 use mathlib.Core.Path.{_≡_, refl, sym, ap, ap₂, _∙_}
-use mathlib.Core.Bool.{Bool, true, false, cond}
+use mathlib.Core.Bool.{Bool, true, false, _&&_, and-true, and-false}
 use mathlib.Core.List.{List}
 use native.Mathlib.Omega.{arith}
 use lib.IntN.{ℤ, natAbs}
-use lib.ListN.{length, getD, set, length-set, replicate, getD-replicate}
+use lib.ListN.{length, getD, length-set, replicate, getD-replicate}
 use lib.Seq.{getD-set-same, getD-set-other}
+use Rattle.base.specs.Tests.{one}
 use Rattle.base.specs.Greatest.{mostTo, most-one, most-yes, most-no, most-below, most-ext}
 use Rattle.signed.specs.Int.{same, parts}
 use Rattle.signed.specs.Values.{bias, bias-is}
@@ -20,7 +21,7 @@ use Rattle.order.specs.Vectors.{vec, Within, same?, same-yes, vectorCount}
 use Rattle.order.specs.Preference.{preferred}
 use Rattle.order.proofs.Order.{inside}
 use Rattle.reading.specs.Reading.{votes, majority, readingOf}
-use Rattle.reading.specs.Tally.{code, votesAt, readingIn, Tally}
+use Rattle.reading.specs.Tally.{code, voted, votesAt, readingIn, Tally}
 use Rattle.reading.proofs.Majority.{same-no, votes-none, votes-more, votes-few}
 
 -- ---- places
@@ -44,38 +45,38 @@ code-inj u v a b e =
 
 -- ---- votes
 
-pub tally-first : (has : ℕ → Vector) → Tally has 0 (replicate vectorCount 0)
-tally-first has = record { long = refl; each = λ v h. getD-replicate vectorCount (code v) 0 0 (code-below v h) ∙ sym (votes-none has v) }
+module _ (voting : ℕ → Bool) (has : ℕ → Vector) where
+  pub tally-first : Tally voting has 0 (replicate vectorCount 0)
+  tally-first = record { long = refl; each = λ v h. getD-replicate vectorCount (code v) 0 0 (code-below v h) ∙ sym (votes-none voting has v) }
 
-pub tally-more : (has : ℕ → Vector) (n : ℕ) (l : List ℕ) (v : Vector) → v ≡ has n → Within 16 v → Tally has n l
-    → Tally has (n + 1) (set l (code v) (getD l (code v) 0 + 1))
-tally-more has n l v e w t = record {
-  long = length-set l _ _ ∙ t .long;
-  each = λ u h. step u h (same? v u) refl ∙ sym (votes-more has n u ∙ ap (λ (k : Vector). votes has n u + cond (same? k u) 1 0) (sym e));
-}
-  where
-    step : (u : Vector) → Within 16 u → (b : Bool) → same? v u ≡ b
-        → getD (set l (code v) (getD l (code v) 0 + 1)) (code u) 0 ≡ votes has n u + cond b 1 0
-    step u h true q =
-        let s = sym (same-yes v u q) in
-        let room : code v < length l = omega (arith, t .long, code-below v w) in
-        rw s (getD-set-same l (code v) _ 0 room ∙ ap (λ (x : ℕ). x + 1) (t .each v w))
-    step u h false q =
-        let apart : code u ≡ code v → ⊥ = λ s. same-no v u q (code-inj v u w h (sym s)) in
-        getD-set-other l (code v) (code u) _ 0 apart ∙ t .each u h ∙ omega arith
+  module _ (n : ℕ) (l : List ℕ) (t : Tally voting has n l) where
+    pub tally-more : (v : Vector) (b : Bool) → v ≡ has n → b ≡ voting n → Within 16 v → Tally voting has (n + 1) (voted l v b)
+    tally-more v b e f w = record {
+      long = length-set l _ _ ∙ t .long;
+      each = λ u h. one-more u h (same? v u) refl ∙ sym (votes-more voting has n u ∙ ap₂ (λ (c : Bool) (k : Vector). votes voting has n u + one (c && same? k u)) (sym f) (sym e));
+    }
+      where
+        one-more : (u : Vector) → Within 16 u → (s : Bool) → same? v u ≡ s → getD (voted l v b) (code u) 0 ≡ votes voting has n u + one (b && s)
+        one-more u h true q =
+            let s = sym (same-yes v u q) in
+            let room : code v < length l = omega (arith, t .long, code-below v w) in
+            rw (s, and-true b) (getD-set-same l (code v) _ 0 room ∙ ap (λ (x : ℕ). x + one b) (t .each v w))
+        one-more u h false q =
+            let apart : code u ≡ code v → ⊥ = λ s. same-no v u q (code-inj v u w h (sym s)) in
+            rw (and-false b) (getD-set-other l (code v) (code u) _ 0 apart ∙ t .each u h ∙ omega arith)
 
-pub tally-room : (has : ℕ → Vector) (n : ℕ) (l : List ℕ) (v : Vector) → Within 16 v → Tally has n l → n < 4294967295 → getD l (code v) 0 < 4294967295
-tally-room has n l v w t h = omega (arith, t .each v w, votes-few has n v)
+    pub tally-room : (v : Vector) → Within 16 v → n < 4294967295 → getD l (code v) 0 < 4294967295
+    tally-room v w h = omega (arith, t .each v w, votes-few voting has n v)
 
--- the reading of the votes is that of the blocks
-pub tally-reading : (has : ℕ → Vector) (n : ℕ) (l : List ℕ) → Tally has n l → readingIn l ≡ readingOf has n
-unfolding readingIn readingOf majority
-tally-reading has n l t =
-    rw (most-ext (votesAt l) (λ k. votes has n (preferred k)) vectorCount (λ k h. t .each (preferred k) (inside k h)))
-    (ap (λ (x : ℕ). record { dy = preferred most .dy; dx = preferred most .dx; votes = x }) (t .each (preferred most) (inside most (most-below _ 1088))))
-  where
-    most : ℕ
-    most = mostTo (λ k. votes has n (preferred k)) vectorCount
+    -- the reading of the votes is that of the blocks
+    pub tally-reading : readingIn l ≡ readingOf voting has n
+    unfolding readingIn readingOf majority
+    tally-reading =
+        rw (most-ext (votesAt l) (λ k. votes voting has n (preferred k)) vectorCount (λ k h. t .each (preferred k) (inside k h)))
+        (ap (λ (x : ℕ). record { dy = preferred most .dy; dx = preferred most .dx; votes = x }) (t .each (preferred most) (inside most (most-below _ 1088))))
+      where
+        most : ℕ
+        most = mostTo (λ k. votes voting has n (preferred k)) vectorCount
 
 -- ---- the walk along the table: the first greatest of k vectors
 

@@ -1,14 +1,14 @@
-// The reading: the vector that most blocks have, with its votes, by one vote a block and one walk along the preference order.
+// The reading: the vector that most voters have, with its votes, by one vote a voter and one walk along the preference order.
 
 ghost use mathlib.Core.Path.{_≡_};
-ghost use Prim.Native.Nat.{_+_, _<_};
-ghost use lib.ListN.{length, getD, set};
+ghost use Prim.Native.Nat.{_<_};
+ghost use lib.ListN.{length, getD};
 ghost use Rattle.order.specs.Preference.{preference, flat};
 ghost use Rattle.order.specs.Vectors.{Within, vectorCount};
-ghost use Rattle.reading.specs.Tally.{code, readingIn};
+ghost use Rattle.reading.specs.Tally.{code, voted, readingIn};
 use order::Vector;
 
-// The vector of most blocks, with its votes.
+// The vector of most voters, with its votes.
 pub struct Reading {
     pub dy: i32,
     pub dx: i32,
@@ -23,13 +23,13 @@ fn code_of(v: Vector) -> usize
     signed::biased(v.dy) * 33 + signed::biased(v.dx)
 }
 
-// One vote more for v.
-pub fn vote(votes: &mut [u32; order::VECTORS], v: Vector)
+// One vote more for v, of a block that votes.
+pub fn vote(votes: &mut [u32; order::VECTORS], v: Vector, voting: bool)
     requires { ⌜ Within 16 v × (length (now votes) ≡ vectorCount) × (getD (now votes) (code v) 0 < 4294967295) ⌝ }
-    ensures { λ _. ⌜ now (votes .exit) ≡ set (now (votes .entry)) (code v) (getD (now (votes .entry)) (code v) 0 + 1) ⌝ }
+    ensures { λ _. ⌜ now (votes .exit) ≡ voted (now (votes .entry)) v voting ⌝ }
 {
     let c = code_of(v);
-    votes[c] += 1;
+    votes[c] += voting as u32;
 }
 
 // The vector of most votes, the first in preference order where several are equal.

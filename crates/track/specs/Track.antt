@@ -1,10 +1,10 @@
 -- 01, "Field, reading, track": "The track holds homed or not, y, x and steps. New: not homed, 0, 0, 0. Home (y, x), each in -1,000,000..1,000,000: homed,
 -- that place, steps 0. Step (pair, search): adds the travel to y, x and 1 to steps, and answers with the track and all that the field call answers. Steps
--- end at 1,000,000. A refused call changes nothing in the track." "Travel is the reading with both signs turned."
+-- end at 1,000,000. A refused call changes nothing in the track." "Travel is the reading with both signs turned." 02, request 3: a step's pair has a voter.
 --   trackNew, homedAt, movedTo   the track: new, homed at a place, after a travel
 --   trackHome    what Home answers: 11, or the new place
 --   stepRefusal  the refusals of a step that come before anything is filled: 1 2 3 4 51 5 6 9 10 31 32
---   arrived      the travel added, or 33
+--   arrived      the travel added, or 52 or 33
 --   StepResult   what a step answers, with what list and table then hold: trackStep
 use Prim.Native.Nat.{ℕ, _+_}
 use mathlib.Core.Path.{_≡_}
@@ -57,11 +57,11 @@ unmoved refusal t = record { track = t; answer = refusedField refusal }
 abbrev pub travelOf : FieldAnswer → Vector
 travelOf a = turned (vec (a .dy) (a .dx))
 
--- the track moved by the travel, or 33
+-- the track moved by the travel, or 52 or 33
 unfoldable pub arrived : Track → FieldAnswer → Stepped
 arrived t a =
     let moved = movedTo t (travelOf a) in
-    let refusal = arrivalRefusal (moved .y) (moved .x) in
+    let refusal = arrivalRefusal (a .voters) (moved .y) (moved .x) in
     cond (eqb refusal 0) (record { track = moved; answer = a }) (unmoved refusal t)
 
 pub record StepResult : Type 0 where
@@ -72,7 +72,8 @@ pub record StepResult : Type 0 where
 abbrev pub stepResult : Stepped → List ℤ → List ℕ → StepResult
 stepResult stepped list table = record { stepped = stepped; list = list; table = table }
 
--- list and table are filled, whether 33 applies or not: "33 ..; list and table are then as after an accepted step"
+-- list and table are filled, whether 52 or 33 applies or neither: "33 ..; list and table are then as after an accepted step"; "52 ..; list and table are
+-- filled as with 33"
 abbrev pub landed : Track → FieldResult → StepResult
 landed t f = stepResult (arrived t (f .answer)) (f .list) (f .table)
 

@@ -92,12 +92,12 @@ impl Track {
         track_rules::state_refusal(self.homed, self.steps)
     }
 
-    // The reading's reverse added to the place, or 33 and the old track.
+    // The reading's reverse added to the place, or 52 or 33 and the old track.
     fn arrive(self, a: FieldAnswer) -> Stepped
         requires { ⌜ self .steps < 1000000 ⌝ }
         ensures { λ r. ⌜ r ≡ arrived self a ⌝ }
     {
-        let place = track_rules::arrive(self.y, self.x, a.dy, a.dx);
+        let place = track_rules::arrive(self.y, self.x, a.dy, a.dx, a.voters);
         if place.refusal != 0 {
             return unmoved(place.refusal, self);
         }

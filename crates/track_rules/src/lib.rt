@@ -4,7 +4,7 @@ ghost use mathlib.Core.Path.{_≡_};
 ghost use Rattle.track_rules.specs.Rules.{homeRefusal, stateRefusal, refusedArrival, arrive};
 use signed::Moved;
 
-// The place after a travel, or 33 and zeros.
+// The place after a travel, or 52 or 33 and zeros.
 pub struct Arrival {
     pub refusal: u32,
     pub y: i32,
@@ -47,10 +47,13 @@ fn refused_arrival(refusal: u32) -> Arrival
     }
 }
 
-// The reverse of the reading (dy, dx) added to the place (y, x).
-pub fn arrive(y: i32, x: i32, dy: i32, dx: i32) -> Arrival
-    ensures { λ r. ⌜ r ≡ arrive y x dy dx ⌝ }
+// The reverse of the reading (dy, dx) of so many voters, added to the place (y, x).
+pub fn arrive(y: i32, x: i32, dy: i32, dx: i32, voters: u32) -> Arrival
+    ensures { λ r. ⌜ r ≡ arrive y x dy dx voters ⌝ }
 {
+    if voters == 0 {
+        return refused_arrival(52); // no block votes
+    }
     let Moved::To(row) = signed::minus_travel(y, dy) else {
         return refused_arrival(33); // y would leave its range
     };

@@ -18,6 +18,8 @@ use Rattle.measures.specs.Measures.{measureOf}
 use Rattle.refusals.specs.Refusals.{firstRefusal, blockSizeOk, windowOk, thresholdOk, pairRefusal, requestRefusal}
 use Rattle.distortion.specs.Blocks.{distortion, distortionBy}
 use Rattle.probe.specs.Probe.{origin}
+use Rattle.voter.specs.Voter.{largestTo, smallestTo, largest, smallest, isVoter}
+use Rattle.reading.specs.Reading.{voters}
 use Rattle.field_rules.specs.Rules.{fieldRefusal}
 use Rattle.track.specs.declared.Track.{Track}
 use Rattle.track.specs.Track.{trackNew}
@@ -34,7 +36,8 @@ Tracks t c r = trackIn r ≡ reckon t c
 
 travels-B : (travel pairB 1 ≡ vec (pos 0) (minus 1)) × (travel pairB 0 ≡ origin)
 unfolding
-    pairB preference candidate measureOf distortion distortionBy sumTo leastOf leastFrom blocks rows columns blockRow blockColumn walkPlaces after every allAlike
+    pairB preference candidate measureOf distortion distortionBy sumTo leastOf leastFrom blocks rows columns blockRow blockColumn walkPlaces after
+    largestTo smallestTo largest smallest isVoter voters every allAlike
 travels-B = (travel-once pairB 1, travel-once pairB 0)
 
 -- the accepted step of G, and another by window 0
@@ -48,7 +51,9 @@ at : (steps : ℕ) → Track
 at steps = record { homed = true; y = pos 10; x = pos 19; steps = steps }
 
 ends-B : (reckoned trackNew oneStep ≡ at 1) × (reckoned trackNew twoSteps ≡ at 2)
-unfolding pairB reckonCall refusalOf accept fieldRefusal requestRefusal pairRefusal blockSizeOk windowOk thresholdOk firstRefusal blocks rows columns at
+unfolding
+    pairB reckonCall refusalOf accept fieldRefusal requestRefusal pairRefusal blockSizeOk windowOk thresholdOk firstRefusal blocks rows columns at
+    blockRow blockColumn largestTo smallestTo largest smallest isVoter voters sumTo
 ends-B = (rw (travels-B .0), rw (travels-B .0, travels-B .1))
 
 -- a track that stands at another x

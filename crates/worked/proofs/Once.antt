@@ -1,5 +1,5 @@
 -- What the definitions answer, in a form that is quick to compute: a block's candidates are listed once instead of wherever they are named, and
--- where all blocks have one vector, that is the reading. Each form is one of the definitions with a part of it exchanged for an equal one.
+-- where no block votes or all voters have one vector, the reading is known. Each form is one of the definitions with a part of it exchanged for an equal one.
 --   blockOnce    a single-block search
 --   fieldOnce    a field
 --   travelOnce   a travel
@@ -34,7 +34,8 @@ use Rattle.full.specs.Full.{fullSearch}
 use Rattle.pruned_steps.specs.Memory.{stillDistortion}
 use Rattle.pruned.specs.Answer.{placeDistortion, placeDistance, pruning, prunedPlace, prunedSearch}
 use Rattle.block.specs.Block.{searchRefusal, searchBy, searchBlock}
-use Rattle.reading.specs.Reading.{votes, majority}
+use Rattle.voter.specs.Voter.{voting}
+use Rattle.reading.specs.Reading.{voters, votes, majority}
 use Rattle.field_rules.specs.Rules.{fieldRefusal, listSize}
 use Rattle.field_block.specs.Blocks.{searchAt}
 use Rattle.field.specs.Field.{entriesOf, countsOver, droppedOver, filledTable, fieldAnswer, refusedField, FieldResult, fieldResult, field}
@@ -124,7 +125,7 @@ module _ (older newer : List ℕ) (q : Request) (list : List ℤ) (table : List 
   fieldBy found v =
       let refusal = fieldRefusal (length older) (length newer) q (length list) (length table) in
       cond (eqb refusal 0)
-      (fieldResult (reads v (votes (λ k. vectorIn (found k)) n v) (countsOver found n) (droppedOver found n))
+      (fieldResult (reads v (votes (voting pair) (λ k. vectorIn (found k)) n v) (voters (voting pair) n) (countsOver found n) (droppedOver found n))
       (entriesOf found n ++ drop (listSize (pair .setting)) list) (filledTable older q table))
       (fieldResult (refusedField refusal) list table)
 
@@ -132,13 +133,13 @@ module _ (older newer : List ℕ) (q : Request) (list : List ℤ) (table : List 
   foundOnce k = searchedOnce pair q (blockRow (pair .setting) k) (blockColumn (pair .setting) k)
 
   abbrev pub fieldOnce : FieldResult
-  fieldOnce = fieldBy foundOnce (majorityOnce (λ k. vectorIn (foundOnce k)) n)
+  fieldOnce = fieldBy foundOnce (majorityOnce (voting pair) (λ k. vectorIn (foundOnce k)) n)
 
   pub field-once : field older newer q list table ≡ fieldOnce
   unfolding field fieldAnswer searchAt
   field-once =
-      ap (λ (found : ℕ → SearchResult). fieldBy found (majority (λ k. vectorIn (found k)) n)) (fun-ext (λ k. searched-once pair q _ _))
-      ∙ ap (fieldBy foundOnce) (majority-once (λ k. vectorIn (foundOnce k)) n)
+      ap (λ (found : ℕ → SearchResult). fieldBy found (majority (voting pair) (λ k. vectorIn (found k)) n)) (fun-ext (λ k. searched-once pair q _ _))
+      ∙ ap (fieldBy foundOnce) (majority-once (voting pair) (λ k. vectorIn (foundOnce k)) n)
 
 -- ---- a travel
 
@@ -147,13 +148,13 @@ module _ (p : Pair) (w : ℕ) where
   bestsOnce k = bestOnce p w (blockRow (p .setting) k) (blockColumn (p .setting) k)
 
   abbrev pub travelOnce : Vector
-  travelOnce = turned (majorityOnce bestsOnce (blocks (p .setting)))
+  travelOnce = turned (majorityOnce (voting p) bestsOnce (blocks (p .setting)))
 
   pub travel-once : travel p w ≡ travelOnce
   unfolding travel
   travel-once =
-      ap (λ (has : ℕ → Vector). turned (majority has (blocks (p .setting)))) (fun-ext (λ k. best-once p w _ _))
-      ∙ ap turned (majority-once bestsOnce (blocks (p .setting)))
+      ap (λ (has : ℕ → Vector). turned (majority (voting p) has (blocks (p .setting)))) (fun-ext (λ k. best-once p w _ _))
+      ∙ ap turned (majority-once (voting p) bestsOnce (blocks (p .setting)))
 
 -- ---- calls on a track
 

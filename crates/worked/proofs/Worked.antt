@@ -24,7 +24,8 @@ use Rattle.pruned_rule.specs.Sift.{kept, exceeding}
 use Rattle.pruned_rule.specs.Prune.{allRemaining, lower, sift, rounds, prune, prunedBest, counts, halves}
 use Rattle.pruned_sums.specs.Area.{summed}
 use Rattle.block.specs.Block.{searchRefusal}
-use Rattle.reading.specs.Reading.{votes}
+use Rattle.voter.specs.Voter.{largestTo, smallestTo, largest, smallest, isVoter}
+use Rattle.reading.specs.Reading.{voters, votes}
 use Rattle.field_rules.specs.Rules.{fieldRefusal}
 use Rattle.field.specs.Field.{entriesOf, tableOf}
 use Rattle.track.specs.Track.{trackHome, stepRefusal, arrived}
@@ -95,7 +96,8 @@ unfolding
     square ring moved step1 step23 step4 from3 from2 fourStep diagonalCross plusCross pass allPasses diagonal onDiagonal ended finished cross
     squareSum distanceBy kept exceeding allRemaining lower sift rounds prune prunedBest counts halves
     searchRefusal walkPlaces after
-    rows columns blocks blockRow blockColumn listTo concatTo summed fieldRefusal entriesOf tableOf votes every allAlike
+    rows columns blocks blockRow blockColumn listTo concatTo summed fieldRefusal entriesOf tableOf
+    largestTo smallestTo largest smallest isVoter voters votes every allAlike
     runFrom trackHome stepRefusal arrived
     signedByte byteOf headRefusal entryOk isStill be2 be4 judged headIn headTaken blockTaken endTaken standingOk startCommand bodyCommand stepAt
     commandsFrom logWalk lastOf blockCommand logCommands logOf flatMap

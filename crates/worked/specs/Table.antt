@@ -148,9 +148,14 @@ stillAfter probes = finds origin 0 (onlyAtOne probes) 0
 abbrev pub measures : ℕ → Answer
 measures d = amount (record { refusal = 0; distortion = d })
 
--- the reading with its votes, and the sums over the blocks
-abbrev pub reads : Vector → ℕ → List ℕ → ℕ → FieldAnswer
-reads v votes counts dropped = record { refusal = 0; dy = v .dy; dx = v .dx; votes = votes; counts = counts; dropped = dropped }
+-- the reading with its votes and the voters, and the sums over the blocks
+abbrev pub reads : Vector → (votes voters : ℕ) → List ℕ → ℕ → FieldAnswer
+reads v votes voters counts dropped =
+    record { refusal = 0; dy = v .dy; dx = v .dx; votes = votes; voters = voters; counts = counts; dropped = dropped }
+
+-- 02, request 3: "a field call without a voter reads (0,0), 0 and 0"
+abbrev pub readsBlank : List ℕ → ℕ → FieldAnswer
+readsBlank counts dropped = reads origin 0 0 counts dropped
 
 -- with what list and table then hold
 abbrev pub fills : FieldAnswer → List ℤ → List ℕ → Answer
@@ -195,24 +200,34 @@ listC = stillBlock ++ stillBlock ++ stillBlock ++ stillBlock ++ heldList 2
 abbrev pub tableC : List ℕ
 tableC = sumsOf (0 ∷ 7 ∷ 14 ∷ 21 ∷ 28 ∷ 35 ∷ 42 ∷ 49 ∷ 56 ∷ []) 8 ++ heldTable 2
 
--- ---- on a track: "home (y, x), step B"
+-- ---- on a track: "home (y, x), step B", and A and C likewise
 
 -- B by search 2
 abbrev pub readsB : FieldAnswer
-readsB = reads vectorB 1 (0 ∷ 0 ∷ 2 ∷ 2 ∷ 1 ∷ []) 1
+readsB = reads vectorB 1 1 (0 ∷ 0 ∷ 2 ∷ 2 ∷ 1 ∷ []) 1
+
+abbrev pub stepA : Call
+stepA = step pairA 16 0 (heldList 5) (heldTable 27)
 
 abbrev pub stepB : Call
 stepB = step pairB 1 0 (heldList 5) (heldTable 32)
 
-abbrev pub homeAndStep : ℤ → ℤ → Query
-homeAndStep y x = calls (home y x ∷ stepB ∷ [])
+abbrev pub stepC : Call
+stepC = step pairC 1 0 (heldList 14) (heldTable 83)
+
+abbrev pub homeAndStep : ℤ → ℤ → Call → Query
+homeAndStep y x c = calls (home y x ∷ c ∷ [])
 
 -- Home is accepted; the step hands the track back, with what the field call answers or a refusal, and list and table are filled
-abbrev pub homedAndStepped : ℤ → ℤ → Track → FieldAnswer → Answer
-homedAndStepped y x t a =
+abbrev pub homedAndStepped : ℤ → ℤ → Track → FieldAnswer → List ℤ → List ℕ → Answer
+homedAndStepped y x t a list table =
     let first = homing (record { refusal = 0; track = homedAt y x }) in
-    let second = stepping (stepResult (record { track = t; answer = a }) listB tableB) in
+    let second = stepping (stepResult (record { track = t; answer = a }) list table) in
     results (first ∷ second ∷ [])
+
+-- 02, request 3: "52 ..; list and table are filled as with 33": the old track, zeros
+abbrev pub blankStepped : ℤ → ℤ → List ℤ → List ℕ → Answer
+blankStepped y x list table = homedAndStepped y x (homedAt y x) (refusedField 52) list table
 
 -- ---- logs: what buffer and list hold, two places longer than the used part
 
@@ -260,13 +275,13 @@ table =
     (search pairA (full 16) 0 0 gives finds origin 32 (onlyAtOne 1) 0)
     ∷ (search pairA (pruned 16) 0 0 gives finds origin 32 (0 ∷ 0 ∷ 1 ∷ 1 ∷ 1 ∷ []) 0)
     ∷ (measuring pairA origin gives measures 32)
-    ∷ (everyBlock pairA (full 16) (heldList 5) (heldTable 27) gives fills (reads origin 1 (onlyAtOne 1) 0) listA (heldTable 27))
-    ∷ (everyBlock pairA (pruned 16) (heldList 5) (heldTable 27) gives fills (reads origin 1 (0 ∷ 0 ∷ 1 ∷ 1 ∷ 1 ∷ []) 0) listA tableA)
+    ∷ (everyBlock pairA (full 16) (heldList 5) (heldTable 27) gives fills (readsBlank (onlyAtOne 1) 0) listA (heldTable 27))
+    ∷ (everyBlock pairA (pruned 16) (heldList 5) (heldTable 27) gives fills (readsBlank (0 ∷ 0 ∷ 1 ∷ 1 ∷ 1 ∷ []) 0) listA tableA)
     -- B* ".. w 1, ..: (0,1), 0; full 2; pruned 0,0,2,2,1, dropped 1; travel (0,-1)"
     ∷ (search pairB (full 1) 0 0 gives finds vectorB 0 (onlyAtOne 2) 0)
     ∷ (search pairB (pruned 1) 0 0 gives finds vectorB 0 (0 ∷ 0 ∷ 2 ∷ 2 ∷ 1 ∷ []) 1)
     ∷ (measuring pairB vectorB gives measures 0)
-    ∷ (everyBlock pairB (full 1) (heldList 5) (heldTable 32) gives fills (reads vectorB 1 (onlyAtOne 2) 0) listB (heldTable 32))
+    ∷ (everyBlock pairB (full 1) (heldList 5) (heldTable 32) gives fills (reads vectorB 1 1 (onlyAtOne 2) 0) listB (heldTable 32))
     ∷ (everyBlock pairB (pruned 1) (heldList 5) (heldTable 32) gives fills readsB listB tableB)
     ∷ (travelling pairB 1 gives travels (vec (pos 0) (minus 1)))
     -- "search 2's log above"
@@ -279,8 +294,8 @@ table =
     ∷ (search pairC (full 1) 0 4 gives stillAfter 4)
     ∷ (search pairC (full 1) 4 0 gives stillAfter 4)
     ∷ (search pairC (full 1) 4 4 gives stillAfter 4)
-    ∷ (everyBlock pairC (full 1) (heldList 14) (heldTable 83) gives fills (reads origin 4 (onlyAtOne 16) 0) listC (heldTable 83))
-    ∷ (everyBlock pairC (pruned 1) (heldList 14) (heldTable 83) gives fills (reads origin 4 (0 ∷ 0 ∷ 16 ∷ 16 ∷ 16 ∷ []) 0) listC tableC)
+    ∷ (everyBlock pairC (full 1) (heldList 14) (heldTable 83) gives fills (readsBlank (onlyAtOne 16) 0) listC (heldTable 83))
+    ∷ (everyBlock pairC (pruned 1) (heldList 14) (heldTable 83) gives fills (readsBlank (0 ∷ 0 ∷ 16 ∷ 16 ∷ 16 ∷ []) 0) listC tableC)
     -- "log `01 00 08 00 08 04 01 02 03 03 03 03 04 00 00 00 04`"
     ∷ (writing (headOf pairC) listC (heldBuffer 19) gives writes logC)
     ∷ (reading logC (heldList 14) gives readsAs (headOf pairC) listC)
@@ -309,9 +324,17 @@ table =
     ∷ (search pairC (cross 2 0) 0 0 gives stillAfter 4)
     ∷ (search pairC (cross 2 1) 0 0 gives stillAfter 1)
     -- G* "home (10,20), step B: (10,19), steps 1"
-    ∷ (homeAndStep (pos 10) (pos 20) gives homedAndStepped (pos 10) (pos 20) (record { homed = true; y = pos 10; x = pos 19; steps = 1 }) readsB)
+    ∷ (homeAndStep (pos 10) (pos 20) stepB
+    gives homedAndStepped (pos 10) (pos 20) (record { homed = true; y = pos 10; x = pos 19; steps = 1 }) readsB listB tableB)
     -- H* "home (0,-1000000), step B: 33": the old track, zeros, list and table filled
-    ∷ (homeAndStep (pos 0) (minus 1000000) gives homedAndStepped (pos 0) (minus 1000000) (homedAt (pos 0) (minus 1000000)) (refusedField 33))
+    ∷ (homeAndStep (pos 0) (minus 1000000) stepB
+    gives homedAndStepped (pos 0) (minus 1000000) (homedAt (pos 0) (minus 1000000)) (refusedField 33) listB tableB)
+    -- 02, request 3: "Worked pairs A and C now have no voter": a step on them is 52
+    ∷ (homeAndStep (pos 10) (pos 20) stepA gives blankStepped (pos 10) (pos 20) listA tableA)
+    ∷ (homeAndStep (pos 10) (pos 20) stepC gives blankStepped (pos 10) (pos 20) listC tableC)
+    -- a block votes from 8 on
+    ∷ (everyBlock (pairOf (replicate 16 10) (17 ∷ replicate 15 10) (setting 4 4 4 1)) (full 16) (heldList 3) [] gives fills (readsBlank (onlyAtOne 1) 0) (triple origin 7) [])
+    ∷ (everyBlock (pairOf (replicate 16 10) (18 ∷ replicate 15 10) (setting 4 4 4 1)) (full 16) (heldList 3) [] gives fills (reads origin 1 1 (onlyAtOne 1) 0) (triple origin 8) [])
     -- I* "empty log: 13 at 0": the list as it was; the line "refused 13 at 0"
     ∷ (reading [] (heldList 2) gives read (readResult (refusedRead 13 0) (heldList 2)))
     ∷ (walking [] gives commands (Cmd.Refused 13 0 ∷ []))

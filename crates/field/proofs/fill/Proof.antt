@@ -46,7 +46,7 @@ returns c =
     let t = v .before .before .before .before .before in
     let o = t .before in
     let a = o .before .before .before .before .before .args in
-    let r = g .reading-of .ensures ∙ tally-reading _ _ _ (l .tally) in
+    let r = g .reading-of .ensures ∙ tally-reading _ _ _ _ (l .tally) in
     rw (
       toZ-ofZ (sfits-of (c .struct-told .given .0 .1)),
       toZ-ofZ (sfits-of (c .struct-told .given .1 .0 .1)),

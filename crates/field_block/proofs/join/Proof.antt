@@ -1,16 +1,16 @@
 -- `join`: count by count; each sum is small.
 use Prim.Native.Nat.{ℕ, _+_, _-_, _≤_}
-use mathlib.Core.Path.{_≡_, _∙_}
+use mathlib.Core.Path.{_≡_}
 use mathlib.Core.List.{List}
 use native.Mathlib.Nat.{le-refl}
 use native.Mathlib.Omega.{arith}
 use borrow.Author.Needs.{needs}
 use lib.ListN.{getD, drop-of-length-le}
+use Rattle.base.specs.Tests.{byte-one, one-le}
 use Rattle.base.specs.Lists.{listTo, length-listTo, fillTo, fill-none, fill-zero, fill-front, front-behind}
 use Rattle.frame.specs.Pictures.{countNumber}
 use Rattle.search.specs.declared.SearchResult.{SearchResult}
 use Rattle.field_block.specs.declared.Total.{Total}
-use Rattle.field_block.specs.Blocks.{Sound, Bounded}
 use Rattle.field_block.proofs.join.Statement.{statement}
 use Rattle.field_block.proofs.join.Tie as tie
 
@@ -22,10 +22,10 @@ kept : (d : List ℕ) (g : ℕ → ℕ) (i : ℕ) → getD (fillTo d 0 g i) i 0 
 kept d g i = rw (fill-zero d g i) (front-behind (listTo g i) d i i 0 (length-listTo g i) (le-refl i))
 
 abbrev Inv-loop : tie.InvT-loop
-Inv-loop s f more counts₀ i₀ counts i = (i ≤ countNumber) × (counts ≡ fillTo (s .counts) 0 (sum s f) i)
+Inv-loop s f voting more counts₀ i₀ counts i = (i ≤ countNumber) × (counts ≡ fillTo (s .counts) 0 (sum s f) i)
 
 abbrev μ-loop : tie.MeasureT-loop
-μ-loop s f more counts₀ i₀ counts i = countNumber - i
+μ-loop s f voting more counts₀ i₀ counts i = countNumber - i
 
 next-is : (c : tie.In-loop Inv-loop μ-loop) →
     let l = c .before .loop in
@@ -71,17 +71,26 @@ loop-again c =
     let h = c .before .before .before .before .pre .0 .long in
     (omega arith, rw (next-is c, l .inv .1) (fill-front _ _ (l .i) (omega (arith, h))))
 
-add-t20 : tie.Need-add-t20 Inv-loop μ-loop
-add-t20 c = search needs
+add-t21 : tie.Need-add-t21 Inv-loop μ-loop
+add-t21 c = search needs
+
+cast-t22 : tie.Need-cast-t22 Inv-loop μ-loop
+cast-t22 c = search needs
+
+add-t23 : tie.Need-add-t23 Inv-loop μ-loop
+add-t23 c =
+    let l = c .before .before .before .before in
+    let s = l .before .before .before in
+    omega (arith, s .pre .0 .voters, byte-one (s .args .voting), one-le (s .args .voting))
 
 returns : tie.Need-returns Inv-loop μ-loop
 unfolding listTo
 returns c =
-    let a = c .before .before .before in
+    let a = c .before .before .before .before in
     let l = a .loop in
     let s = a .before .before .before in
     let e : l .i ≡ countNumber = omega arith in
-    rw (l .inv .1, e, fill-zero, drop-of-length-le (s .args .s .counts) {i = countNumber} (omega (arith, s .pre .0 .long)))
+    rw (l .inv .1, e, fill-zero, byte-one (s .args .voting), drop-of-length-le (s .args .s .counts) {i = countNumber} (omega (arith, s .pre .0 .long)))
 
 pub join-spec : {M : Type 1} → statement M
 join-spec =
@@ -100,5 +109,7 @@ join-spec =
     add-i
     loop-less
     loop-again
-    add-t20
+    add-t21
+    cast-t22
+    add-t23
     returns)

@@ -1,10 +1,9 @@
--- `arrive`: the place after the travel, or 33 and the old track.
+-- `arrive`: the place after the travel, or 52 or 33 and the old track.
 use Prim.Native.Nat.{_+_}
 use mathlib.Core.Path.{_≡_, _∙_}
 use mathlib.Core.Bool.{true}
 use borrow.Author.Needs.{needs, sfits-of}
 use borrow.Author.Tests.{ne-eqb}
-use mir.Syntax.{w32}
 use mir.Facts.{toZ-ofZ}
 use Rattle.track_rules.specs.declared.Arrival.{Arrival}
 use Rattle.field.specs.declared.FieldAnswer.{FieldAnswer}
@@ -15,11 +14,11 @@ use Rattle.track.proofs.Track.arrive.Statement.{statement}
 use Rattle.track.proofs.Track.arrive.Tie as tie
 
 -- the rules' answer, as the track's
-module _ (t : Track) (a : FieldAnswer) (r : Arrival) (e : r ≡ arrive (t .y) (t .x) (a .dy) (a .dx)) where
+module _ (t : Track) (a : FieldAnswer) (r : Arrival) (e : r ≡ arrive (t .y) (t .x) (a .dy) (a .dx) (a .voters)) where
   abbrev moved : Track
   moved = movedTo t (travelOf a)
 
-  refusal-is : arrivalRefusal (moved .y) (moved .x) ≡ r .refusal
+  refusal-is : arrivalRefusal (a .voters) (moved .y) (moved .x) ≡ r .refusal
   unfolding arrive
   refusal-is = rw e
 
@@ -35,7 +34,7 @@ abbrev start : tie.After-arrive → tie.Start
 start c = c .before .before .before .before .before
 
 -- the parts come back from their bits unchanged
-place-is : (c : tie.After-arrive) → let a = start c .args in c .arrive .result ≡ arrive (a .self .y) (a .self .x) (a .a .dy) (a .a .dx)
+place-is : (c : tie.After-arrive) → let a = start c .args in c .arrive .result ≡ arrive (a .self .y) (a .self .x) (a .a .dy) (a .a .dx) (a .a .voters)
 place-is c =
     let dx = c .before in
     let dy = dx .before in

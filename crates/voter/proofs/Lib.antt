@@ -1,0 +1,4 @@
+pub mod Extremes
+pub mod Walk
+pub mod Cut
+pub mod Pels
