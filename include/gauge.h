@@ -19,7 +19,7 @@
  *   - the track of gauge_homed and gauge_stepped, which is handed back as it was;
  *   - the place of the refusal, in gauge_written, gauge_log_read and gauge_walked;
  *   - `next` of gauge_walked, which keeps the cursor's `at` and has phase 3.
- * Memory that is lent to a refused call keeps what it held, but for refusal 33 of a step.
+ * Memory that is lent to a refused call keeps what it held, but for refusals 33 and 52 of a step.
  *
  * Link with libgauge.a (`rt staticlib gauge` writes it to target/staticlib/), and with gauge_text.c beside this file for
  * gauge_refusal_text.
@@ -62,7 +62,8 @@ enum gauge_refusal {
     GAUGE_STEPS_OVER = 32,    /* a step of a track that has 1,000,000 steps or more */
     GAUGE_OUT_OF_RANGE = 33,  /* a step that would lead outside -1,000,000 to 1,000,000 */
     GAUGE_WALK_OVER = 34,     /* walking a log: a walk that is over, or a cursor that no walk of this log can have */
-    GAUGE_BAD_MEASURE = 51    /* the measure neither 1 nor 2; writing a log: not 1 */
+    GAUGE_BAD_MEASURE = 51,   /* the measure neither 1 nor 2; writing a log: not 1 */
+    GAUGE_NO_VOTER = 52       /* a step of a pair in which no block votes: see gauge_field_answer */
 };
 
 /* What a refusal means, in words; of any number, never null. In gauge_text.c. */
@@ -116,16 +117,18 @@ typedef struct {
 gauge_found gauge_search_block(const uint8_t *older, size_t older_length, const uint8_t *newer, size_t newer_length,
                                gauge_request request, size_t row, size_t column);
 
-/* What the field of a pair answers. */
+/* What the field of a pair answers. A block votes if its largest newer pel exceeds its smallest by 8 or more: all vectors look alike to a blank
+ * one. Where no block votes, a field is accepted all the same: its reading is (0,0), with 0 votes of 0 voters; a step is refused by 52. */
 typedef struct {
     uint32_t refusal;
-    int32_t dy, dx;     /* the reading: the vector of most blocks; the paper travelled by (-dy, -dx) */
-    uint32_t votes;     /* how many blocks have it */
-    uint32_t counts[5]; /* the counts of all blocks, summed */
+    int32_t dy, dx;     /* the reading: the vector of most voters; the paper travelled by (-dy, -dx) */
+    uint32_t votes;     /* how many voters have it */
+    uint32_t voters;    /* how many blocks vote */
+    uint32_t counts[5]; /* the counts of all blocks, voters or not, summed */
     uint32_t dropped;   /* and the numbers dropped, summed */
 } gauge_field_answer;
 
-/* Searches every block of the grid: (height / N) x (width / N) blocks, row by row. Fills the list with three numbers a block: dy,
+/* Searches every block of the grid: (height / N) x (width / N) blocks, row by row. Fills the list with three numbers a block, voter or not: dy,
  * dx, distortion. Search 2 also fills the table with sums of older pels: place r x (width + 1) + c has the sum of the pels in rows
  * before r and columns before c; the other searches leave it as it is, and it may have any length, 0 too. Numbers past the used part keep
  * what they held, as all do where the call is refused. Tests 1 2 3 4 51 5 6 9 10. */
@@ -158,8 +161,8 @@ typedef struct {
     gauge_track track;
 } gauge_stepped;
 
-/* Adds the travel of a pair to the place, and 1 to the steps. Lent memory is as the field call leaves it, also where 33 refuses; any
- * other refusal leaves it as it was. Tests 1 2 3 4 51 5 6 9 10 31 32 33. */
+/* Adds the travel of a pair to the place, and 1 to the steps. Lent memory is as the field call leaves it, also where 52 or 33 refuses; any
+ * other refusal leaves it as it was. Tests 1 2 3 4 51 5 6 9 10 31 32 52 33. */
 gauge_stepped gauge_step(gauge_track track, const uint8_t *older, size_t older_length, const uint8_t *newer, size_t newer_length,
                          gauge_request request, int32_t *list, size_t list_length, uint32_t *table, size_t table_length);
 

@@ -56,6 +56,8 @@ const char *gauge_refusal_text(uint32_t refusal)
         return "the walk along the log is over, or its cursor belongs to no walk of this log";
     case GAUGE_BAD_MEASURE:
         return "the measure is neither 1 (absolute) nor 2 (squares), or it is not 1 for a log that is to be written";
+    case GAUGE_NO_VOTER:
+        return "no block votes: in none do the newer pels differ by 8 grey levels or more";
     default:
         return "no refusal has this number";
     }

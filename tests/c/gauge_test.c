@@ -1,7 +1,7 @@
 /* include/gauge.h and include/gauge_text.c as C sees them: the layout of every struct against what the archive hands over, for every call
  * one that is accepted and one that is refused, in numbers that are all different, and what lent memory holds after each; the two
- * measures, and where the refusal of any other stands among the refusals; the refusals by name and by text, and the lengths that the macros
- * give. The rules behind the numbers are tested by tests/rival.
+ * measures, and where the refusal of any other stands among the refusals; which blocks vote, and what a pair without a voter answers; the refusals
+ * by name and by text, and the lengths that the macros give. The rules behind the numbers are tested by tests/rival.
  *
  * What differs is printed as FILE:LINE: CALL: MEMBER: got THIS, wanted THAT. */
 #include <stdio.h>
@@ -70,7 +70,8 @@ static void same_place(int line, const char *array, size_t place, int64_t got, i
 #define SAME_FOUND(got, refusal_, dy_, dx_, distortion_) \
     (SAME(got.refusal, refusal_), SAME(got.dy, dy_), SAME(got.dx, dx_), SAME(got.distortion, distortion_))
 
-#define SAME_READING(got, refusal_, dy_, dx_, votes_) (SAME(got.refusal, refusal_), SAME(got.dy, dy_), SAME(got.dx, dx_), SAME(got.votes, votes_))
+#define SAME_READING(got, refusal_, dy_, dx_, votes_, voters_) \
+    (SAME(got.refusal, refusal_), SAME(got.dy, dy_), SAME(got.dx, dx_), SAME(got.votes, votes_), SAME(got.voters, voters_))
 
 /* gauge_row, gauge_written */
 #define SAME_PART(got, refusal_, place_, length_) (SAME(got.refusal, refusal_), SAME(got.place, place_), SAME(got.length, length_))
@@ -116,9 +117,10 @@ HAS(gauge_field_answer, refusal, uint32_t, 0);
 HAS(gauge_field_answer, dy, int32_t, 4);
 HAS(gauge_field_answer, dx, int32_t, 8);
 HAS(gauge_field_answer, votes, uint32_t, 12);
-HAS(gauge_field_answer, counts, uint32_t *, 16);
-HAS(gauge_field_answer, dropped, uint32_t, 36);
-SIZE(gauge_field_answer, 40);
+HAS(gauge_field_answer, voters, uint32_t, 16);
+HAS(gauge_field_answer, counts, uint32_t *, 20);
+HAS(gauge_field_answer, dropped, uint32_t, 40);
+SIZE(gauge_field_answer, 44);
 
 HAS(gauge_track, homed, bool, 0);
 HAS(gauge_track, y, int32_t, 4);
@@ -131,8 +133,8 @@ HAS(gauge_homed, track, gauge_track, 4);
 SIZE(gauge_homed, 20);
 
 HAS(gauge_stepped, answer, gauge_field_answer, 0);
-HAS(gauge_stepped, track, gauge_track, 40);
-SIZE(gauge_stepped, 56);
+HAS(gauge_stepped, track, gauge_track, 44);
+SIZE(gauge_stepped, 60);
 
 HAS(gauge_head, width, size_t, 0);
 HAS(gauge_head, height, size_t, 8);
@@ -299,13 +301,13 @@ static void fields(void)
     call = "gauge_field";
     lend();
     gauge_field_answer answer = gauge_field(older, PELS, newer, PELS, pruned, list, LIST + MORE, table, TABLE + MORE);
-    SAME_READING(answer, GAUGE_ACCEPTED, 2, -5, 4);
+    SAME_READING(answer, GAUGE_ACCEPTED, 2, -5, 4, 6);
     SAME_COUNTS(answer, 1200, 626, 601, 571, 452, 748);
     FIELD_LENT(field_list);
 
     lend();
     answer = gauge_field(older, PELS, newer, PELS, squares, list, LIST + MORE, table, TABLE + MORE);
-    SAME_READING(answer, GAUGE_ACCEPTED, 2, -5, 4);
+    SAME_READING(answer, GAUGE_ACCEPTED, 2, -5, 4, 6);
     SAME_COUNTS(answer, 1200, 806, 767, 692, 518, 682);
     FIELD_LENT(squares_list);
 
@@ -313,7 +315,7 @@ static void fields(void)
     lend();
     gauge_request full = {WIDTH, HEIGHT, N, 1, W, 0, 1};
     answer = gauge_field(older, PELS, newer, PELS, full, list, LIST, table, 0);
-    SAME_READING(answer, GAUGE_ACCEPTED, 2, -5, 4);
+    SAME_READING(answer, GAUGE_ACCEPTED, 2, -5, 4, 6);
     SAME_COUNTS(answer, 0, 0, 0, 0, 1200, 0);
     EACH(list, 0, LIST, field_list[i]);
     EACH(list, LIST, LIST + MORE, NUMBER);
@@ -321,11 +323,11 @@ static void fields(void)
 
     lend();
     answer = gauge_field(older, PELS, newer, PELS, pruned, list, LIST, table, TABLE - 1);
-    SAME_READING(answer, GAUGE_SHORT_TABLE, 0, 0, 0);
+    SAME_READING(answer, GAUGE_SHORT_TABLE, 0, 0, 0, 0);
     SAME_COUNTS(answer, 0, 0, 0, 0, 0, 0);
     ALL_KEPT();
     answer = gauge_field(older, PELS, newer, PELS, pruned, list, LIST - 1, table, TABLE);
-    SAME_READING(answer, GAUGE_SHORT_LIST, 0, 0, 0);
+    SAME_READING(answer, GAUGE_SHORT_LIST, 0, 0, 0, 0);
     SAME_COUNTS(answer, 0, 0, 0, 0, 0, 0);
     ALL_KEPT();
 }
@@ -359,38 +361,187 @@ static void stepping(void)
 {
     call = "gauge_step";
     gauge_stepped stepped = step(pruned, true, 100, 200, 7);
-    SAME_READING(stepped.answer, GAUGE_ACCEPTED, 2, -5, 4);
+    SAME_READING(stepped.answer, GAUGE_ACCEPTED, 2, -5, 4, 6);
     SAME_COUNTS(stepped.answer, 1200, 626, 601, 571, 452, 748);
     SAME_TRACK(stepped.track, true, 98, 205, 8);
     FIELD_LENT(field_list);
     stepped = step(squares, true, 300, 400, 17);
-    SAME_READING(stepped.answer, GAUGE_ACCEPTED, 2, -5, 4);
+    SAME_READING(stepped.answer, GAUGE_ACCEPTED, 2, -5, 4, 6);
     SAME_COUNTS(stepped.answer, 1200, 806, 767, 692, 518, 682);
     SAME_TRACK(stepped.track, true, 298, 405, 18);
     FIELD_LENT(squares_list);
 
     stepped = step(pruned, false, 11, 12, 13);
-    SAME_READING(stepped.answer, GAUGE_NOT_HOMED, 0, 0, 0);
+    SAME_READING(stepped.answer, GAUGE_NOT_HOMED, 0, 0, 0, 0);
     SAME_COUNTS(stepped.answer, 0, 0, 0, 0, 0, 0);
     SAME_TRACK(stepped.track, false, 11, 12, 13);
     ALL_KEPT();
     stepped = step(pruned, true, 21, -22, 1000000);
-    SAME_READING(stepped.answer, GAUGE_STEPS_OVER, 0, 0, 0);
+    SAME_READING(stepped.answer, GAUGE_STEPS_OVER, 0, 0, 0, 0);
     SAME_COUNTS(stepped.answer, 0, 0, 0, 0, 0, 0);
     SAME_TRACK(stepped.track, true, 21, -22, 1000000);
     ALL_KEPT();
 
     /* Out of range: the old track, but list and table as after an accepted step. */
     stepped = step(pruned, true, -999999, 32, 33);
-    SAME_READING(stepped.answer, GAUGE_OUT_OF_RANGE, 0, 0, 0);
+    SAME_READING(stepped.answer, GAUGE_OUT_OF_RANGE, 0, 0, 0, 0);
     SAME_COUNTS(stepped.answer, 0, 0, 0, 0, 0, 0);
     SAME_TRACK(stepped.track, true, -999999, 32, 33);
     FIELD_LENT(field_list);
     stepped = step(squares, true, -999998, 999996, 34);
-    SAME_READING(stepped.answer, GAUGE_OUT_OF_RANGE, 0, 0, 0);
+    SAME_READING(stepped.answer, GAUGE_OUT_OF_RANGE, 0, 0, 0, 0);
     SAME_COUNTS(stepped.answer, 0, 0, 0, 0, 0, 0);
     SAME_TRACK(stepped.track, true, -999998, 999996, 34);
     FIELD_LENT(squares_list);
+}
+
+/* ---- who votes */
+
+/* A small pair, searched by N 4 and the least w that the search takes above 0. More is lent than it needs. */
+enum { SMALL_LIST = 12, SMALL_TABLE = 81 };
+typedef struct {
+    size_t width, height;
+    uint8_t older[64], newer[64];
+} small_pair;
+
+static gauge_request small_request(const small_pair *pair, uint32_t search, uint32_t measure)
+{
+    return (gauge_request){pair->width, pair->height, 4, search, search == 3 ? 7 : search == 4 ? 2 : 1, 0, measure};
+}
+
+static gauge_field_answer small_field(const small_pair *pair, uint32_t search, uint32_t measure)
+{
+    const size_t pels = pair->width * pair->height;
+    lend();
+    return gauge_field(pair->older, pels, pair->newer, pels, small_request(pair, search, measure), list, SMALL_LIST, table, SMALL_TABLE);
+}
+
+static gauge_stepped small_step(const small_pair *pair, uint32_t search, uint32_t measure, gauge_track track)
+{
+    const size_t pels = pair->width * pair->height;
+    lend();
+    return gauge_step(track, pair->older, pels, pair->newer, pels, small_request(pair, search, measure), list, SMALL_LIST, table, SMALL_TABLE);
+}
+
+/* What a small field leaves: so many numbers in the list, and by search 2 the sums of the older frame. */
+static void small_lent(const small_pair *pair, uint32_t search, const int32_t *numbers, size_t count)
+{
+    EACH(list, 0, count, numbers[i]);
+    EACH(list, count, LIST + MORE, NUMBER);
+    const size_t across = pair->width + 1, sums = search == 2 ? across * (pair->height + 1) : 0;
+    for (size_t i = 0; i < sums; i++) {
+        uint32_t sum = 0;
+        for (size_t r = 0; r < i / across; r++)
+            for (size_t c = 0; c < i % across; c++)
+                sum += pair->older[r * pair->width + c];
+        same_place(__LINE__, "table", i, table[i], sum);
+    }
+    EACH(table, sums, TABLE + MORE, SUM);
+}
+
+/* A pair without a voter, whose field has this list. A field reads (0,0) with no vote of no voter; a step is refused by 52, with list and table
+ * filled and the old track, at any place, the range's end and beyond it too; but 31 and 32 come first and leave all as it was. */
+static void none_votes(const small_pair *pair, uint32_t search, uint32_t measure, const int32_t *numbers, size_t count)
+{
+    static const gauge_track tracks[] = {
+        {true, 10, 20, 7},     {true, 0, -1000000, 0},       {true, 1000000, 1000000, 999999},
+        {true, 1000001, 0, 0}, {true, 3, INT32_MIN, 999999}, {true, -1000000, -1000000, 1},
+    };
+    gauge_field_answer answer = small_field(pair, search, measure);
+    SAME_READING(answer, GAUGE_ACCEPTED, 0, 0, 0, 0);
+    small_lent(pair, search, numbers, count);
+    for (size_t i = 0; i < sizeof tracks / sizeof *tracks; i++) {
+        gauge_stepped stepped = small_step(pair, search, measure, tracks[i]);
+        SAME_READING(stepped.answer, GAUGE_NO_VOTER, 0, 0, 0, 0);
+        SAME_COUNTS(stepped.answer, 0, 0, 0, 0, 0, 0);
+        SAME_TRACK(stepped.track, tracks[i].homed, tracks[i].y, tracks[i].x, tracks[i].steps);
+        small_lent(pair, search, numbers, count);
+    }
+    gauge_stepped stepped = small_step(pair, search, measure, (gauge_track){false, 11, 12, 13});
+    SAME_READING(stepped.answer, GAUGE_NOT_HOMED, 0, 0, 0, 0);
+    SAME_TRACK(stepped.track, false, 11, 12, 13);
+    ALL_KEPT();
+    stepped = small_step(pair, search, measure, (gauge_track){true, 1000001, -22, 1000000});
+    SAME_READING(stepped.answer, GAUGE_STEPS_OVER, 0, 0, 0, 0);
+    SAME_TRACK(stepped.track, true, 1000001, -22, 1000000);
+    ALL_KEPT();
+}
+
+/* The worked pairs A and C, and a pair like B with a tenth of its contrast: 3 in its block, and far more in the column that no block has. */
+static void no_voters(void)
+{
+    static small_pair a = {.width = 4, .height = 4}, c = {.width = 8, .height = 8}, faint = {.width = 5, .height = 4};
+    static const int32_t of_a[] = {0, 0, 32}, of_a_squares[] = {0, 0, 64}, of_c[12] = {0}, of_faint[] = {0, 1, 0};
+    memset(a.older, 12, 16);
+    memset(a.newer, 10, 16);
+    memset(c.older, 7, 64);
+    memset(c.newer, 7, 64);
+    for (size_t i = 0; i < 20; i++) {
+        faint.older[i] = (uint8_t)(i % 5);
+        faint.newer[i] = (uint8_t)(i % 5 == 4 ? 99 : i % 5 + 1);
+    }
+    for (uint32_t search = 1; search <= 4; search++)
+        for (uint32_t measure = 1; measure <= 2; measure++) {
+            call_of("pair A, search", search);
+            none_votes(&a, search, measure, measure == 1 ? of_a : of_a_squares, 3);
+            call_of("pair C, search", search);
+            none_votes(&c, search, measure, of_c, 12);
+            call_of("a faint pair, search", search);
+            none_votes(&faint, search, measure, of_faint, 3);
+        }
+    call = "counts of a field without a voter";
+    gauge_field_answer answer = small_field(&a, 2, 1);
+    SAME_COUNTS(answer, 0, 0, 1, 1, 1, 0);
+    answer = small_field(&c, 2, 1);
+    SAME_COUNTS(answer, 0, 0, 16, 16, 16, 0);
+    answer = small_field(&faint, 2, 1);
+    SAME_COUNTS(answer, 0, 0, 2, 2, 1, 1);
+}
+
+/* Two blank blocks and B's one: the two have (0,0) and no vote. */
+static void blank_blocks(void)
+{
+    static small_pair pair = {.width = 13, .height = 4};
+    static const int32_t numbers[] = {0, 0, 0, 0, 0, 0, 0, 1, 0};
+    for (size_t i = 0; i < 52; i++) {
+        const size_t column = i % 13;
+        pair.older[i] = (uint8_t)(column < 8 ? 50 : 10 * (column - 8));
+        pair.newer[i] = (uint8_t)(column < 8 ? 50 : column == 12 ? 99 : 10 * (column - 7));
+    }
+    call = "two blank blocks of three";
+    for (uint32_t measure = 1; measure <= 2; measure++) {
+        gauge_field_answer answer = small_field(&pair, 2, measure);
+        SAME_READING(answer, GAUGE_ACCEPTED, 0, 1, 1, 1);
+        small_lent(&pair, 2, numbers, 9);
+        gauge_stepped stepped = small_step(&pair, 2, measure, (gauge_track){true, 10, 20, 0});
+        SAME_READING(stepped.answer, GAUGE_ACCEPTED, 0, 1, 1, 1);
+        SAME_TRACK(stepped.track, true, 10, 19, 1);
+        small_lent(&pair, 2, numbers, 9);
+        stepped = small_step(&pair, 2, measure, (gauge_track){true, 10, -1000000, 0});
+        SAME_READING(stepped.answer, GAUGE_OUT_OF_RANGE, 0, 0, 0, 0);
+        SAME_TRACK(stepped.track, true, 10, -1000000, 0);
+        small_lent(&pair, 2, numbers, 9);
+    }
+}
+
+/* One pel of a block that is off by 1 to 255, lighter or darker, wherever it stands: from 8 on the block votes. The older frame's pels do not
+ * matter. */
+static void one_pel_votes(void)
+{
+    static small_pair pair = {.width = 4, .height = 4};
+    for (uint32_t off = 0; off <= 255; off++)
+        for (size_t at = 0; at < 16; at++) {
+            call_of("one newer pel off by", off);
+            memset(pair.older, at % 2 ? 0 : 200, 8);
+            memset(pair.newer, (int)(255 - off), 16);
+            pair.newer[at] = 255;
+            gauge_field_answer answer = small_field(&pair, 1, 1);
+            SAME_READING(answer, GAUGE_ACCEPTED, 0, 0, off >= 8, off >= 8);
+            memset(pair.newer, (int)off, 16);
+            pair.newer[at] = 0;
+            answer = small_field(&pair, 2, 2);
+            SAME_READING(answer, GAUGE_ACCEPTED, 0, 0, off >= 8, off >= 8);
+        }
 }
 
 /* ---- the measure */
@@ -418,7 +569,7 @@ static void largest_distortions(void)
             const size_t blocks = (16 / n) * (16 / n);
             memset(numbers, 255, sizeof numbers);
             gauge_field_answer answer = gauge_field(light, 256, dark, 256, request, numbers, 3 * blocks, table, TABLE);
-            SAME_READING(answer, GAUGE_ACCEPTED, 0, 0, blocks);
+            SAME_READING(answer, GAUGE_ACCEPTED, 0, 0, 0, 0);
             EACH(numbers, 0, 3 * blocks, i % 3 == 2 ? 65025 * n * n : 0);
         }
     }
@@ -447,11 +598,11 @@ static void all_refuse(gauge_request request, uint32_t refusal)
     SAME_COUNTS(found, 0, 0, 0, 0, 0, 0);
     lend();
     gauge_field_answer answer = gauge_field(older, PELS, newer, PELS, request, list, LIST - 1, table, TABLE - 1);
-    SAME_READING(answer, refusal, 0, 0, 0);
+    SAME_READING(answer, refusal, 0, 0, 0, 0);
     SAME_COUNTS(answer, 0, 0, 0, 0, 0, 0);
     ALL_KEPT();
     gauge_stepped stepped = step(request, false, 41, -42, 43);
-    SAME_READING(stepped.answer, refusal, 0, 0, 0);
+    SAME_READING(stepped.answer, refusal, 0, 0, 0, 0);
     SAME_COUNTS(stepped.answer, 0, 0, 0, 0, 0, 0);
     SAME_TRACK(stepped.track, false, 41, -42, 43);
     ALL_KEPT();
@@ -699,7 +850,7 @@ static const struct {
     {GAUGE_SHORT_LIST, 10},   {GAUGE_BAD_HOME, 11},     {GAUGE_BAD_SIDE, 12},   {GAUGE_LOG_CUT, 13},       {GAUGE_LOG_COMMAND, 14},
     {GAUGE_LOG_HEAD, 15},     {GAUGE_LOG_BLOCK, 16},    {GAUGE_LOG_END, 17},    {GAUGE_LOG_AFTER_END, 18}, {GAUGE_SHORT_BUFFER, 19},
     {GAUGE_LOG_TOO_LONG, 20}, {GAUGE_NOT_HOMED, 31},    {GAUGE_STEPS_OVER, 32}, {GAUGE_OUT_OF_RANGE, 33},  {GAUGE_WALK_OVER, 34},
-    {GAUGE_BAD_MEASURE, 51},
+    {GAUGE_BAD_MEASURE, 51},  {GAUGE_NO_VOTER, 52},
 };
 enum { REFUSALS = sizeof refusals / sizeof *refusals };
 
@@ -710,7 +861,7 @@ static void texts(void)
     const char *unknown = gauge_refusal_text(UINT32_MAX);
     SAME(unknown != NULL && *unknown != 0, true);
     SAME(strcmp(gauge_refusal_text(0), "accepted"), 0);
-    SAME(REFUSALS, 26);
+    SAME(REFUSALS, 27);
     for (size_t i = 0; i < REFUSALS; i++) {
         call_of("gauge_refusal_text", refusals[i].number);
         SAME(refusals[i].refusal, refusals[i].number);
@@ -720,7 +871,7 @@ static void texts(void)
         for (size_t j = 0; j < i; j++)
             SAME(strcmp(text, gauge_refusal_text(refusals[j].number)) == 0, false);
     }
-    static const uint32_t others[] = {21, 22, 25, 30, 35, 36, 50, 52, 255, 256, 257, 307, 65536, 1u << 31};
+    static const uint32_t others[] = {21, 22, 25, 30, 35, 36, 50, 53, 255, 256, 257, 307, 308, 65536, 1u << 31};
     for (size_t i = 0; i < sizeof others / sizeof *others; i++) {
         call_of("gauge_refusal_text", others[i]);
         SAME(strcmp(gauge_refusal_text(others[i]), unknown), 0);
@@ -738,6 +889,9 @@ int main(void)
     fields();
     homing();
     stepping();
+    no_voters();
+    blank_blocks();
+    one_pel_votes();
     largest_distortions();
     one_pel();
     measures_refused();
