@@ -45,6 +45,7 @@ struct GaugeFieldAnswer {
     dy: i32,
     dx: i32,
     votes: u32,
+    voters: u32,
     counts: [u32; 5],
     dropped: u32,
 }
@@ -279,6 +280,7 @@ fn field_answer(answer: GaugeFieldAnswer) -> FieldAnswer {
         dy: answer.dy as i64,
         dx: answer.dx as i64,
         votes: answer.votes as i64,
+        voters: answer.voters as i64,
         counts: answer.counts.map(|count| count as i64),
         dropped: answer.dropped as i64,
     }

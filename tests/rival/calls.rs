@@ -1,7 +1,7 @@
 //! Lists of calls, as the rules' promise on them has it: homings and steps of search 2, each step by either measure, refused ones
-//! among them, each with the track that the call before handed back. After every call the archive's track must be the reckoning's own, refusals must be the
-//! same, and answer, list and table must be what the rival's step leaves, to the last place. Four-step and cross run beside
-//! accepted steps.
+//! among them, each with the track that the call before handed back. After every call the archive's track must be the reckoning's
+//! own, refusals must be the same, and answer, list and table must be what the rival's step leaves, to the last place. Four-step and
+//! cross run beside accepted steps.
 
 use crate::archive;
 use crate::fields::{few_blocks, good_request, lend_for, spoil};
@@ -25,7 +25,7 @@ struct Calls {
     /// Four-step and cross at places of an accepted step's frames, on the grid or off it.
     bounds: Group,
     /// How many steps were accepted, and how many of each refusal came.
-    met: [u64; 52],
+    met: [u64; 53],
 }
 
 impl Calls {
@@ -37,7 +37,7 @@ impl Calls {
             lent: group("list and table"),
             bests: group("exhaustive bests"),
             bounds: group("four-step and cross"),
-            met: [0; 52],
+            met: [0; 53],
         }
     }
 
@@ -212,7 +212,7 @@ fn from_new() -> u64 {
         let start = (archive::new_track(), NEW);
         list_of_calls(&mut calls, chance, &format!("seed {seed}"), start);
     }
-    calls.end(&[0, 1, 2, 3, 5, 6, 9, 10, 11, 31, 33, 51])
+    calls.end(&[0, 1, 2, 3, 5, 6, 9, 10, 11, 31, 33, 51, 52])
 }
 
 /// Lists of calls from tracks built by hand: any numbers, steps near their end.
@@ -233,7 +233,7 @@ fn from_any() -> u64 {
         };
         list_of_calls(&mut calls, chance, &format!("seed {seed}"), (track, track));
     }
-    calls.end(&[0, 1, 2, 3, 5, 6, 9, 10, 11, 31, 32, 33, 51])
+    calls.end(&[0, 1, 2, 3, 5, 6, 9, 10, 11, 31, 32, 33, 51, 52])
 }
 
 /// Steps of the other searches, which stand in no list of calls, from a homed track.

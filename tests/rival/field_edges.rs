@@ -229,7 +229,8 @@ fn step_of_b(group: &mut Group, track: Track, measure: u32, refusal: i64) {
     let wanted = match refusal {
         0 => {
             let there = stands(true, track.y, track.x - 1, track.steps + 1);
-            (FieldAnswer::accepted((0, 1), 1, [0, 0, 2, 2, 1], 1), there)
+            let answer = FieldAnswer::accepted((0, 1), (1, 1), [0, 0, 2, 2, 1], 1);
+            (answer, there)
         }
         _ => (refused(refusal), track),
     };
@@ -247,13 +248,18 @@ fn step_of_b(group: &mut Group, track: Track, measure: u32, refusal: i64) {
     group.same(&inputs, (&here, &there), (&kept, &kept));
 }
 
-/// B asked so that any choice of rules is broken: the first of them answers, the track's rules last.
+/// B asked so that any choice of rules is broken: the first of them answers, the track's rules last. Its block votes no more where each pel has a
+/// tenth of its grey, and still has (0,1), so that 33 would apply if it did vote.
 fn order((measure, by): (u32, &str)) -> u64 {
     let mut group = Group::new(format!("fields and steps, {by}, order of refusals"));
-    for rules in choices(&[1, 2, 3, 4, 51, 5, 6, 9, 10, 31, 32, 33]) {
+    for rules in choices(&[1, 2, 3, 4, 51, 5, 6, 9, 10, 31, 32, 52, 33]) {
         let first = rules.first().copied().unwrap_or(0);
         let broken = |rule| rules.contains(&rule);
         let mut pair = frames_of_b();
+        if broken(52) {
+            pair.older.iter_mut().for_each(|pel| *pel /= 10);
+            pair.newer.iter_mut().for_each(|pel| *pel /= 10);
+        }
         if broken(1) {
             pair.width = 3;
         }
@@ -273,7 +279,7 @@ fn order((measure, by): (u32, &str)) -> u64 {
 
         let mut here = before.clone();
         let answer = archive::field(&pair, &request, &mut here);
-        let wanted = if [31, 32, 33].contains(&first) {
+        let wanted = if [31, 32, 52, 33].contains(&first) {
             0
         } else {
             first
@@ -287,7 +293,8 @@ fn order((measure, by): (u32, &str)) -> u64 {
         let inputs = format!("{inputs}, {track:?}");
         group.same(&inputs, answer.refusal, first);
         group.same(&inputs, after != track, first == 0);
-        group.same(&inputs, here != before, first == 0 || first == 33);
+        let filled = [0, 52, 33].contains(&first);
+        group.same(&inputs, here != before, filled);
     }
     group.end()
 }
@@ -325,15 +332,15 @@ fn whole_fields() -> u64 {
         width: 11,
         height: 7,
     };
-    let wanted = FieldAnswer::accepted((0, 0), 2, [0, 0, 2, 2, 2], 0);
+    let wanted = FieldAnswer::accepted((0, 0), (2, 2), [0, 0, 2, 2, 2], 0);
     for measure in [1, 2] {
         let request = asks(4, 2, 0, 0, measure);
         field_of(&mut group, &pair, request, wanted, &[0; 6]);
     }
 
-    // The table has sums of pels by each measure.
+    // The table has sums of pels by each measure. In flat frames no block votes.
     let pair = flat(1024, 1024, 255, 0);
-    let wanted = FieldAnswer::accepted((0, 0), 4096, [4096; 5], 0);
+    let wanted = FieldAnswer::accepted((0, 0), (0, 0), [4096; 5], 0);
     for (measure, most) in [(1, 65_280), (2, 16_646_400)] {
         let request = asks(16, 2, 0, 0, measure);
         let list = [0, 0, most].repeat(4096);
@@ -346,7 +353,7 @@ fn whole_fields() -> u64 {
 
     let pair = flat(8, 8, 7, 7);
     for (search, w, t, count) in [(3, 7, 0, 28), (4, 2, 0, 16), (4, 2, 1, 4)] {
-        let wanted = FieldAnswer::accepted((0, 0), 4, [0, 0, 0, 0, count], 0);
+        let wanted = FieldAnswer::accepted((0, 0), (0, 0), [0, 0, 0, 0, count], 0);
         for measure in [1, 2] {
             let request = asks(4, search, w, t, measure);
             field_of(&mut group, &pair, request, wanted, &[0; 12]);
@@ -357,7 +364,7 @@ fn whole_fields() -> u64 {
     let pair = flat(8, 8, 7, 16);
     for (measure, distortion) in [(1, 144), (2, 1296)] {
         for (t, count) in [(distortion, 16), (distortion + 1, 4)] {
-            let wanted = FieldAnswer::accepted((0, 0), 4, [0, 0, 0, 0, count], 0);
+            let wanted = FieldAnswer::accepted((0, 0), (0, 0), [0, 0, 0, 0, count], 0);
             let request = asks(4, 4, 2, t as u32, measure);
             let list = [0, 0, distortion].repeat(4);
             field_of(&mut group, &pair, request, wanted, &list);
@@ -431,10 +438,15 @@ fn stepping() -> u64 {
         width: 4,
         height: 5,
     };
-    let (b, c) = (frames_of_b(), flat(8, 8, 7, 7));
-    let full = FieldAnswer::accepted((0, 1), 1, [0, 0, 0, 0, 2], 0);
-    let up = FieldAnswer::accepted((1, 0), 1, [0, 0, 2, 2, 1], 1);
-    let still = |count| FieldAnswer::accepted((0, 0), 4, [0, 0, 0, 0, count], 0);
+    // C with two greys, so that its blocks vote.
+    let mut c = flat(8, 8, 7, 7);
+    for place in (0..64).step_by(2) {
+        (c.older[place], c.newer[place]) = (15, 15);
+    }
+    let b = frames_of_b();
+    let full = FieldAnswer::accepted((0, 1), (1, 1), [0, 0, 0, 0, 2], 0);
+    let up = FieldAnswer::accepted((1, 0), (1, 1), [0, 0, 2, 2, 1], 1);
+    let still = |count| FieldAnswer::accepted((0, 0), (4, 4), [0, 0, 0, 0, count], 0);
     for (pair, request, answer, y, x) in [
         (&b, asks(4, 1, 1, 0, 1), full, 10, 19),
         (&b, asks(4, 1, 1, 0, 2), full, 10, 19),

@@ -1,12 +1,12 @@
 //! Fields over made-up pairs, by both measures: every answer, every place of the lent list and of the lent table, and a few places behind them, must
-//! be what the rival's field leaves there.
+//! be what the rival's field leaves there. How often the pairs put the voters' rule to the test is counted.
 
 use crate::archive;
 use crate::group::Group;
 use crate::pictures::{made_up, Chance, Kind, KINDS};
-use crate::question::{FieldRequest, Lent, Pair, MEASURES, NO_MEASURES};
-use crate::reckoning;
-use crate::rival::largest_threshold;
+use crate::question::{FieldAnswer, FieldRequest, Lent, Pair, MEASURES, NO_MEASURES};
+use crate::reckoning::{self, majority};
+use crate::rival::{largest_threshold, Block, Vector};
 
 /// So many places stand behind what is lent.
 pub const BEHIND: usize = 5;
@@ -93,19 +93,90 @@ pub fn few_blocks(chance: &mut Chance, kind: Kind, n: usize, w: usize) -> Pair {
     made_up(chance, kind, width, height, w)
 }
 
-/// Asks both sides and holds answer, list and table against each other.
-fn hold_field(group: &mut Group, seed: u64, pair: &Pair, request: &FieldRequest, lent: &Lent) {
+/// How many accepted fields there were of each kind, by their voters.
+#[derive(Default)]
+struct Voters {
+    /// No block votes.
+    none: u64,
+    /// Some do, some do not.
+    some: u64,
+    all: u64,
+    /// A vote of all blocks would give another vector.
+    outvoted: u64,
+    /// The reading is one of several vectors that as many voters have.
+    tied: u64,
+}
+
+impl Voters {
+    /// Counts a field: what the rival answered, and its list.
+    fn count(&mut self, pair: &Pair, request: &FieldRequest, answer: &FieldAnswer, list: &[i32]) {
+        if answer.refusal != 0 {
+            return;
+        }
+        let places = reckoning::grid(pair, request.n);
+        let vectors: Vec<Vector> = list[..3 * places.len()]
+            .chunks(3)
+            .map(|entry| (entry[0] as i64, entry[1] as i64))
+            .collect();
+        match answer.voters {
+            0 => self.none += 1,
+            voters if voters == places.len() as i64 => self.all += 1,
+            _ => self.some += 1,
+        }
+        let reading = (answer.dy, answer.dx);
+        self.outvoted += u64::from(answer.votes > 0 && majority(&vectors).0 != reading);
+        let others: Vec<Vector> = places
+            .iter()
+            .zip(vectors)
+            .filter(|&(&(row, column), vector)| {
+                let block = Block::new(pair, request.n, row, column, request.measure);
+                block.votes() && vector != reading
+            })
+            .map(|(_, vector)| vector)
+            .collect();
+        self.tied += u64::from(answer.votes > 0 && majority(&others).1 == answer.votes);
+    }
+
+    /// A line with the numbers. Each must have been met a hundred times, or the pairs would test too little.
+    fn end(self) -> u64 {
+        let met = [self.none, self.some, self.all, self.outvoted, self.tied];
+        let mut group = Group::new(format!(
+            "fields in which no block votes {}, some do {}, all do {}; blank blocks would outvote the voters {}; voters tie {}",
+            self.none, self.some, self.all, self.outvoted, self.tied
+        ));
+        for times in met {
+            group.holds("fields by their voters", times >= 100, &met, &100);
+        }
+        group.end()
+    }
+}
+
+/// Asks both sides and holds answer, list and table against each other; hands back the rival's.
+fn hold_field(
+    group: &mut Group,
+    seed: u64,
+    pair: &Pair,
+    request: &FieldRequest,
+    lent: &Lent,
+) -> (FieldAnswer, Vec<i32>) {
     let (mut here, mut there) = (lent.clone(), lent.clone());
     let answer = archive::field(pair, request, &mut here);
     let wanted = reckoning::field(pair, request, &mut there);
     let inputs = format!("{pair}, {request}, {lent}, seed {seed}");
     group.same(&inputs, answer, wanted);
-    group.same(&inputs, here.list, there.list);
+    group.same(&inputs, &here.list, &there.list);
     group.same(&inputs, here.table, there.table);
+    (wanted, there.list)
 }
 
 /// One search by one measure over all kinds of pairs, every N, and lent memory of all lengths.
-fn by_search(search: u32, name: &str, (measure, by): (u32, &str), rounds: u64) -> u64 {
+fn by_search(
+    search: u32,
+    name: &str,
+    (measure, by): (u32, &str),
+    rounds: u64,
+    voters: &mut Voters,
+) -> u64 {
     let mut group = Group::new(format!("fields, {by}, {name}"));
     for seed in 0..rounds {
         let seed = 80_000 + 2_000 * search as u64 + seed;
@@ -115,7 +186,8 @@ fn by_search(search: u32, name: &str, (measure, by): (u32, &str), rounds: u64) -
         let request = good_request(chance, n, search, measure);
         let pair = few_blocks(chance, kind, n, request.w);
         let lent = lend_for(chance, &pair, &request);
-        hold_field(&mut group, seed, &pair, &request, &lent);
+        let (answer, list) = hold_field(&mut group, seed, &pair, &request, &lent);
+        voters.count(&pair, &request, &answer, &list);
     }
     group.end()
 }
@@ -208,10 +280,11 @@ fn large_frames() -> u64 {
 /// All fields; answers with the number of mismatches.
 pub fn run() -> u64 {
     let mut mismatches = 0;
+    let mut voters = Voters::default();
     for measure in MEASURES {
         for (search, name) in [(1, "full"), (2, "pruned"), (3, "four-step"), (4, "cross")] {
-            mismatches += by_search(search, name, measure, 1500);
+            mismatches += by_search(search, name, measure, 1500, &mut voters);
         }
     }
-    mismatches + spoilt() + edges() + large_frames()
+    mismatches + voters.end() + spoilt() + edges() + large_frames()
 }

@@ -13,7 +13,7 @@
 //! | archive, question | the calls as include/gauge.h declares them; what both sides are asked and answer |
 //! | group, pictures | a group of cases; made-up pairs |
 //! | worked | the worked pairs |
-//! | edges, field_edges, walk_edges, log_edges, longest_logs | the ends of every range, with the expected numbers typed in |
+//! | edges, field_edges, voter_edges, walk_edges, log_edges, longest_logs | the ends of every range, with the expected numbers typed in |
 //! | measuring, searching, fields, calls | made-up pairs, and lists of calls |
 //! | log_calls, made_up_logs | a log through every call; made-up logs, whole and damaged |
 //! | program | the program that prints logs |
@@ -36,6 +36,7 @@ mod question;
 mod reckoning;
 mod rival;
 mod searching;
+mod voter_edges;
 mod walk_edges;
 mod worked;
 
@@ -46,6 +47,7 @@ fn archive_cases() -> u64 {
     worked::run()
         + edges::run()
         + field_edges::run()
+        + voter_edges::run()
         + measuring::run()
         + searching::run()
         + fields::run()

@@ -1,5 +1,5 @@
-//! Made-up pairs from fixed seeds: still, moved by a known vector, noisy, flat, two-valued, gradients, checkerboards, extremes.
-//! Every run makes the same ones.
+//! Made-up pairs from fixed seeds: still, moved by a known vector, noisy, flat, two-valued, gradients, checkerboards, extremes, and papers
+//! with blank patches, or blank altogether. Every run makes the same ones.
 
 use crate::question::Pair;
 use crate::rival::Vector;
@@ -55,9 +55,10 @@ pub enum Kind {
     Gradient,
     Checkerboard,
     Extreme,
+    Patches,
 }
 
-pub const KINDS: [(Kind, &str); 9] = [
+pub const KINDS: [(Kind, &str); 10] = [
     (Kind::Still, "still"),
     (Kind::Moved, "moved"),
     (Kind::MovedOutside, "moved outside the window"),
@@ -67,6 +68,7 @@ pub const KINDS: [(Kind, &str); 9] = [
     (Kind::Gradient, "gradients"),
     (Kind::Checkerboard, "checkerboards"),
     (Kind::Extreme, "extremes"),
+    (Kind::Patches, "blank patches"),
 ];
 
 /// A scene is larger than the frames cut from it by this much on each side.
@@ -166,6 +168,27 @@ fn texture(chance: &mut Chance, width: usize, height: usize) -> Scene {
             })
         }
     }
+}
+
+/// Paper in patches: some have fibres, the others a ground of up to 15 grey levels of contrast, half of them less than the 8 that make a block
+/// vote. Now and then it has no fibres at all, or no patch of 8 or more either.
+fn patches(chance: &mut Chance, width: usize, height: usize) -> Scene {
+    let fibres = rough(chance, width, height);
+    let (high, wide) = (chance.between(3, 24), chance.between(3, 24));
+    let (share, most) = chance.one_of(&[(60, 15), (30, 15), (10, 15), (10, 7), (0, 15), (0, 7)]);
+    let ground = chance.between(0, 240);
+    let contrasts: Vec<Option<i64>> = (0..64)
+        .map(|_| match chance.between(0, 99) {
+            at if at < share => None,
+            _ => Some(chance.between(0, most)),
+        })
+        .collect();
+    Scene::new(width, height, |r, c| {
+        match contrasts[((r / high * 7 + c / wide) % 64) as usize] {
+            None => fibres.at(r, c),
+            Some(most) => ground + fibres.at(r, c) % (most + 1),
+        }
+    })
 }
 
 /// A vector of window w.
@@ -289,5 +312,9 @@ pub fn made_up(chance: &mut Chance, kind: Kind, width: usize, height: usize, w: 
                 height,
             },
         },
+        Kind::Patches => {
+            let vector = vector_inside(chance, w);
+            patches(chance, width, height).pair(vector)
+        }
     }
 }

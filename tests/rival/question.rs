@@ -94,22 +94,23 @@ pub struct Answer {
     pub dropped: i64,
 }
 
-/// "It answers with the reading and, summed over the blocks, counts and dropped"; the reading is a vector "with its votes".
+/// "It answers with the reading and, summed over the blocks, counts and dropped"; "the reading gives votes and voters".
 #[derive(Clone, Copy, PartialEq, Eq, Debug, Default)]
 pub struct FieldAnswer {
     pub refusal: i64,
     pub dy: i64,
     pub dx: i64,
     pub votes: i64,
+    pub voters: i64,
     pub counts: [i64; 5],
     pub dropped: i64,
 }
 
 impl FieldAnswer {
-    /// An accepted answer.
+    /// An accepted answer: the reading with its votes and the voters, and the sums.
     pub fn accepted(
         (dy, dx): (i64, i64),
-        votes: i64,
+        (votes, voters): (i64, i64),
         counts: [i64; 5],
         dropped: i64,
     ) -> FieldAnswer {
@@ -118,6 +119,7 @@ impl FieldAnswer {
             dy,
             dx,
             votes,
+            voters,
             counts,
             dropped,
         }

@@ -52,8 +52,9 @@ fn table_of_sums(pair: &Pair) -> Vec<u32> {
     table
 }
 
-/// "The reading is the vector of most blocks (equals: preference order) with its votes."
-fn majority(vectors: &[Vector]) -> (Vector, i64) {
+/// "The reading is the vector of most blocks (equals: preference order) with its votes"; since "blank patches must not vote", of most
+/// voters. "A field call without a voter reads (0,0), 0".
+pub fn majority(vectors: &[Vector]) -> (Vector, i64) {
     let mut reading = ((0, 0), 0);
     for v in preference_order(16) {
         let votes = vectors.iter().filter(|&&has| has == v).count() as i64;
@@ -66,10 +67,11 @@ fn majority(vectors: &[Vector]) -> (Vector, i64) {
 
 /// The field call behind its refusals: "A field fills a lent list [...], three a grid block: dy, dx, distortion; it answers with
 /// the reading and, summed over the blocks, counts and dropped. [...] Search 2 also fills a lent table [...] Searches 1, 3 and 4
-/// leave that table unchanged. Places past the used part of any lent memory keep what they held."
+/// leave that table unchanged. Places past the used part of any lent memory keep what they held." List, table and sums are of all
+/// blocks, whether they vote or not.
 fn filled(pair: &Pair, request: &FieldRequest, lent: &mut Lent) -> FieldAnswer {
     let mut answer = FieldAnswer::default();
-    let mut vectors = Vec::new();
+    let mut of_voters = Vec::new();
     for (k, (row, column)) in grid(pair, request.n).into_iter().enumerate() {
         let question = Request {
             n: request.n,
@@ -88,13 +90,16 @@ fn filled(pair: &Pair, request: &FieldRequest, lent: &mut Lent) -> FieldAnswer {
             *sum += count;
         }
         answer.dropped += found.dropped;
-        vectors.push((found.dy, found.dx));
+        if Block::new(pair, request.n, row, column, request.measure).votes() {
+            of_voters.push((found.dy, found.dx));
+        }
     }
     if request.search == 2 {
         let table = table_of_sums(pair);
         lent.table[..table.len()].copy_from_slice(&table);
     }
-    ((answer.dy, answer.dx), answer.votes) = majority(&vectors);
+    ((answer.dy, answer.dx), answer.votes) = majority(&of_voters);
+    answer.voters = of_voters.len() as i64;
     answer
 }
 
@@ -182,8 +187,12 @@ pub fn step(
     if refusal != 0 {
         return (refused(refusal), track);
     }
-    // With 33, "list and table are then as after an accepted step".
+    // With 33, "list and table are then as after an accepted step". "52, step only, no block votes, tested after 32 and before 33; list and
+    // table are filled as with 33."
     let answer = filled(pair, request, lent);
+    if answer.voters == 0 {
+        return (refused(52), track);
+    }
     match travelled(track, (answer.dy, answer.dx)) {
         Ok(there) => (answer, there),
         Err(refusal) => (refused(refusal), track),
@@ -214,7 +223,7 @@ pub struct Reckoned {
     pub bests: Vec<(Vector, i64)>,
 }
 
-/// "The travel is the one most grid blocks have (likewise), reversed."
+/// "A travel means the reverse of the most frequent exhaustive best among voters, ties by 01's order."
 pub fn reckoned_step(
     track: Track,
     pair: &Pair,
@@ -228,12 +237,21 @@ pub fn reckoned_step(
     }
     if refusal == 0 {
         let mut bests = Vec::new();
+        let mut of_voters = Vec::new();
         for (row, column) in grid(pair, request.n) {
             let block = Block::new(pair, request.n, row, column, request.measure);
-            bests.push(exhaustive_best(&block, request.w as i64));
+            let best = exhaustive_best(&block, request.w as i64);
+            bests.push(best);
+            if block.votes() {
+                of_voters.push(best.0);
+            }
         }
-        let vectors: Vec<Vector> = bests.iter().map(|&(vector, _)| vector).collect();
-        match travelled(track, majority(&vectors).0) {
+        let there = if of_voters.is_empty() {
+            Err(52)
+        } else {
+            travelled(track, majority(&of_voters).0)
+        };
+        match there {
             Ok(track) => {
                 return Reckoned {
                     refusal: 0,

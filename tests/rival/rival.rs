@@ -108,6 +108,18 @@ impl<'a> Block<'a> {
         }
     }
 
+    /// "A block votes exactly if its largest newer pel exceeds its smallest by 8 or more."
+    pub fn votes(&self) -> bool {
+        let mut pels = Vec::new();
+        for r in self.y..self.y + self.n {
+            for c in self.x..self.x + self.n {
+                pels.push(self.newer_pel(r, c));
+            }
+        }
+        pels.sort_unstable();
+        pels[pels.len() - 1] >= pels[0] + 8
+    }
+
     /// All candidates of window w, in preference order.
     pub fn candidates(&self, w: i64) -> Vec<Vector> {
         let mut all = preference_order(w);

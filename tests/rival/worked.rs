@@ -212,37 +212,57 @@ fn lent(list_length: usize, table_length: usize) -> Lent {
     }
 }
 
-/// The fields of B and C: "(0,1), 0; full 2; pruned 0,0,2,2,1, dropped 1" and "four still blocks, full 4 each; pruned sums
-/// 0,0,16,16,16". The list and the table are lent longer than they need be.
-fn fields_of_b_and_c(group: &mut Group) {
-    let (b, c) = (frames_of_b(), flat(8, 8, 7, 7));
+/// The fields of A to D: "(0,0), 32; pruned 0,0,1,1,1", "(0,1), 0; full 2; pruned 0,0,2,2,1, dropped 1", "four still blocks, full 4 each;
+/// pruned sums 0,0,16,16,16" and "distances 0 at 4 and 2, distortion 160". "Worked pairs A and C now have no voter": they read (0,0), 0 and
+/// 0, and a step of them is 52, with list and table filled and the old track. The list and the table are lent longer than they need be.
+fn fields_of_a_to_d(group: &mut Group) {
+    let (a, b) = (flat(4, 4, 12, 10), frames_of_b());
+    let (c, d) = (flat(8, 8, 7, 7), frames_of_d());
     let still = [0, 0, 0].repeat(4);
-    let of_b = |search, counts, dropped| {
-        let wanted = FieldAnswer::accepted((0, 1), 1, counts, dropped);
-        (&b, search, vec![0, 1, 0], wanted)
-    };
-    let of_c = |search, counts| {
-        let wanted = FieldAnswer::accepted((0, 0), 4, counts, 0);
-        (&c, search, still.clone(), wanted)
-    };
-    for (pair, search, list, wanted) in [
-        of_b(1, [0, 0, 0, 0, 2], 0),
-        of_b(2, [0, 0, 2, 2, 1], 1),
-        of_c(1, [0, 0, 0, 0, 16]),
-        of_c(2, [0, 0, 16, 16, 16]),
+    for (pair, search, list, vector, voters, counts, dropped) in [
+        (&a, 1, &[0, 0, 32][..], (0, 0), 0, [0, 0, 0, 0, 1], 0),
+        (&a, 2, &[0, 0, 32], (0, 0), 0, [0, 0, 1, 1, 1], 0),
+        (&b, 1, &[0, 1, 0], (0, 1), 1, [0, 0, 0, 0, 2], 0),
+        (&b, 2, &[0, 1, 0], (0, 1), 1, [0, 0, 2, 2, 1], 1),
+        (&c, 1, &still, (0, 0), 0, [0, 0, 0, 0, 16], 0),
+        (&c, 2, &still, (0, 0), 0, [0, 0, 16, 16, 16], 0),
+        (&d, 1, &[0, 0, 160], (0, 0), 1, [0, 0, 0, 0, 1], 0),
+        (&d, 2, &[0, 0, 160], (0, 0), 1, [0, 0, 1, 1, 1], 0),
     ] {
         let request = field_of_4(search);
         let inputs = format!("field of {pair}, {request}");
+        let wanted = FieldAnswer::accepted(vector, (voters, voters), counts, dropped);
         let (mut here, mut there) = (lent(14, 100), lent(14, 100));
-        group.same(&inputs, archive::field(pair, &request, &mut here), wanted);
-        group.same(
-            &inputs,
-            reckoning::field(pair, &request, &mut there),
-            wanted,
-        );
-        let list = [&list[..], &vec![5; 14 - list.len()]].concat();
+        let answer = archive::field(pair, &request, &mut here);
+        let own = reckoning::field(pair, &request, &mut there);
+        group.same(&inputs, (answer, own), (wanted, wanted));
+        let list = [list, &vec![5; 14 - list.len()]].concat();
         group.same(&inputs, (&here.list, &there.list), (&list, &list));
-        group.same(&inputs, here.table, there.table);
+        group.same(&inputs, &here.table, &there.table);
+
+        let inputs = format!("step of {pair}, {request}");
+        let track = |y, x, steps| Track {
+            homed: true,
+            y,
+            x,
+            steps,
+        };
+        let no_voter = FieldAnswer {
+            refusal: 52,
+            ..FieldAnswer::default()
+        };
+        let wanted = match voters {
+            0 => (no_voter, track(10, 20, 3)),
+            _ => (wanted, track(10, 20 - vector.1 as i32, 4)),
+        };
+        let mut after = lent(14, 100);
+        let stepped = archive::step(track(10, 20, 3), pair, &request, &mut after);
+        let own = reckoning::step(track(10, 20, 3), pair, &request, &mut lent(14, 100));
+        group.same(&inputs, (stepped, own), (wanted, wanted));
+        group.same(&inputs, after, here);
+        let reckoned = reckoning::reckoned_step(track(10, 20, 3), pair, &request, 14, 100);
+        let own = (reckoned.refusal, reckoned.track);
+        group.same(&inputs, own, (wanted.0.refusal, wanted.1));
     }
 }
 
@@ -489,7 +509,7 @@ pub fn run() -> u64 {
     pair_c(&mut group);
     pair_d(&mut group);
     pairs_e_and_f(&mut group);
-    fields_of_b_and_c(&mut group);
+    fields_of_a_to_d(&mut group);
     pairs_g_and_h(&mut group);
     logs_of_b_c_and_i(&mut group);
     pair_j(&mut group);
