@@ -4,7 +4,8 @@
  * one search that measures every candidate to its last row, as the one by psadbw does, and one that looks after every fourth row whether the
  * candidate can still win. All take turns, plain C, by far the slowest, every fourth time; the best of the turns counts, in processor time.
  * Prints speeds as multiples of plain C's, by absolute, in both tables: the larger, the faster. By each measure the C searches, search 1 and search 2
- * must agree on every block. With the word `check` it looks at that alone, in small pictures, and prints no speed.
+ * must agree on every block, and each field's reading must be what C makes of its list. With the word `check` it looks at that alone, in small
+ * pictures, and prints no speed.
  *
  * Paper is made here: smoothed noise with fibres. The newer picture is the older one moved by a known vector, and each has sensor noise of its own:
  * noise of 2 grey levels is noise whose standard deviation is 2. Noise raises the least distortion, so search 2's coarse tests drop fewer candidates,
@@ -264,6 +265,44 @@ static bool agree(int r, int other)
     return memcmp(list[r], list[other], (size_t)((width / N) * (height / N)) * sizeof list[r][0]) == 0;
 }
 
+/* Whether the largest newer pel of a block exceeds its smallest by 8 or more. */
+static bool is_voter(int y, int x)
+{
+    int least = 255, most = 0;
+    for (int i = 0; i < N; i++)
+        for (int j = 0; j < N; j++) {
+            int pel = newer[(y + i) * width + x + j];
+            least = pel < least ? pel : least;
+            most = pel > most ? pel : most;
+        }
+    return most - least >= 8;
+}
+
+/* Whether a field's reading is the vector that most voters of its list have, equals by the order of vectors, with its votes and the voters. */
+static bool reads_its_list(int r)
+{
+    static uint32_t having[2 * W + 1][2 * W + 1];
+    memset(having, 0, sizeof having);
+    struct best reading = {0, 0, 0};
+    uint32_t votes = 0, voters = 0;
+    int k = 0;
+    for (int y = 0; y + N <= height; y += N)
+        for (int x = 0; x + N <= width; x += N, k++)
+            if (is_voter(y, x)) {
+                voters++;
+                having[list[r][k].dy + W][list[r][k].dx + W]++;
+            }
+    for (int dy = -W; dy <= W; dy++)
+        for (int dx = -W; dx <= W; dx++) {
+            uint32_t these = having[dy + W][dx + W];
+            if (these > votes || (these > 0 && these == votes && before(dy, dx, &reading))) {
+                reading = (struct best){dy, dx, 0};
+                votes = these;
+            }
+        }
+    return answer[r].dy == reading.dy && answer[r].dx == reading.dx && answer[r].votes == votes && answer[r].voters == voters;
+}
+
 /* The lines of the second table, until the first is done. */
 static struct {
     const char *name;
@@ -285,11 +324,16 @@ static int pair(const char *name, const int *sheet, struct noise n, int dy, int 
             if (turn == 0 || taken < seconds[r])
                 seconds[r] = taken;
         }
-    for (int r = FULL; r < RUNS; r++)
+    for (int r = FULL; r < RUNS; r++) {
         if (answer[r].refusal != 0) {
             printf("%s: a field is refused by %u\n", name, (unsigned)answer[r].refusal);
             return 1;
         }
+        if (!reads_its_list(r)) {
+            printf("%s: the reading is not that of the voters\n", name);
+            return 1;
+        }
+    }
     if (!agree(SSE2, PLAIN) || !agree(SINGLE, PLAIN) || !agree(FULL, PLAIN) || !agree(PRUNED, PLAIN)) {
         printf("%s: the searches differ\n", name);
         return 1;
