@@ -2,8 +2,8 @@
  *
  * travel OLDER.pgm NEWER.pgm reads a pair of grey pictures (binary PGM, 255 the lightest). It ends with status 0 where the travel can be trusted,
  * 1 where it cannot, 2 where the words or pictures will not do. With no words it makes its own pictures: a track is homed and stepped
- * through travelling paper that travels beyond the search window at last, and through blank pictures; then the first pair is read by each of the
- * four searches, and by pruned once more with squares for its measure. */
+ * through travelling paper that travels beyond the search window at last, through paper with a blank half, and through blank pictures; then the first
+ * pair is read by each of the four searches, and by pruned once more with squares for its measure. */
 #include <ctype.h>
 #include <stdio.h>
 #include <stdlib.h>
@@ -29,17 +29,14 @@ static gauge_field_answer field(uint32_t search, size_t w, uint32_t measure)
                        sizeof table / sizeof *table);
 }
 
-/* Less than 8 grey levels from the darkest pel to the lightest. */
+/* Whether no block of a picture would vote: a field of the picture with itself says how many do. */
 static bool blank(const uint8_t *picture)
 {
-    uint8_t least = 255, most = 0;
-    for (size_t i = 0; i < width * height; i++) {
-        least = picture[i] < least ? picture[i] : least;
-        most = picture[i] > most ? picture[i] : most;
-    }
-    return most - least < 8;
+    gauge_request request = {width, height, N, 1, 0, 0, ABSOLUTE};
+    return gauge_field(picture, width * height, picture, width * height, request, list, sizeof list / sizeof *list, table, 0).voters == 0;
 }
 
+/* The votes in per cent of all blocks, voters or not. */
 static unsigned share(gauge_field_answer f)
 {
     return (unsigned)(100 * (size_t)f.votes / ((width / N) * (height / N)));
@@ -48,7 +45,7 @@ static unsigned share(gauge_field_answer f)
 /* Why a reading is not to be trusted, or null. */
 static const char *doubt(gauge_field_answer f)
 {
-    if (blank(older) || blank(newer))
+    if (f.voters == 0 || blank(older))
         return "a picture is blank, so no travel can be seen";
     if (share(f) < 25)
         return "less than a quarter of the blocks agree";
@@ -146,20 +143,37 @@ static void next_picture(int down, int right)
     paper_photograph(newer, down, right);
 }
 
-/* A step is taken over only where it can be trusted: the old track is still at hand. */
+static gauge_track homed(gauge_track track, int32_t y, int32_t x)
+{
+    track = gauge_home(track, y, x).track;
+    printf("homed at (%d,%d)\n", track.y, track.x);
+    return track;
+}
+
+/* A step is taken over only where it can be trusted: the old track is still at hand. A picture in which no block votes is refused by 52. */
 static int step(gauge_track *track)
 {
     gauge_request request = {width, height, N, 2, W, 0, ABSOLUTE};
     gauge_stepped s = gauge_step(*track, older, width * height, newer, width * height, request, list, sizeof list / sizeof *list, table,
                                  sizeof table / sizeof *table);
-    if (s.answer.refusal != GAUGE_ACCEPTED)
-        return refused(s.answer.refusal);
-    if (report(s.answer)) {
+    if (s.answer.refusal != GAUGE_ACCEPTED) {
+        int status = refused(s.answer.refusal);
+        if (s.answer.refusal != GAUGE_NO_VOTER)
+            return status;
+    } else if (report(s.answer)) {
         *track = s.track;
         printf("    it stands at (%d,%d)\n", track->y, track->x);
-    } else
-        printf("    the track is left at (%d,%d): home it again\n", track->y, track->x);
+        return 0;
+    }
+    printf("    the track is left at (%d,%d): home it again\n", track->y, track->x);
     return 0;
+}
+
+/* White in place of the paper. Its blocks have no vote. */
+static void cover_left_half(uint8_t *picture)
+{
+    for (size_t r = 0; r < height; r++)
+        memset(picture + r * width, 255, width / 2);
 }
 
 static void by_each_search(void)
@@ -191,14 +205,20 @@ int main(int argc, char **argv)
         return 2;
     }
     static const int lies[][2] = {{0, 0}, {5, -3}, {5, 1}, {-9, 0}, {-9, 0}, {8, 0}};
-    gauge_track track = gauge_home(gauge_track_new(), 100, 200).track;
-    printf("homed at (%d,%d)\n", track.y, track.x);
+    gauge_track track = homed(gauge_track_new(), 100, 200);
     paper_photograph(newer, lies[0][0], lies[0][1]);
     for (size_t i = 1; i < sizeof lies / sizeof *lies; i++) {
         next_picture(lies[i][0], lies[i][1]);
         if (step(&track))
             return 1;
     }
+    track = homed(track, 300, 400);
+    paper_photograph(older, 0, 0);
+    paper_photograph(newer, 5, -3);
+    cover_left_half(older);
+    cover_left_half(newer);
+    if (step(&track))
+        return 1;
     memset(older, 255, sizeof older);
     memset(newer, 255, sizeof newer);
     if (step(&track))
