@@ -1,7 +1,8 @@
 -- Demand 3, whole: "one claim about the whole list of calls". To be read from top to bottom beside docs/REFERENCE.md, "Field, reading, track",
--- "Demand 3"; in quotation marks stand 01's own words, with 02's where it changes them. proofs/Promise.antt has the theorem, promise : (calls : List Call) → Promise calls.
+-- "Demand 3"; in quotation marks stand 01's own words, and 02's where it changes them. proofs/Promise.antt has the theorem,
+-- promise : (calls : List Call) → Promise calls.
 --   Call                     the calls
---   travel                   a pair's travel, by exhaustive bests
+--   travel, votersIn         a pair's travel, by exhaustive bests, and its voters
 --   refusalOf, accept        which refusal applies to a call, and what an accepted one does
 --   reckon, reckoned         the plain reckoning
 --   acceptedCalls, standingOn, trackAt   where the reckoning ends, in one line

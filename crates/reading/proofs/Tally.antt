@@ -53,7 +53,7 @@ module _ (voting : ℕ → Bool) (has : ℕ → Vector) where
     pub tally-more : (v : Vector) (b : Bool) → v ≡ has n → b ≡ voting n → Within 16 v → Tally voting has (n + 1) (voted l v b)
     tally-more v b e f w = record {
       long = length-set l _ _ ∙ t .long;
-      each = λ u h. one-more u h (same? v u) refl ∙ sym (votes-more voting has n u ∙ ap₂ (λ (c : Bool) (k : Vector). votes voting has n u + one (c && same? k u)) (sym f) (sym e));
+      each = λ u h. one-more u h (same? v u) refl ∙ sym (rw (← e, ← f) at (votes-more voting has n u));
     }
       where
         one-more : (u : Vector) → Within 16 u → (s : Bool) → same? v u ≡ s → getD (voted l v b) (code u) 0 ≡ votes voting has n u + one (b && s)

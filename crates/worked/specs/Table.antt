@@ -1,6 +1,7 @@
 -- 01, "Worked pairs": "Marked * belong to the proved set." These, A to I, stand here in one table, with one proof over it. A row has a query of a pair
 -- and the answer that is owed, in 01's words above it; it is right if the definitions that the contracts cite give that answer.
 --   pairA, pairB, pairC, pairD   the frames with their setting, by the absolute measure; E and F have C's, G and H have B's; bySquares: by squares
+--   speckled   frames of one grey but for one pel, for what makes a voter
 --   full, pruned, fourStep, cross   a request for a search of a pair
 --   headOf, logB, logC   a head by search 2 with w 1; the logs of B and C
 --   heldList, heldTable, heldBuffer   what lent memory held
@@ -64,6 +65,10 @@ pairC = pairOf (replicate 64 7) (replicate 64 7) (setting 8 8 4 1)
 -- D* "4×4, newer alternating 0 and 20 along and down, older all 10"
 unfoldable pub pairD : Pair
 pairD = pairOf (replicate 16 10) (twice (0 ∷ 20 ∷ 0 ∷ 20 ∷ 20 ∷ 0 ∷ 20 ∷ 0 ∷ [])) (setting 4 4 4 1)
+
+-- 4×4, all 10 but for the newer one's first pel
+abbrev pub speckled : ℕ → Pair
+speckled first = pairOf (replicate 16 10) (first ∷ replicate 15 10) (setting 4 4 4 1)
 
 -- the same frames, measured by squares (02, request 1)
 abbrev pub bySquares : Pair → Pair
@@ -333,8 +338,8 @@ table =
     ∷ (homeAndStep (pos 10) (pos 20) stepA gives blankStepped (pos 10) (pos 20) listA tableA)
     ∷ (homeAndStep (pos 10) (pos 20) stepC gives blankStepped (pos 10) (pos 20) listC tableC)
     -- a block votes from 8 on
-    ∷ (everyBlock (pairOf (replicate 16 10) (17 ∷ replicate 15 10) (setting 4 4 4 1)) (full 16) (heldList 3) [] gives fills (readsBlank (onlyAtOne 1) 0) (triple origin 7) [])
-    ∷ (everyBlock (pairOf (replicate 16 10) (18 ∷ replicate 15 10) (setting 4 4 4 1)) (full 16) (heldList 3) [] gives fills (reads origin 1 1 (onlyAtOne 1) 0) (triple origin 8) [])
+    ∷ (everyBlock (speckled 17) (full 16) (heldList 3) [] gives fills (readsBlank (onlyAtOne 1) 0) (triple origin 7) [])
+    ∷ (everyBlock (speckled 18) (full 16) (heldList 3) [] gives fills (reads origin 1 1 (onlyAtOne 1) 0) (triple origin 8) [])
     -- I* "empty log: 13 at 0": the list as it was; the line "refused 13 at 0"
     ∷ (reading [] (heldList 2) gives read (readResult (refusedRead 13 0) (heldList 2)))
     ∷ (walking [] gives commands (Cmd.Refused 13 0 ∷ []))
