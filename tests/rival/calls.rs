@@ -239,6 +239,7 @@ fn from_any() -> u64 {
 /// Steps of the other searches, which stand in no list of calls, from a homed track.
 fn other_searches() -> u64 {
     let mut group = Group::new("steps of searches 1, 3 and 4");
+    let mut no_voter = 0;
     for seed in 220_000..221_500 {
         let chance = &mut Chance::new(seed);
         let (kind, _) = KINDS[seed as usize % KINDS.len()];
@@ -256,7 +257,9 @@ fn other_searches() -> u64 {
         let inputs = format!("{track:?}, {pair}, {request}, {lent}, seed {seed}");
         group.same(&inputs, stepped, wanted);
         group.same(&inputs, here, there);
+        no_voter += u64::from(wanted.0.refusal == 52);
     }
+    group.holds("steps without a voter", no_voter >= 100, &no_voter, &100);
     group.end()
 }
 

@@ -351,6 +351,17 @@ fn whole_fields() -> u64 {
         group.same("the greatest sum", last, 267_386_880);
     }
 
+    // The most voters that there can be, one more than two bytes hold, all with one vector.
+    let mut pair = flat(1024, 1024, 40, 40);
+    pair.newer.iter_mut().step_by(2).for_each(|pel| *pel = 48);
+    pair.older.clone_from(&pair.newer);
+    let all = (65_536, 65_536);
+    let wanted = FieldAnswer::accepted((0, 0), all, [0, 0, 0, 0, 65_536], 0);
+    for measure in [1, 2] {
+        let request = asks(4, 1, 0, 0, measure);
+        field_of(&mut group, &pair, request, wanted, &[0; 3 * 65_536]);
+    }
+
     let pair = flat(8, 8, 7, 7);
     for (search, w, t, count) in [(3, 7, 0, 28), (4, 2, 0, 16), (4, 2, 1, 4)] {
         let wanted = FieldAnswer::accepted((0, 0), (0, 0), [0, 0, 0, 0, count], 0);
