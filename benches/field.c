@@ -1,5 +1,6 @@
 /* Fields of vectors, N 16, by all four searches: full, pruned and cross with w 16, four-step with w 7, T 0; and the pruned search of the same blocks
- * one by one. Beside the gauge run two full searches in C over the same grid: plain scalar code that leaves a candidate as soon as it
+ * one by one. Another field by cross has T 65,280 and so ends at each block's first probe: what it takes of the pruned field's time is one
+ * distortion, the voters' pass and the storing of a block together, and more than the pass alone. Beside the gauge run two full searches in C over the same grid: plain scalar code that leaves a candidate as soon as it
  * cannot win, and SSE2 (psadbw). All these are by absolute; a second table has full and pruned by squares beside SSE2 code for squares (pmaddwd):
  * one search that measures every candidate to its last row, as the one by psadbw does, and one that looks after every fourth row whether the
  * candidate can still win. All take turns, plain C, by far the slowest, every fourth time; the best of the turns counts, in processor time.
@@ -195,7 +196,14 @@ FULL_SEARCH(stopping_search, stopping_distortion)
 
 /* ---- the turns */
 
-enum { PLAIN, SSE2, PMADDWD, STOPPING, SINGLE, FULL, PRUNED, FOUR_STEP, CROSS, FULL_SQUARES, PRUNED_SQUARES, RUNS };
+enum { PLAIN, SSE2, PMADDWD, STOPPING, SINGLE, FULL, PRUNED, FOUR_STEP, CROSS, FIRST_PROBE, FULL_SQUARES, PRUNED_SQUARES, RUNS };
+
+/* Search, w, T and measure of the fields, from FULL on. */
+static const struct {
+    uint32_t search;
+    size_t w;
+    uint32_t t, measure;
+} fields[] = {{1, W, 0, 1}, {2, W, 0, 1}, {3, 7, 0, 1}, {4, W, 0, 1}, {4, W, 65280, 1}, {1, W, 0, 2}, {2, W, 0, 2}};
 
 static bool checking;
 static int width, height;
@@ -243,9 +251,8 @@ static void run(int r)
                 list[r][k++] = searches[r](y, x);
         return;
     }
-    bool squares = r >= FULL_SQUARES;
-    uint32_t search = (uint32_t)(r - (squares ? FULL_SQUARES : FULL) + 1);
-    gauge_request request = {(size_t)width, (size_t)height, N, search, r == FOUR_STEP ? 7 : W, 0, squares ? 2 : 1};
+    int f = r - FULL;
+    gauge_request request = {(size_t)width, (size_t)height, N, fields[f].search, fields[f].w, fields[f].t, fields[f].measure};
     size_t length = (size_t)(width * height);
     answer[r] = gauge_field(older, length, newer, length, request, &list[r][0].dy, 3 * BLOCKS, table, sizeof table / sizeof table[0]);
 }
@@ -346,9 +353,9 @@ static int pair(const char *name, const int *sheet, struct noise n, int dy, int 
         return 0;
     lines[line_count].name = name;
     lines[line_count++].operations = basic_operations(PRUNED_SQUARES);
-    printf("%-27s %6.1f %6.1f %6.1f %6.1f %6.0f %6.0f %8.2f %8.2f %9.4f\n", name, seconds[PLAIN] / seconds[SSE2], seconds[PLAIN] / seconds[FULL],
+    printf("%-27s %6.1f %6.1f %6.1f %6.1f %6.0f %6.0f %8.2f %8.2f %9.4f %9.2f\n", name, seconds[PLAIN] / seconds[SSE2], seconds[PLAIN] / seconds[FULL],
            seconds[PLAIN] / seconds[PRUNED], seconds[PLAIN] / seconds[SINGLE], seconds[PLAIN] / seconds[FOUR_STEP], seconds[PLAIN] / seconds[CROSS],
-           seconds[SSE2] / seconds[FULL], seconds[FULL] / seconds[PRUNED], basic_operations(PRUNED));
+           seconds[SSE2] / seconds[FULL], seconds[FULL] / seconds[PRUNED], basic_operations(PRUNED), 100 * seconds[FIRST_PROBE] / seconds[PRUNED]);
     return 0;
 }
 
@@ -378,8 +385,8 @@ static int papers(int w, int h, int turns)
     width = w;
     height = h;
     if (!checking) {
-        printf("\n%4d x %-4d                 psadbw      1      2  2 one      3      4     1 to     2 to     basic\n", width, height);
-        printf("                                 C   full pruned by one 4-step  cross   psadbw        1       ops\n");
+        printf("\n%4d x %-4d                 psadbw      1      2  2 one      3      4     1 to     2 to     basic   1 probe\n", width, height);
+        printf("                                 C   full pruned by one 4-step  cross   psadbw        1       ops   to 2, %%\n");
     }
     if (pair("moved fibres (3,-4)", fibres, EVEN_2, 3, -4, width, turns) || pair("moved fibres (9,-11)", fibres, EVEN_2, 9, -11, width, turns) ||
         pair("still fibres", fibres, EVEN_2, 0, 0, width, turns) || pair("tracing paper (3,-4)", tracing, EVEN_2, 3, -4, width, turns) ||

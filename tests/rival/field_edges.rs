@@ -11,13 +11,13 @@ use crate::worked::{flat, frames_of_b};
 
 /// What list and table hold before a call.
 const NUMBER: i32 = -77_777_777;
-const SUM: u32 = 3_141_592_653;
+pub const SUM: u32 = 3_141_592_653;
 
 /// The ends of the track's range.
-const END: i32 = 1_000_000;
+pub const END: i32 = 1_000_000;
 
 /// Lent memory of these lengths.
-fn lent(list_length: usize, table_length: usize) -> Lent {
+pub fn lent(list_length: usize, table_length: usize) -> Lent {
     Lent {
         list: vec![NUMBER; list_length + BEHIND],
         list_length,
@@ -27,7 +27,7 @@ fn lent(list_length: usize, table_length: usize) -> Lent {
 }
 
 /// What a field of this pair needs of list and table.
-fn needed(pair: &Pair, n: usize) -> (usize, usize) {
+pub fn needed(pair: &Pair, n: usize) -> (usize, usize) {
     let blocks = (pair.height / n) * (pair.width / n);
     (3 * blocks, (pair.width + 1) * (pair.height + 1))
 }
@@ -42,12 +42,12 @@ fn asks(n: usize, search: u32, w: usize, t: u32, measure: u32) -> FieldRequest {
     }
 }
 
-fn stands(homed: bool, y: i32, x: i32, steps: u32) -> Track {
+pub fn stands(homed: bool, y: i32, x: i32, steps: u32) -> Track {
     Track { homed, y, x, steps }
 }
 
 /// A refused answer.
-fn refused(refusal: i64) -> FieldAnswer {
+pub fn refused(refusal: i64) -> FieldAnswer {
     FieldAnswer {
         refusal,
         ..FieldAnswer::default()

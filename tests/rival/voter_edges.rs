@@ -3,20 +3,13 @@
 //! N 4, 8 and 16 and both measures, by all four searches or by those that find the exhaustive best.
 
 use crate::archive;
-use crate::fields::BEHIND;
+use crate::field_edges::{lent, needed, refused, stands, END, SUM};
 use crate::group::Group;
 use crate::pictures::Chance;
-use crate::question::{FieldAnswer, FieldRequest, Lent, Pair, Track};
+use crate::question::{FieldRequest, Lent, Pair};
 use crate::reckoning::{self, NEW};
 use crate::rival::Vector;
 use crate::worked::flat;
-
-/// What list and table hold before a call.
-const NUMBER: i32 = -77_777_777;
-const SUM: u32 = 3_141_592_653;
-
-/// The ends of the track's range.
-const END: i32 = 1_000_000;
 
 /// Every N, search and measure; w is 2, with four-step 7.
 fn all_requests() -> Vec<FieldRequest> {
@@ -45,15 +38,9 @@ fn exhaustive_requests() -> Vec<FieldRequest> {
 }
 
 /// Lent memory for any of the pairs here.
-fn lent(pair: &Pair, n: usize) -> Lent {
-    let list_length = 3 * (pair.height / n) * (pair.width / n) + 2;
-    let table_length = (pair.width + 1) * (pair.height + 1) + 2;
-    Lent {
-        list: vec![NUMBER; list_length + BEHIND],
-        list_length,
-        table: vec![SUM; table_length + BEHIND],
-        table_length,
-    }
+fn room(pair: &Pair, n: usize) -> Lent {
+    let (list, table) = needed(pair, n);
+    lent(list + 2, table + 2)
 }
 
 /// The vector that a list has for grid block k.
@@ -69,7 +56,7 @@ fn four_blocks(n: usize, grey: u8) -> Pair {
 /// A field of which no block votes but these, all with one vector. Both sides must read so; list, table and sums are the rival's.
 fn only_vote(group: &mut Group, what: &str, pair: &Pair, request: &FieldRequest, voters: &[usize]) {
     let inputs = format!("{what}, {pair}, {request}");
-    let (mut here, mut there) = (lent(pair, request.n), lent(pair, request.n));
+    let (mut here, mut there) = (room(pair, request.n), room(pair, request.n));
     let answer = archive::field(pair, request, &mut here);
     let own = reckoning::field(pair, request, &mut there);
     group.same(&inputs, answer, own);
@@ -82,7 +69,7 @@ fn only_vote(group: &mut Group, what: &str, pair: &Pair, request: &FieldRequest,
 
     // A step goes by the same reading, or is refused by 52.
     let track = stands(true, 100, 200, 5);
-    let mut lent = lent(pair, request.n);
+    let mut lent = room(pair, request.n);
     let (stepped, after) = archive::step(track, pair, request, &mut lent);
     if voters.is_empty() {
         group.same(&inputs, (stepped, after), (refused(52), track));
@@ -91,17 +78,6 @@ fn only_vote(group: &mut Group, what: &str, pair: &Pair, request: &FieldRequest,
         group.same(&inputs, (stepped, after), (own, stands(true, y, x, 6)));
     }
     group.same(&inputs, &lent, &here);
-}
-
-fn stands(homed: bool, y: i32, x: i32, steps: u32) -> Track {
-    Track { homed, y, x, steps }
-}
-
-fn refused(refusal: i64) -> FieldAnswer {
-    FieldAnswer {
-        refusal,
-        ..FieldAnswer::default()
-    }
 }
 
 /// One pel decides: it stands in a corner, at a border or inside of one of four blocks, 7 or 8 lighter or darker than all others. In the
@@ -265,7 +241,7 @@ fn few_voters() -> u64 {
             let blocks: Vec<(usize, Vector)> = places.zip(vectors.iter().copied()).collect();
             let pair = planted(chance, request.n, 7, 5, &blocks);
             let inputs = format!("{blocks:?}, {pair}, {request}");
-            let (mut here, mut there) = (lent(&pair, request.n), lent(&pair, request.n));
+            let (mut here, mut there) = (room(&pair, request.n), room(&pair, request.n));
             let answer = archive::field(&pair, &request, &mut here);
             let own = reckoning::field(&pair, &request, &mut there);
             group.same(&inputs, answer, own);
@@ -299,7 +275,7 @@ fn no_voter() -> u64 {
             pair.older[place] = 90 + (c * c % 11 % 8) as u8;
             pair.newer[place] = 90 + ((c + 1) * (c + 1) % 11 % 8) as u8;
         }
-        let mut filled = lent(&pair, n);
+        let mut filled = room(&pair, n);
         let answer = archive::field(&pair, &request, &mut filled);
         let inputs = format!("{pair}, {request}");
         let read = (
@@ -335,7 +311,7 @@ fn no_voter() -> u64 {
             (NEW, 31),
             (stands(false, 0, -END, 1_000_000), 31),
         ] {
-            let before = lent(&pair, n);
+            let before = room(&pair, n);
             let kept = if refusal == 52 { &filled } else { &before };
             let (mut here, mut there) = (before.clone(), before.clone());
             let stepped = archive::step(track, &pair, &request, &mut here);
