@@ -2,7 +2,7 @@
 -- and the reading is the vector that most voters have as exhaustive best.
 --   Exact                        at each place where a block may stand, the search answers so: full-exact, pruned-exact
 --   exact-at                     at grid block k
---   exact-entries, exact-reading the list and the reading
+--   exact-entries                the list; exact-reading, exact-votes: the reading
 use Prim.Native.Nat.{ℕ, _+_, _≤_, _<_}
 use mathlib.Core.Path.{_≡_, refl, ap, ap₂, _∙_}
 use mathlib.Core.List.{[], _∷_}
@@ -23,8 +23,8 @@ use Rattle.pruned.proofs.Blocks.{block-size-power}
 use Rattle.pruned.proofs.Laws.{pruned-distortion, pruned-is-best}
 use Rattle.block.specs.Block.{searchBy, searched-full, searched-pruned}
 use Rattle.voter.specs.Voter.{voting}
-use Rattle.reading.specs.Reading.{majority}
-use Rattle.reading.proofs.Majority.{majority-ext}
+use Rattle.reading.specs.Reading.{votes, majority}
+use Rattle.reading.proofs.Majority.{votes-ext, majority-ext}
 use Rattle.field_block.specs.Blocks.{searchAt, vectorOf}
 use Rattle.field.specs.Field.{entriesOf}
 
@@ -62,6 +62,9 @@ module _ (p : Pair) (q : Request) (fits : Fitting (p .setting)) (exact : Exact p
 
   pub exact-reading : majority (voting p) (vectorOf p q) (blocks (p .setting)) ≡ majority (voting p) bestAt (blocks (p .setting))
   exact-reading = majority-ext _ _ _ (blocks (p .setting)) (λ k h. exact-at k h .0)
+
+  pub exact-votes : (v : Vector) → votes (voting p) (vectorOf p q) (blocks (p .setting)) v ≡ votes (voting p) bestAt (blocks (p .setting)) v
+  exact-votes = votes-ext _ _ _ (blocks (p .setting)) (λ k h. exact-at k h .0)
 
   pub exact-entries : entriesOf (searchAt p q) (blocks (p .setting)) ≡ concatTo (λ k. bestAt k .dy ∷ bestAt k .dx ∷ pos (leastAt k) ∷ []) (blocks (p .setting))
   unfolding entriesOf

@@ -26,9 +26,9 @@ use Rattle.block.specs.Block.{search-fine, block-accepted, searched-pruned}
 use Rattle.field_block.specs.Blocks.{searchAt, vectorOf}
 use Rattle.field.specs.Field.{entriesOf, droppedOver, countOver}
 use Rattle.field.proofs.Places.{entry-at}
-use Rattle.field.proofs.Bests.{Exact, pruned-exact, pruned-exact-at, exact-at, exact-reading, exact-entries}
+use Rattle.field.proofs.Bests.{Exact, pruned-exact, pruned-exact-at, exact-at, exact-reading, exact-votes, exact-entries}
 use Rattle.voter.specs.Voter.{voting}
-use Rattle.reading.specs.Reading.{majority}
+use Rattle.reading.specs.Reading.{votes, majority}
 use Rattle.promise.specs.Demand.{bestOf, bestEntries, EachBlock, EachPlace, EachGridPlace, overGrid, reported, howMany, isDropped, isMeasured, blockOn}
 use Rattle.promise.proofs.Chains.{requestChain, Fine, fine-paired, request-any}
 use Rattle.promise.proofs.Counting.{dropped-many, measured-many, dropped-worse}
@@ -144,6 +144,10 @@ module _ (p : Pair) (w : ℕ) (f : Fine p w) where
     pub reading-best : majority (voting p) (vectorOf p (requestOf (p .setting) 2 w t)) (blocks (p .setting))
         ≡ majority (voting p) (bestOf p w) (blocks (p .setting))
     reading-best = exact-reading p (requestOf (p .setting) 2 w t) fits (exact t)
+
+    pub votes-best : (v : Vector) → votes (voting p) (vectorOf p (requestOf (p .setting) 2 w t)) (blocks (p .setting)) v
+        ≡ votes (voting p) (bestOf p w) (blocks (p .setting)) v
+    votes-best = exact-votes p (requestOf (p .setting) 2 w t) fits (exact t)
 
     pub entries-best : entriesOf founds (blocks (p .setting)) ≡ bestEntries p w
     unfolding bestEntries

@@ -17,7 +17,7 @@ use Rattle.frame.specs.Grid.{blocks}
 use Rattle.refusals.specs.declared.Request.{Request}
 use Rattle.refusals.specs.Refusals.{first-refusal-zero, requestOf}
 use Rattle.voter.specs.Voter.{voting}
-use Rattle.reading.specs.Reading.{majority}
+use Rattle.reading.specs.Reading.{votes, majority}
 use Rattle.field.specs.declared.FieldAnswer.{FieldAnswer}
 use Rattle.field.specs.Field.{fieldAnswer, FieldResult, filledList, field-accepted}
 use Rattle.track.specs.declared.Track.{Track}
@@ -27,7 +27,7 @@ use Rattle.promise.specs.Demand.{Call, bestOf, travel, votersIn, refusal
 use Rattle.promise.specs.Demand.Call.{home, step}
 use Rattle.promise.specs.Demand.Result.{stepping}
 use Rattle.promise.proofs.Chains.{chain-late, chain-early, fieldChain, Fine, request-fine, field-request}
-use Rattle.promise.proofs.Blocks.{reading-best}
+use Rattle.promise.proofs.Blocks.{reading-best, votes-best}
 
 pub record Agrees (t : Track) (c : Call) (r : Result) : Type 0 where
   pub refusal : refusalIn r ≡ refusalOf t c
@@ -47,6 +47,7 @@ record Landing (t : Track) (f : FieldResult) (s : StepResult) (new : Track) (lat
   list : s .list ≡ f .list
   whole : late ≡ 0 → s .stepped .answer ≡ f .answer
 
+-- a step whose field is filled, by the refusal that comes after
 abbrev landsBy : Track → FieldResult → Track → ℕ → StepResult
 landsBy t f new late = stepResult (cond (eqb late 0) (record { track = new; answer = f .answer }) (unmoved late t)) (f .list) (f .table)
 
@@ -114,11 +115,18 @@ module _ (t : Track) (p : Pair) (w threshold : ℕ) (list : List ℤ) (table : L
     unfolding fieldAnswer
     unrefused = ap (λ (a : FieldAnswer). a .refusal) answer-is
 
+    pub votes-is : field .answer .votes ≡ votes (voting p) (bestOf p w) (blocks (p .setting)) (majority (voting p) (bestOf p w) (blocks (p .setting)))
+    unfolding fieldAnswer
+    votes-is =
+        ap (λ (a : FieldAnswer). a .votes) answer-is
+        ∙ votes-best p w field-fine threshold _
+        ∙ ap (votes (voting p) (bestOf p w) (blocks (p .setting))) (reading-best p w field-fine threshold)
+
     pub reading-is : vec (field .answer .dy) (field .answer .dx) ≡ majority (voting p) (bestOf p w) (blocks (p .setting))
     unfolding fieldAnswer
     reading-is = ap (λ (a : FieldAnswer). vec (a .dy) (a .dx)) answer-is ∙ reading-best p w field-fine threshold
 
-    voters-is : field .answer .voters ≡ votersIn p
+    pub voters-is : field .answer .voters ≡ votersIn p
     unfolding fieldAnswer
     voters-is = ap (λ (a : FieldAnswer). a .voters) answer-is
 

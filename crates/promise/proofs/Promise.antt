@@ -17,7 +17,7 @@ use Rattle.frame.specs.Grid.{blocks}
 use Rattle.frame.specs.Candidates.{candidate}
 use Rattle.distortion.specs.Blocks.{distortion}
 use Rattle.voter.specs.Voter.{voting}
-use Rattle.reading.specs.Reading.{majority, Most}
+use Rattle.reading.specs.Reading.{votes, majority, Most}
 use Rattle.field.specs.declared.FieldAnswer.{FieldAnswer}
 use Rattle.refusals.specs.Refusals.{requestOf}
 use Rattle.field_rules.specs.Rules.{listSize}
@@ -26,7 +26,7 @@ use Rattle.field.specs.Field.{fieldAnswer}
 use Rattle.track.specs.declared.Track.{Track}
 use Rattle.track_rules.specs.Rules.{inRange}
 use Rattle.track.specs.Track.{trackNew, homedAt, StepResult}
-use Rattle.promise.specs.Demand.{Call, bestOf, travel, reckon, reckoned, acceptedCalls, standingOn, trackAt, NoHoming, Result, trackIn, answerTo}
+use Rattle.promise.specs.Demand.{Call, bestOf, travel, votersIn, reckon, reckoned, acceptedCalls, standingOn, trackAt, NoHoming, Result, trackIn, answerTo}
 use Rattle.promise.specs.Demand.{run, lastTrack, AtStep, EachStep, EachBlock, EachGridPlace, bestEntries, reported, howMany, isDropped}
 use Rattle.promise.specs.Demand.{isMeasured, overGrid, Promise}
 use Rattle.promise.specs.Demand.Call.{home}
@@ -36,7 +36,7 @@ use Rattle.promise.proofs.Chains.{Fine}
 use Rattle.promise.proofs.Blocks.{Lists, entries-third, pos-le, pos-lt, each-place, best-within, block-result, grid-distortion, grid-no-less}
 use Rattle.promise.proofs.Blocks.{grid-worse, entries-best, sum-dropped, sum-measured, sum-both}
 use Rattle.promise.proofs.Probing.{four-step-runs, cross-runs, four-step-block, cross-block, four-step-over, cross-over}
-use Rattle.promise.proofs.One.{agrees, Taken, at-step, field-fine, answer-is, list-is, reading-is}
+use Rattle.promise.proofs.One.{agrees, Taken, at-step, field-fine, answer-is, list-is, reading-is, votes-is, voters-is}
 use Rattle.promise.proofs.Closed.{closed, stays-nowhere, travelsOf, reckoned-since}
 
 -- ---- an accepted step
@@ -52,6 +52,7 @@ module _ (t : Track) (p : Pair) (w threshold : ℕ) (list : List ℤ) (table : L
   answered = k .answer-same ∙ answer-is t p w threshold list table (k .fine)
 
   travels : (v : Vector) × Most (voting p) (bestOf p w) (blocks (p .setting)) v × (travel p w ≡ turned v) × (answer .dy ≡ v .dy) × (answer .dx ≡ v .dx)
+      × (answer .votes ≡ votes (voting p) (bestOf p w) (blocks (p .setting)) v) × (answer .voters ≡ votersIn p)
   unfolding travel
   travels = (
     majority (voting p) (bestOf p w) (blocks (p .setting)),
@@ -59,6 +60,8 @@ module _ (t : Track) (p : Pair) (w threshold : ℕ) (list : List ℤ) (table : L
     refl,
     ap (λ (a : FieldAnswer). a .dy) (k .answer-same) ∙ ap (λ (v : Vector). v .dy) (reading-is t p w threshold list table (k .fine)),
     ap (λ (a : FieldAnswer). a .dx) (k .answer-same) ∙ ap (λ (v : Vector). v .dx) (reading-is t p w threshold list table (k .fine)),
+    ap (λ (a : FieldAnswer). a .votes) (k .answer-same) ∙ votes-is t p w threshold list table (k .fine),
+    ap (λ (a : FieldAnswer). a .voters) (k .answer-same) ∙ voters-is t p w threshold list table (k .fine),
   )
 
   listed : s .list ≡ bestEntries p w ++ drop (listSize (p .setting)) list

@@ -10,7 +10,7 @@
 --   EachCall, EachStep       of each call, of each accepted step
 --   Promise                  what is promised
 -- From below come: reckonCall, acceptedFrom, runFrom, lastHanded and EachCall, of any list of calls (base: Calls), candidate and distortion (frame,
--- distortion), Best and best (search), voting (voter), voters, majority and Most (reading), turned (order), homedAt and movedTo (track), the steps of search 2
+-- distortion), Best and best (search), voting (voter), voters, votes, majority and Most (reading), turned (order), homedAt and movedTo (track), the steps of search 2
 -- (pruned), and what the contracts of the code cite: searchBlock (block), field (field), trackNew, trackHome and trackStep (track).
 use Prim.Native.Nat.{ℕ, _+_, _*_, _≤_, _<_}
 use mathlib.Core.Path.{_≡_}
@@ -39,7 +39,7 @@ use Rattle.probe.specs.Probe.{isIn}
 use Rattle.pruned.specs.Answer.{pruning}
 use Rattle.block.specs.Block.{searchBlock}
 use Rattle.voter.specs.Voter.{voting}
-use Rattle.reading.specs.Reading.{voters, majority, Most}
+use Rattle.reading.specs.Reading.{voters, votes, majority, Most}
 use Rattle.field_rules.specs.Rules.{listSize, fieldRefusal}
 use Rattle.field.specs.Field.{FieldResult, field}
 use Rattle.track.specs.declared.Track.{Track}
@@ -242,9 +242,10 @@ pub record Promise (calls : List Call) : Type 0 where
   -- and each call was refused exactly when the reckoning refuses it": by the same number, and with the reckoning's track handed back
   pub refusals : EachCall reckon (λ t c r. refusalIn r ≡ refusalOf t c) trackNew calls (run calls)
   pub tracks : EachCall reckon (λ t c r. trackIn r ≡ reckon t c) trackNew calls (run calls)
-  -- the travel is the reverse of the vector that most voters have as exhaustive best, and that vector is the reading
-  pub travels : EachStep calls (λ p w list s. (v : Vector) × Most (voting p) (bestOf p w) (blocks (p .setting)) v × (travel p w ≡ turned v)
-      × (s .stepped .answer .dy ≡ v .dy) × (s .stepped .answer .dx ≡ v .dx))
+  -- the travel is the reverse of the vector that most voters have as exhaustive best, and that vector is the reading, with votes and voters
+  pub travels : EachStep calls (λ p w list s. let a = s .stepped .answer in
+      (v : Vector) × Most (voting p) (bestOf p w) (blocks (p .setting)) v × (travel p w ≡ turned v) × (a .dy ≡ v .dy) × (a .dx ≡ v .dx)
+      × (a .votes ≡ votes (voting p) (bestOf p w) (blocks (p .setting)) v) × (a .voters ≡ votersIn p))
   -- a candidate of least distortion, by preference order: of each block's exhaustive best, on the grid or off it
   pub bests : EachStep calls (λ p w list s. EachPlace p (λ y x. Best p w y x (best p w y x)))
   -- "an accepted step .. lists each block's exhaustive best with that vector's distortion, the reported one"; places past them keep what they held
