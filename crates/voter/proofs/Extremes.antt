@@ -30,12 +30,12 @@ unfolding largestTo
 largest-least f zero k h = omega arith
 largest-least f (suc n) k h = omega (arith, largest-least f n k (λ i l. h i (omega arith)), h n (omega arith))
 
-pub smallest-most : (f : ℕ → ℕ) (n k : ℕ) → k ≤ 255 → ((i : ℕ) → i < n → k ≤ f i) → k ≤ smallestTo f n
+smallest-most : (f : ℕ → ℕ) (n k : ℕ) → k ≤ 255 → ((i : ℕ) → i < n → k ≤ f i) → k ≤ smallestTo f n
 unfolding smallestTo
 smallest-most f zero k s h = s
 smallest-most f (suc n) k s h = omega (arith, smallest-most f n k s (λ i l. h i (omega arith)), h n (omega arith))
 
-pub smallest-small : (f : ℕ → ℕ) (n : ℕ) → smallestTo f n ≤ 255
+smallest-small : (f : ℕ → ℕ) (n : ℕ) → smallestTo f n ≤ 255
 unfolding smallestTo
 smallest-small f zero = omega arith
 smallest-small f (suc n) = omega (arith, smallest-small f n)

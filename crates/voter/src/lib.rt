@@ -8,8 +8,9 @@ ghost use Rattle.frame.specs.Grid.{blocks, blockRow, blockColumn};
 ghost use Rattle.voter.specs.Voter.{isVoter, Framed, Standing};
 use frame::Setting;
 
-// Whether the largest of n rows of n pels exceeds the smallest by 8 or more, in a frame that begins with them. p is the place of the pel at column j
-// and row i. The columns are the outer loop, so that the compiler looks at all of them at once, a row an instruction.
+// Whether the largest of n rows of n pels exceeds the smallest by 8 or more, in a frame that begins with them: column by column, least and most are a
+// column's, low and high those of all before. p is the place of the pel at column j and row i. The compiler looks at all columns at once, a row an
+// instruction.
 fn differs(newer: &[u8], width: usize, n: usize) -> bool
     requires { ⌜ (n * width + n ≤ length (now newer) + width) × (width ≤ 1024) × (n ≤ 64) ⌝ }
     ensures { λ r. ⌜ r ≡ isVoter n (blockAt (now (newer .entry)) width 0 0) ⌝ }
@@ -18,18 +19,26 @@ fn differs(newer: &[u8], width: usize, n: usize) -> bool
     let mut high: u8 = 0;
     let mut j: usize = 0;
     while j < n {
+        let mut least: u8 = 255;
+        let mut most: u8 = 0;
         let mut p = j;
         let mut i: usize = 0;
         while i < n {
             let pel = newer[p];
-            if pel < low {
-                low = pel;
+            if pel < least {
+                least = pel;
             }
-            if high < pel {
-                high = pel;
+            if most < pel {
+                most = pel;
             }
             p += width;
             i += 1;
+        }
+        if least < low {
+            low = least;
+        }
+        if high < most {
+            high = most;
         }
         j += 1;
     }

@@ -1,4 +1,5 @@
--- `differs`: at column j and row i the place is i × width + j, and low and high are the smallest and the largest of the pels before (`Seen`).
+-- `differs`: at column j and row i the place is i × width + j; least and most are the smallest and the largest of the column's pels before, low and
+-- high those of the columns before (`Seen`).
 use mathlib.Core.Logic.{⊎-elim}
 use Prim.Native.Nat.{_+_, _-_, _*_, _≤_, _<_, min, max}
 use mathlib.Core.Path.{_≡_}
@@ -8,19 +9,20 @@ use lib.ListN.{length, getD}
 use denote.Ref.{now}
 use Rattle.base.specs.Index.{row-next, row-fits}
 use Rattle.distortion.specs.Blocks.{blockAt}
-use Rattle.voter.proofs.Walk.{first-block, Seen, seen-first, seen-more, seen-column, seen-last}
+use Rattle.voter.proofs.Walk.{first-block, Seen, seen-first, seen-more, column, Columns, seen-last}
 use Rattle.voter.proofs.differs.Statement.{statement}
 use Rattle.voter.proofs.differs.Tie as tie
 
 abbrev Inv-loop2 : tie.InvT-loop2
-Inv-loop2 newer width n low₀ high₀ j p₀ i₀ low high p i =
-    (p ≡ i * width + j) × (j < n) × (i ≤ n) × Seen n (blockAt newer width 0 0) j i low high
+Inv-loop2 newer width n low high j least₀ most₀ p₀ i₀ least most p i =
+    let b = blockAt newer width 0 0 in
+    (p ≡ i * width + j) × (j < n) × (i ≤ n) × Seen (column n b j) (column n b j) i least most × Columns n b j low high
 
 abbrev μ-loop2 : tie.MeasureT-loop2
-μ-loop2 newer width n low₀ high₀ j p₀ i₀ low high p i = n - i
+μ-loop2 newer width n low high j least₀ most₀ p₀ i₀ least most p i = n - i
 
 abbrev Inv-loop : tie.InvT-loop
-Inv-loop newer width n low₀ high₀ j₀ low high j = (j ≤ n) × Seen n (blockAt newer width 0 0) j 0 low high
+Inv-loop newer width n low₀ high₀ j₀ low high j = (j ≤ n) × Columns n (blockAt newer width 0 0) j low high
 
 abbrev μ-loop : tie.MeasureT-loop
 μ-loop newer width n low₀ high₀ j₀ low high j = n - j
@@ -39,7 +41,7 @@ loop-holds : tie.Need-loop-holds Inv-loop2 μ-loop2 Inv-loop μ-loop
 loop-holds c = (omega arith, seen-first _ _)
 
 loop2-holds : tie.Need-loop2-holds Inv-loop2 μ-loop2 Inv-loop μ-loop
-loop2-holds c = (omega arith, omega arith, omega arith, c .before .loop .inv .1)
+loop2-holds c = (omega arith, omega arith, omega arith, seen-first _ _, c .before .loop .inv .1)
 
 shared-slice-read-pel : tie.Need-shared-slice-read-pel Inv-loop2 μ-loop2 Inv-loop μ-loop
 shared-slice-read-pel c = omega (arith, inside (c .before))
@@ -60,10 +62,11 @@ loop2-again c =
     let a = start (d .before .before) .args in
     let pel = getD (now (a .newer)) (l .p) 0 in
     let byte = d .shared-slice-known .given (l .p) in
-    let low : c .before .if1 .low ≡ min (l .low) pel = ⊎-elim (λ w. omega arith) (λ w. omega arith) (c .before .if1 .came) in
-    let high : c .if2 .high ≡ max (l .high) pel = ⊎-elim (λ w. omega arith) (λ w. omega arith) (c .if2 .came) in
-    let seen = seen-more _ _ _ (l .i) _ _ pel (l .inv .3) (first-block (now (a .newer)) _ _ _ _ (l .inv .0)) (omega arith) in
-    (omega (arith, row-next (l .i) (a .width)), omega arith, omega arith, rw (low, high) seen)
+    let least : c .before .if1 .least ≡ min (l .least) pel = ⊎-elim (λ w. omega arith) (λ w. omega arith) (c .before .if1 .came) in
+    let most : c .if2 .most ≡ max (l .most) pel = ⊎-elim (λ w. omega arith) (λ w. omega arith) (c .if2 .came) in
+    let here = first-block (now (a .newer)) _ _ _ _ (l .inv .0) in
+    let seen = seen-more _ _ (l .i) _ _ pel pel (l .inv .3) here here (omega arith) in
+    (omega (arith, row-next (l .i) (a .width)), omega arith, omega arith, rw (least, most) seen, l .inv .4)
 
 add-j : tie.Need-add-j Inv-loop2 μ-loop2 Inv-loop μ-loop
 add-j c = omega arith
@@ -73,9 +76,14 @@ loop-less c = omega arith
 
 loop-again : tie.Need-loop-again Inv-loop2 μ-loop2 Inv-loop μ-loop
 loop-again c =
-    let l = c .before .loop2 in
-    let e : l .i ≡ start (c .before) .args .n = omega arith in
-    (omega arith, seen-column _ _ _ _ _ (rw e at (l .inv .3)))
+    let d = c .before .before in
+    let l = d .before .loop2 in
+    let e : l .i ≡ start (d .before) .args .n = omega arith in
+    let column = rw e at (l .inv .3) in
+    let o = d .before .before .before .loop in
+    let low : c .before .if3 .low ≡ min (o .low) (l .least) = ⊎-elim (λ w. omega arith) (λ w. omega arith) (c .before .if3 .came) in
+    let high : c .if4 .high ≡ max (o .high) (l .most) = ⊎-elim (λ w. omega arith) (λ w. omega arith) (c .if4 .came) in
+    (omega arith, rw (low, high) (seen-more _ _ _ _ _ _ _ (l .inv .4) (column .low-is) (column .high-is) (column .high-small)))
 
 cast-result : tie.Need-cast-result Inv-loop2 μ-loop2 Inv-loop μ-loop
 cast-result c = omega (arith, c .before .loop .inv .1 .low-small)
