@@ -3,7 +3,7 @@
 --   standing-begins   the block begins inside; standing-inside: its rows lie in what is left
 --   standing-votes    it votes exactly if the block that what is left begins with does
 --   last-size         an N that is neither 16 nor 8 is 4
-use Prim.Native.Nat.{ℕ, _+_, _*_, _≤_}
+use Prim.Native.Nat.{ℕ, _+_, _*_, _%_, _≤_}
 use mathlib.Core.Path.{_≡_, refl, _∙_}
 use mathlib.Core.Bool.{Bool}
 use mathlib.Core.List.{List}
@@ -46,11 +46,12 @@ module _ (newer : List ℕ) (s : Setting) (y x : ℕ) (h : Standing (length newe
   standing-begins = begins newer newer s y x y x itself .0
 
   pub standing-inside : (n : ℕ) → s .n ≡ n
-      → (n * s .width + n ≤ length (partFrom (y * s .width + x) newer) + s .width) × (s .width ≤ 1024) × (n ≤ 64)
+      → (n * s .width + n ≤ length (partFrom (y * s .width + x) newer) + s .width) × (s .width ≤ 1024) × (n ≤ 64) × (n % 2 ≡ 0)
   standing-inside n e =
       let k = block-inside newer newer s y x y x itself in
       let small = size-small (s .n) (h .framed .allowed) in
-      rw (part-to-end, length-drop, ← e) (omega (arith, k .in-newer), k .wide, omega arith)
+      let even = block-size-elim (λ (m : ℕ). m % 2 ≡ 0) refl refl refl (s .n) (h .framed .allowed) in
+      rw (part-to-end, length-drop, ← e) (omega (arith, k .in-newer), k .wide, omega arith, even)
 
   pub standing-votes : (n : ℕ) (r : Bool) → s .n ≡ n → r ≡ isVoter n (blockAt (partFrom (y * s .width + x) newer) (s .width) 0 0)
       → r ≡ isVoter (s .n) (blockAt newer (s .width) y x)

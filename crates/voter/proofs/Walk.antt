@@ -1,7 +1,7 @@
 -- The walk through the block that a frame begins with, column by column: the smallest and the largest so far, of a column's pels and of all columns.
 --   first-block                        where the pels stand
 --   Seen                               the smallest of f and the largest of g, as far as the walk has come
---   seen-first, seen-more, seen-last   before the first, with one more, and after the last column
+--   seen-first, seen-more, seen-two    before the first, with one more and with two; seen-last: after the last column
 use Prim.Native.Nat.{ℕ, _+_, _*_, _≤_, max, min}
 use mathlib.Core.Path.{_≡_, refl}
 use mathlib.Core.List.{List}
@@ -37,6 +37,20 @@ module _ (f g : ℕ → ℕ) where
     low-small = omega (arith, s .low-small);
     high-small = omega (arith, s .high-small);
   }
+
+min-assoc : (a b c : ℕ) → min a (min b c) ≡ min (min a b) c
+min-assoc a b c = omega arith
+
+max-assoc : (a b c : ℕ) → max a (max b c) ≡ max (max a b) c
+max-assoc a b c = omega arith
+
+-- two numbers more, which are held against each other first
+pub seen-two : (f : ℕ → ℕ) (k low high a b : ℕ) → Seen f f k low high → a ≡ f k → b ≡ f (k + 1) → a ≤ 255 → b ≤ 255
+    → Seen f f (k + 2) (min low (min a b)) (max high (max a b))
+seen-two f k low high a b s e h a-small b-small =
+    let t = seen-more f f (k + 1) _ _ b b (seen-more f f k low high a a s e e a-small) h h b-small in
+    let next : k + 1 + 1 ≡ k + 2 = omega arith in
+    rw (min-assoc low a b, max-assoc high a b) (rw next at t)
 
 -- a column's pels, and each column's smallest and largest
 module _ (n : ℕ) (b : Block) where

@@ -1,18 +1,36 @@
 // Voters: whether a block of the newer frame has contrast enough for its vector to count.
 
 ghost use mathlib.Core.Path.{_≡_};
-ghost use Prim.Native.Nat.{_+_, _*_, _≤_, _<_};
+ghost use Prim.Native.Nat.{_+_, _*_, _%_, _≤_, _<_, min, max};
 ghost use lib.ListN.{length};
 ghost use Rattle.distortion.specs.Blocks.{blockAt};
 ghost use Rattle.frame.specs.Grid.{blocks, blockRow, blockColumn};
 ghost use Rattle.voter.specs.Voter.{isVoter, Framed, Standing};
 use frame::Setting;
 
-// Whether the largest of n rows of n pels exceeds the smallest by 8 or more, in a frame that begins with them: column by column, least and most are a
-// column's, low and high those of all before. p is the place of the pel at column j and row i. The compiler looks at all columns at once, a row an
-// instruction.
+fn smaller(a: u8, b: u8) -> u8
+    ensures { λ r. ⌜ r ≡ min a b ⌝ }
+{
+    if b < a {
+        return b;
+    }
+    a
+}
+
+fn larger(a: u8, b: u8) -> u8
+    ensures { λ r. ⌜ r ≡ max a b ⌝ }
+{
+    if a < b {
+        return b;
+    }
+    a
+}
+
+// Whether the largest of n rows of n pels exceeds the smallest by 8 or more, in a frame that begins with them. It goes column by column and down by two
+// rows: p is the place of the pel at column j and row i, least and most are the column's so far, low and high those of the columns before. So the
+// compiler looks at all columns at once, a row an instruction, and where it does not, each pel waits for few others.
 fn differs(newer: &[u8], width: usize, n: usize) -> bool
-    requires { ⌜ (n * width + n ≤ length (now newer) + width) × (width ≤ 1024) × (n ≤ 64) ⌝ }
+    requires { ⌜ (n * width + n ≤ length (now newer) + width) × (width ≤ 1024) × (n ≤ 64) × (n % 2 ≡ 0) ⌝ }
     ensures { λ r. ⌜ r ≡ isVoter n (blockAt (now (newer .entry)) width 0 0) ⌝ }
 {
     let mut low: u8 = 255;
@@ -24,22 +42,15 @@ fn differs(newer: &[u8], width: usize, n: usize) -> bool
         let mut p = j;
         let mut i: usize = 0;
         while i < n {
-            let pel = newer[p];
-            if pel < least {
-                least = pel;
-            }
-            if most < pel {
-                most = pel;
-            }
-            p += width;
-            i += 1;
+            let upper = newer[p];
+            let lower = newer[p + width];
+            least = smaller(least, smaller(upper, lower));
+            most = larger(most, larger(upper, lower));
+            p = p + width + width;
+            i += 2;
         }
-        if least < low {
-            low = least;
-        }
-        if high < most {
-            high = most;
-        }
+        low = smaller(low, least);
+        high = larger(high, most);
         j += 1;
     }
     low as u32 + 8 <= high as u32
