@@ -1,10 +1,10 @@
 -- 01, "Pictures, blocks, vectors": "A pel is one byte. A frame is rows of pels, top row first. Width and height are 4 to 1,024; the lent slice has
--- exactly width × height bytes. Block size N is 4, 8 or 16, at most width and height."
+-- exactly width × height bytes. Block size N is 4, 8 or 16, at most width and height." 02, request 4: "N may be 32".
 --   Setting (src)  width, height, N and the measure (02, request 1)
 --   Pair         an older and a newer frame, with their setting
 --   pel          the pel at a row and a column of a frame
 --   Fitting      a setting at which a block of N pels, whatever N is, fits a frame of at most 1,024 × 1,024
---   largestN     16; largestDistortion: by a measure, 255 × N² or 65,025 × N² of it; countNumber: how many counts a search has, the last at lastCount
+--   largestN     32; largestDistortion: by a measure, 255 × N² or 65,025 × N² of it; countNumber: how many counts a search has, the last at lastCount
 use Prim.Native.Nat.{ℕ, _+_, _-_, _*_, _≤_, _<_}
 use mathlib.Core.List.{List}
 use native.Mathlib.Omega.{arith}
@@ -29,14 +29,14 @@ pel frame width r c = getD frame (r * width + c) 0
 
 -- the largest N, and the largest distortion by a measure
 abbrev pub largestN : ℕ
-largestN = 16
+largestN = 32
 
 abbrev pub largestDistortion : ℕ → ℕ
 largestDistortion measure = largestN * (largestN * measureOf measure .most)
 
--- how many counts a search has, one for each m = 16, 8, 4, 2, 1, and the place of the last, for m = 1
+-- how many counts a search has, one for each m = 32, 16, 8, 4, 2, 1, and the place of the last, for m = 1
 abbrev pub countNumber : ℕ
-countNumber = 5
+countNumber = 6
 
 abbrev pub lastCount : ℕ
 lastCount = countNumber - 1

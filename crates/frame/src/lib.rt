@@ -9,10 +9,10 @@ ghost use Rattle.frame.specs.Candidates.{candidate, olderAt, partAt};
 use signed::Shifted;
 
 // The largest N.
-pub const LARGEST_N: usize = 16;
+pub const LARGEST_N: usize = 32;
 
-// How many counts a search has, one for each m = 16, 8, 4, 2, 1, and the place of the last, for m = 1.
-pub const COUNTS: usize = 5;
+// How many counts a search has, one for each m = 32, 16, 8, 4, 2, 1, and the place of the last, for m = 1.
+pub const COUNTS: usize = 6;
 
 pub const LAST_COUNT: usize = COUNTS - 1;
 

@@ -4,18 +4,20 @@
 --   pairRefusal     1 2 3: what every call with a pair tests first
 --   requestRefusal  1 2 3 4 51 5 6: a pair and a search. 02, request 1: 51 is "tested after 4", and where a call has no search number after 3
 -- A chain is 0 where the call is accepted; `paired` and `requested` say all that follows. The frames come in by their lengths.
-use Prim.Native.Nat.{ℕ, zero, suc, _+_, _*_, _≤_, _<_}
+use Prim.Native.Nat.{ℕ, zero, suc, _+_, _*_, _^_, _≤_, _<_}
 use mathlib.Core.Path.{_≡_, refl}
 use mathlib.Core.Bool.{Bool, true, false, cond, _&&_, _||_}
 use mathlib.Core.Logic.{⊎-elim}
+use native.Mathlib.Nat.{le-trans}
 use native.Mathlib.Omega.{arith}
-use lib.Dec.{T, leb, eqb, leb→le, eqb→eq}
+use lib.Dec.{T, leb, eqb, leb→le, eqb→eq, lit≤}
+use lib.Count.{trailingZeros}
 use Rattle.base.specs.Tests.{and-left, and-right, or-cases, le-both, true-T, eqb-subst}
 use Rattle.measures.specs.Measures.{measureOk}
 use Rattle.frame.specs.declared.Setting.{Setting}
 use Rattle.refusals.specs.declared.Request.{Request}
-use Rattle.frame.specs.Pictures.{setting, largestDistortion, Fitting}
-use Rattle.refusals.specs.Cross.{crossWindow, cross}
+use Rattle.frame.specs.Pictures.{setting, largestN, largestDistortion, lastCount, Fitting}
+use Rattle.refusals.specs.Cross.{crossWindow, log2, cross}
 
 -- the number where the test fails, else the rest of the chain
 abbrev pub unless : Bool → ℕ → ℕ → ℕ
@@ -37,9 +39,9 @@ sideOk a = leb 4 a && leb a 1024
 abbrev pub frameOk : Setting → ℕ → Bool
 frameOk s pels = eqb pels (s .height * s .width)
 
--- 3 N not allowed or too big: "Block size N is 4, 8 or 16, at most width and height"
+-- 3 N not allowed or too big: "Block size N is 4, 8 or 16, at most width and height"; 02, request 4: "N may be 32"
 unfoldable pub blockSizeOk : ℕ → Bool
-blockSizeOk n = eqb n 4 || (eqb n 8 || eqb n 16)
+blockSizeOk n = eqb n 4 || (eqb n 8 || (eqb n 16 || eqb n 32))
 
 abbrev pub blockOk : Setting → Bool
 blockOk s = blockSizeOk (s .n) && (leb (s .n) (s .width) && leb (s .n) (s .height))
@@ -52,7 +54,7 @@ searchOk search = leb 1 search && leb search 4
 unfoldable pub windowOk : ℕ → ℕ → Bool
 windowOk search w = cond (leb search 2) (leb w 16) (cond (eqb search 3) (eqb w 7) (crossWindow w))
 
--- 6 T over 65,280, by squares over 16,646,400, or not 0 with search 1, 2 or 3
+-- 6 T over 261,120, by squares over 66,585,600 (02, request 4), or not 0 with search 1, 2 or 3
 unfoldable pub thresholdOk : ℕ → ℕ → ℕ → Bool
 thresholdOk search measure t = cond (eqb search 4) (leb t (largestDistortion measure)) (eqb t 0)
 
@@ -107,13 +109,34 @@ first-refusal-zero (suc n) rest e = absurd (omega arith)
 pub side-high : (a : ℕ) → T (sideOk a) → a ≤ 1024
 side-high a t = le-both 4 a a 1024 t .1
 
--- what holds of 4, 8 and 16 holds of each allowed N
-pub block-size-elim : (P : ℕ → Type 0) → P 4 → P 8 → P 16 → (n : ℕ) → T (blockSizeOk n) → P n
+-- what holds of 4, 8, 16 and 32 holds of each allowed N
+pub block-size-elim : (P : ℕ → Type 0) → P 4 → P 8 → P 16 → P 32 → (n : ℕ) → T (blockSizeOk n) → P n
 unfolding blockSizeOk
-block-size-elim P p4 p8 p16 n t =
+block-size-elim P p4 p8 p16 p32 n t =
     ⊎-elim (eqb-subst P n 4 p4)
-    (λ u. ⊎-elim (eqb-subst P n 8 p8) (eqb-subst P n 16 p16) (or-cases (eqb n 8) (eqb n 16) u))
-    (or-cases (eqb n 4) (eqb n 8 || eqb n 16) t)
+    (λ u.
+    ⊎-elim (eqb-subst P n 8 p8)
+    (λ v. ⊎-elim (eqb-subst P n 16 p16) (eqb-subst P n 32 p32) (or-cases (eqb n 16) (eqb n 32) v))
+    (or-cases (eqb n 8) (eqb n 16 || eqb n 32) u))
+    (or-cases (eqb n 4) (eqb n 8 || (eqb n 16 || eqb n 32)) t)
+
+-- an allowed N, whichever: from 4 to the largest, and 2 doubled so many times that search 2 has no more resolutions than counts
+pub record BlockSize (n : ℕ) : Type 0 where
+  pub least : 4 ≤ n
+  pub most : n ≤ largestN
+  pub doublings : ℕ
+  pub power : n ≡ 2 ^ suc doublings
+  pub log : log2 n ≡ suc doublings
+  pub few : doublings < lastCount
+
+pub block-size : (n : ℕ) → T (blockSizeOk n) → BlockSize n
+unfolding trailingZeros
+block-size =
+    block-size-elim BlockSize
+    (record { least = lit≤ tt; most = lit≤ tt; doublings = 1; power = refl; log = refl; few = lit≤ tt })
+    (record { least = lit≤ tt; most = lit≤ tt; doublings = 2; power = refl; log = refl; few = lit≤ tt })
+    (record { least = lit≤ tt; most = lit≤ tt; doublings = 3; power = refl; log = refl; few = lit≤ tt })
+    (record { least = lit≤ tt; most = lit≤ tt; doublings = 4; power = refl; log = refl; few = lit≤ tt })
 
 -- 1 2 3: a setting at which a block fits, N as blockSizeOk, both frames whole
 pub record Paired (older newer : ℕ) (s : Setting) : Type 0 where
@@ -144,7 +167,7 @@ fitting s t u =
     let l = and-left (blockSizeOk (s .n)) (leb (s .n) (s .width) && leb (s .n) (s .height)) u in
     let b = le-both _ _ _ _ (and-right (blockSizeOk (s .n)) (leb (s .n) (s .width) && leb (s .n) (s .height)) u) in
     record {
-      some = block-size-elim (λ n. 0 < n) (omega arith) (omega arith) (omega arith) (s .n) l;
+      some = le-trans (lit≤ tt) (block-size (s .n) l .least);
       across = b .0;
       down = b .1;
       wide = side-high (s .width) w;

@@ -39,7 +39,7 @@ pub fn side_ok(a: usize) -> bool
     a <= 1024
 }
 
-// 3: N is 4, 8 or 16.
+// 3: N is 4, 8, 16 or 32.
 pub fn block_size_ok(n: usize) -> bool
     ensures { λ r. ⌜ r ≡ blockSizeOk n ⌝ }
 {
@@ -49,7 +49,10 @@ pub fn block_size_ok(n: usize) -> bool
     if n == 8 {
         return true;
     }
-    n == 16
+    if n == 16 {
+        return true;
+    }
+    n == 32
 }
 
 // 3: N is allowed, and at most width and height.
