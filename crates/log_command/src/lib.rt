@@ -2,10 +2,11 @@
 
 ghost use mathlib.Core.Path.{_≡_};
 ghost use Prim.Native.Nat.{_+_, _≤_, _<_};
-ghost use lib.ListN.{length};
+ghost use lib.ListN.{length, getD};
 ghost use Rattle.log_command.specs.Numbers.{be2, be4};
+ghost use Rattle.log_command.specs.Commands.{carries, isLong, headNumber, blockNumber, sizeBy};
 ghost use Rattle.log_command.specs.Commands.{commandNumber, commandSize, commandPlace, commandHead, isRefused};
-ghost use Rattle.log_command.specs.Operands.{headIn};
+ghost use Rattle.log_command.specs.Operands.{measureIn, headIn, distortionIn};
 use log_head::Head;
 
 // What a call of the walker hands out. specs/Commands.antt has the number of each case, `commandNumber`, and its values, `commandValues`.
@@ -26,6 +27,10 @@ pub const STILL: u8 = 3;
 
 pub const END: u8 = 4;
 
+pub const LONG_BLOCK: u8 = 5; // with a distortion of four bytes
+
+pub const MEASURED_HEAD: u8 = 6; // with the measure
+
 pub const HEAD_SIZE: usize = 8;
 
 pub const BLOCK_SIZE: usize = 5;
@@ -34,17 +39,73 @@ pub const STILL_SIZE: usize = 1;
 
 pub const END_SIZE: usize = 5;
 
+pub const LONG_BLOCK_SIZE: usize = 7;
+
+pub const MEASURED_HEAD_SIZE: usize = 9;
+
+// The head carries its measure: it is command 6.
+pub fn carries(head: Head) -> bool
+    ensures { λ r. ⌜ r ≡ carries head ⌝ }
+{
+    head.measure == measures::SQUARES
+}
+
+// The distortion takes four bytes: its block is command 5.
+pub fn is_long(distortion: u32) -> bool
+    ensures { λ r. ⌜ r ≡ isLong distortion ⌝ }
+{
+    distortion > 65535
+}
+
+// The command byte of a head, and how many bytes it takes.
+pub fn head_number(head: Head) -> u8
+    ensures { λ r. ⌜ r ≡ headNumber head ⌝ }
+{
+    if carries(head) {
+        return MEASURED_HEAD;
+    }
+    HEAD
+}
+
+pub fn head_size(head: Head) -> usize
+    ensures { λ r. ⌜ r ≡ sizeBy (headNumber head) ⌝ }
+{
+    if carries(head) {
+        return MEASURED_HEAD_SIZE;
+    }
+    HEAD_SIZE
+}
+
+// The command byte of a block that is not still, and how many bytes it takes.
+pub fn block_number(distortion: u32) -> u8
+    ensures { λ r. ⌜ r ≡ blockNumber distortion ⌝ }
+{
+    if is_long(distortion) {
+        return LONG_BLOCK;
+    }
+    BLOCK
+}
+
+pub fn block_size(distortion: u32) -> usize
+    ensures { λ r. ⌜ r ≡ sizeBy (blockNumber distortion) ⌝ }
+{
+    if is_long(distortion) {
+        return LONG_BLOCK_SIZE;
+    }
+    BLOCK_SIZE
+}
+
 // A command's number: its byte, or the refusal's.
 pub fn command_number(command: Command) -> u32
     ensures { λ r. ⌜ r ≡ commandNumber command ⌝ }
 {
     match command {
-        Command::Head(_) => HEAD as u32,
+        Command::Head(head) => head_number(head) as u32,
         Command::Block {
             dy: _,
             dx: _,
-            distortion: _,
-        } => BLOCK as u32,
+            distortion,
+        } => block_number(distortion) as u32,
         Command::Still => STILL as u32,
         Command::End(_) => END as u32,
         Command::Refused { number, place: _ } => number,
@@ -93,12 +154,12 @@ pub fn command_size(command: Command) -> usize
     ensures { λ r. ⌜ r ≡ commandSize command ⌝ }
 {
     match command {
-        Command::Head(_) => HEAD_SIZE,
+        Command::Head(head) => head_size(head),
         Command::Block {
             dy: _,
             dx: _,
-            distortion: _,
-        } => BLOCK_SIZE,
+            distortion,
+        } => block_size(distortion),
         Command::Still => STILL_SIZE,
         Command::End(_) => END_SIZE,
         Command::Refused {
@@ -141,14 +202,25 @@ pub fn two(log: &[u8], i: usize) -> usize
 // Four bytes, highest first.
 pub fn four(log: &[u8], i: usize) -> usize
     requires { ⌜ i + 3 < length (now log) ⌝ }
-    ensures { λ r. ⌜ r ≡ be4 (now (log .entry)) i ⌝ }
+    ensures { λ r. ⌜ (r ≡ be4 (now (log .entry)) i) × (r < 4294967296) ⌝ }
 {
     two(log, i) * 65536 + two(log, i + 2)
 }
 
-// The numbers of a head command; its bytes have no measure, which is 1.
+// The measure of a head command.
+fn measure_in(log: &[u8], at: usize) -> u32
+    requires { ⌜ (at + 8 ≤ length (now log)) × (at + sizeBy (getD (now log) at 0) ≤ length (now log)) ⌝ }
+    ensures { λ r. ⌜ r ≡ measureIn (now (log .entry)) at ⌝ }
+{
+    if log[at] == MEASURED_HEAD {
+        return signed::wide_u8(log[at + 8]);
+    }
+    measures::ABSOLUTE
+}
+
+// The numbers of a head command.
 pub fn head_in(log: &[u8], at: usize) -> Head
-    requires { ⌜ at + 8 ≤ length (now log) ⌝ }
+    requires { ⌜ (at + 8 ≤ length (now log)) × (at + sizeBy (getD (now log) at 0) ≤ length (now log)) ⌝ }
     ensures { λ r. ⌜ r ≡ headIn (now (log .entry)) at ⌝ }
 {
     Head {
@@ -157,6 +229,17 @@ pub fn head_in(log: &[u8], at: usize) -> Head
         n: signed::wide_u8(log[at + 5]) as usize,
         w: signed::wide_u8(log[at + 6]) as usize,
         search: signed::wide_u8(log[at + 7]),
-        measure: measures::ABSOLUTE,
+        measure: measure_in(log, at),
     }
+}
+
+// The distortion of a block command.
+pub fn distortion_in(log: &[u8], at: usize) -> usize
+    requires { ⌜ (at + 5 ≤ length (now log)) × (at + sizeBy (getD (now log) at 0) ≤ length (now log)) ⌝ }
+    ensures { λ r. ⌜ (r ≡ distortionIn (now (log .entry)) at) × (r < 4294967296) ⌝ }
+{
+    if log[at] == LONG_BLOCK {
+        return four(log, at + 3);
+    }
+    two(log, at + 3)
 }

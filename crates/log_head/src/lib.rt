@@ -2,12 +2,12 @@
 
 ghost use mathlib.Core.Path.{_≡_};
 ghost use Prim.Native.Nat.{_≤_, _<_};
+ghost use lib.IntN.{pos};
 ghost use Rattle.frame.specs.Pictures.{Fitting};
 ghost use Rattle.frame.specs.Grid.{blocks};
-ghost use Rattle.log_head.specs.Heads.{noHead, settingIn, logMeasureOk, headRefusal, headBlocks};
-ghost use Rattle.log_head.specs.Heads.{candidateOk, distortionOk, entryOk, isStill};
+ghost use Rattle.log_head.specs.Heads.{noHead, settingIn, headRefusal, headBlocks, largestIn};
+ghost use Rattle.log_head.specs.Heads.{candidateOk, entryOk, isStill};
 use frame::Setting;
-use signed::Shifted;
 
 // A head's numbers.
 #[repr(C)]
@@ -41,13 +41,6 @@ pub fn setting_in(h: Head) -> Setting
     frame::setting_by(h.width, h.height, h.n, h.measure)
 }
 
-// 51: the measure of a log is 1, for now.
-fn log_measure_ok(measure: u32) -> bool
-    ensures { λ r. ⌜ r ≡ logMeasureOk measure ⌝ }
-{
-    measure == measures::ABSOLUTE
-}
-
 // The first of 1 3 4 51 5 that applies to a head's numbers, or 0.
 pub fn head_refusal(h: Head) -> u32
     ensures { λ r. ⌜ r ≡ headRefusal h ⌝ }
@@ -62,7 +55,7 @@ pub fn head_refusal(h: Head) -> u32
         return 3;
     }
     let search = refusals::search_ok(h.search);
-    let measure = log_measure_ok(h.measure);
+    let measure = measures::measure_ok(h.measure);
     let window = refusals::window_ok(h.search, h.w);
     if !search {
         return 4;
@@ -84,16 +77,12 @@ pub fn head_blocks(h: Head) -> usize
     frame::block_count(setting_in(h))
 }
 
-// 16: 0 to 255 × N² is a distortion.
-fn distortion_ok(n: usize, distortion: i32) -> bool
-    requires { ⌜ n ≤ 1024 ⌝ }
-    ensures { λ r. ⌜ r ≡ distortionOk n distortion ⌝ }
+// The largest distortion in a log with this head.
+fn largest_in(h: Head) -> u32
+    requires { ⌜ headRefusal h ≡ 0 ⌝ }
+    ensures { λ r. ⌜ r ≡ largestIn h ⌝ }
 {
-    let at = signed::shift(0, distortion, 255 * (n * n));
-    match at {
-        Shifted::At(_) => true,
-        Shifted::Outside => false,
-    }
+    (h.n * h.n) as u32 * measures::most(h.measure)
 }
 
 // The vector is a candidate of window w for grid block k.
@@ -106,15 +95,26 @@ pub fn candidate_ok(s: Setting, w: usize, k: usize, dy: i32, dx: i32) -> bool
     frame::is_candidate(s, w, row, column, dy, dx)
 }
 
-// 16: what grid block k may have: a candidate and its distortion.
-pub fn entry_ok(h: Head, k: usize, dy: i32, dx: i32, distortion: i32) -> bool
+// 16: what grid block k may have: a candidate and its distortion, which a log's bytes cannot have below 0.
+pub fn block_ok(h: Head, k: usize, dy: i32, dx: i32, distortion: usize) -> bool
     requires { ⌜ (headRefusal h ≡ 0) × (k < headBlocks h) ⌝ }
-    ensures { λ r. ⌜ r ≡ entryOk h k dy dx distortion ⌝ }
+    ensures { λ r. ⌜ r ≡ entryOk h k dy dx (pos distortion) ⌝ }
 {
     if !candidate_ok(setting_in(h), h.w, k, dy, dx) {
         return false;
     }
-    distortion_ok(h.n, distortion)
+    distortion <= largest_in(h) as usize
+}
+
+// The same of three numbers of a list.
+pub fn entry_ok(h: Head, k: usize, dy: i32, dx: i32, distortion: i32) -> bool
+    requires { ⌜ (headRefusal h ≡ 0) × (k < headBlocks h) ⌝ }
+    ensures { λ r. ⌜ r ≡ entryOk h k dy dx distortion ⌝ }
+{
+    if distortion < 0 {
+        return false;
+    }
+    block_ok(h, k, dy, dx, signed::magnitude(distortion) as usize)
 }
 
 // (0,0) with distortion 0.

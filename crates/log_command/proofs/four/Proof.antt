@@ -1,4 +1,5 @@
 -- `four`: two pairs of bytes.
+use native.Mathlib.Omega.{arith}
 use borrow.Author.Needs.{needs}
 use Rattle.log_command.specs.Numbers.{be4}
 use Rattle.log_command.proofs.four.Statement.{statement}
@@ -21,7 +22,10 @@ add-result c = search needs
 
 returns : tie.Need-returns
 unfolding be4
-returns c = rw (← (c .before .two .ensures .0), ← (c .two2 .ensures .0))
+returns c =
+    let high = c .before .two .ensures in
+    let low = c .two2 .ensures in
+    (rw (← (high .0), ← (low .0)), omega (arith, high .1, low .1))
 
 pub four-spec : {M : Type 1} → statement M
 four-spec = tie.close (tie.spec two-requires mul-result add-two two-requires-2 add-result returns)

@@ -1,6 +1,6 @@
 -- `head_in`: the operands one by one.
-use Rattle.log_command.specs.Operands.{headIn}
 use borrow.Author.Needs.{needs}
+use Rattle.log_command.specs.Operands.{headIn}
 use Rattle.log_command.proofs.head_in.Statement.{statement}
 use Rattle.log_command.proofs.head_in.Tie as tie
 
@@ -49,12 +49,16 @@ shared-slice-read-wide-u8-3 c = search needs
 wide-u8-requires-3 : tie.Need-wide-u8-requires-3
 wide-u8-requires-3 c κs = search needs
 
+measure-in-requires : tie.Need-measure-in-requires
+measure-in-requires c κs = search needs
+
 returns : tie.Need-returns
 unfolding headIn
 returns c =
-    let d = c .before .before .before .before in
+    let e = c .before in
+    let d = e .before .before .before .before in
     let t = d .before .before in
-    cc (t .before .two .ensures .0, t .two2 .ensures .0, d .wide-u8 .ensures .0, c .before .before .wide-u82 .ensures .0, c .wide-u83 .ensures .0)
+    cc (t .before .two .ensures .0, t .two2 .ensures .0, d .wide-u8 .ensures .0, e .before .before .wide-u82 .ensures .0, e .wide-u83 .ensures .0, c .measure-in .ensures)
 
 pub head-in-spec : {M : Type 1} → statement M
 head-in-spec =
@@ -75,4 +79,5 @@ head-in-spec =
     add-wide-u8-3
     shared-slice-read-wide-u8-3
     wide-u8-requires-3
+    measure-in-requires
     returns)

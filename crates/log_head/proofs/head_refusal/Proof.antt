@@ -3,7 +3,8 @@ use mathlib.Core.Path.{_≡_, ap, _∙_}
 use borrow.Author.Needs.{needs}
 use mathlib.Core.Bool.{true}
 use Rattle.base.specs.Tests.{passed, failed}
-use Rattle.log_head.specs.Heads.{logMeasureOk, headRefusal, settingIn}
+use Rattle.measures.specs.Measures.{measureOk}
+use Rattle.log_head.specs.Heads.{headRefusal, settingIn}
 use Rattle.refusals.specs.Refusals.{sideOk, blockOk, searchOk}
 use Rattle.log_head.proofs.head_refusal.Statement.{statement}
 use Rattle.log_head.proofs.head_refusal.Tie as tie
@@ -61,8 +62,8 @@ returns-3 c =
 search-ok-requires : tie.Need-search-ok-requires
 search-ok-requires c κs = search needs
 
-log-measure-ok-requires : tie.Need-log-measure-ok-requires
-log-measure-ok-requires c κs = search needs
+measure-ok-requires : tie.Need-measure-ok-requires
+measure-ok-requires c κs = search needs
 
 window-ok-requires : tie.Need-window-ok-requires
 window-ok-requires c κs = search needs
@@ -84,10 +85,10 @@ returns-5 c =
     let g = c .before in
     let f = at-block g in
     let d = at-height f in
-    rw (wide (at-width d), high d, fits f, known g, failed (g .before .before .log-measure-ok .ensures) (c .if5 .taken))
+    rw (wide (at-width d), high d, fits f, known g, failed (g .before .before .measure-ok .ensures) (c .if5 .taken))
 
-carried : (d : tie.Else5) → logMeasureOk (start (at-width (at-height (at-block (d .before)))) .args .h .measure) ≡ true
-carried d = passed (d .before .before .before .log-measure-ok .ensures) (d .if5 .left)
+carried : (d : tie.Else5) → measureOk (start (at-width (at-height (at-block (d .before)))) .args .h .measure) ≡ true
+carried d = passed (d .before .before .before .measure-ok .ensures) (d .if5 .left)
 
 returns-6 : tie.Need-returns-6
 unfolding headRefusal
@@ -119,7 +120,7 @@ head-refusal-spec =
     block-ok-requires
     returns-3
     search-ok-requires
-    log-measure-ok-requires
+    measure-ok-requires
     window-ok-requires
     returns-4
     returns-5
