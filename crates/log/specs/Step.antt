@@ -2,21 +2,23 @@
 -- Refusals 13 to 18: "14 command unknown or not due (due are: a head first and only there, then blocks until the grid is full, then the end); 13 bytes
 -- end before the command is complete; 15 head that 1, 3, 4 or 5 would turn away; 16 block vector no candidate, distortion below 0 or over 255 × N², or a
 -- still block as command 2; 17 end with another number; 18 bytes after the end. First offset wins; at one command 14, then 13, then the rest. The
--- place is the command's offset (the log's length if none begins, the first extra byte for 18)."
+-- place is the command's offset (the log's length if none begins, the first extra byte for 18)." 02, request 4: command 5 "with 65,535 or less [...] is
+-- turned away by 16"; command 6 "carrying any other" measure than 2 "is turned away by 15". So a head and a block are taken under their own number alone.
 --   judged       "at one command 14, then 13, then the rest"
+--   taken        "carrying any other is turned away": a head or a block is taken under its own number alone
 --   headDue, blockDue, stillDue, endDue   a command of that kind in the phase in which it may be due
 --   startCommand, bodyCommand, afterEnd   what a call hands out at the start, among the blocks, after the end: "The command byte decides"
 --   refusedStep, commandStep, stepOf      a command with the cursor after it
 --   stepAt       one call of the walker, 34 included
 --   startCursor  where a walk begins; bodyCursor: a place among the blocks
 use Prim.Native.Nat.{ℕ, _+_, _≤_, _<_}
-use mathlib.Core.Path.{_≡_, refl}
+use mathlib.Core.Path.{_≡_, refl, ap, sym, _∙_}
 use mathlib.Core.List.{List}
-use mathlib.Core.Bool.{Bool, true, false, cond, not, _&&_}
+use mathlib.Core.Bool.{Bool, true, false, cond, not, _&&_, _||_}
 use native.Mathlib.Omega.{arith}
 use lib.ListN.{length, getD}
 use lib.Dec.{leb, ltb, eqb, leb→le, eqb→eq}
-use borrow.Author.Tests.{le-leb, lt-leb, leb-true, eq-eqb, ne-eqb}
+use borrow.Author.Tests.{le-leb, lt-leb, leb-true, eqb-true, eq-eqb, ne-eqb}
 use Rattle.base.specs.Tests.{and-left, and-right, true-T}
 use lib.IntN.{ℤ, pos}
 use Rattle.log_head.specs.declared.Head.{Head}
@@ -24,7 +26,7 @@ use Rattle.log_head.specs.Heads.{headRefusal, headOk, headBlocks, entryOk, isSt
 use Rattle.log_command.specs.declared.Command.{Command}
 use Rattle.log_command.specs.declared.Command.the-variants as Cmd
 use Rattle.log_command.specs.Numbers.{be4}
-use Rattle.log_command.specs.Commands.{commandNumber, commandSize}
+use Rattle.log_command.specs.Commands.{commandNumber, commandSize, sizeBy, head-size, block-size}
 use Rattle.log_command.specs.Operands.{headIn, dyIn, dxIn, distortionIn, blockIn}
 use Rattle.log.specs.declared.Phase.{Phase}
 use Rattle.log.specs.declared.Phase.the-variants.{Start, Body, Ended, Over}
@@ -37,23 +39,26 @@ use Rattle.log.specs.declared.WalkStep.{WalkStep}
 unfoldable pub judged : Bool → ℕ → List ℕ → ℕ → Command → Command
 judged due size log at rest = cond due (cond (leb (at + size) (length log)) rest (Cmd.Refused 13 at)) (Cmd.Refused 14 at)
 
--- "a head first and only there": at the start it is due. 15 is 1, 3, 4 and 5 alone: headIn gives every head measure 1, so that 51 never applies
-unfoldable pub headTaken : List ℕ → ℕ → Command
-headTaken log at = let h = headIn log at in cond (headOk h) (Cmd.Head h) (Cmd.Refused 15 at)
+-- a head or a block that the rules let pass, under its own number alone; else refused by this number
+unfoldable pub taken : Bool → Command → ℕ → List ℕ → ℕ → Command
+taken passes command refusal log at = cond (passes && eqb (getD log at 0) (commandNumber command)) command (Cmd.Refused refusal at)
+
+-- "a head first and only there": at the start it is due
+abbrev pub headTaken : List ℕ → ℕ → Command
+headTaken log at = let h = headIn log at in taken (headOk h) (Cmd.Head h) 15 log at
 
 abbrev pub headDue : List ℕ → ℕ → Command
-headDue log at = judged true (commandSize (Cmd.Head (headIn log at))) log at (headTaken log at)
+headDue log at = judged true (sizeBy (getD log at 0)) log at (headTaken log at)
 
 -- "then blocks until the grid is full": k of them are read. 16 lets the block pass as block k
-abbrev pub blockPasses : List ℕ → ℕ → Head → ℕ → Bool
-blockPasses log at h k =
-    entryOk h k (dyIn log at) (dxIn log at) (pos (distortionIn log at)) && not (isStill (dyIn log at) (dxIn log at) (pos (distortionIn log at)))
+abbrev pub blockPasses : Head → ℕ → ℤ → ℤ → ℕ → Bool
+blockPasses h k dy dx distortion = entryOk h k dy dx (pos distortion) && not (isStill dy dx (pos distortion))
 
-unfoldable pub blockTaken : List ℕ → ℕ → Head → ℕ → Command
-blockTaken log at h k = cond (blockPasses log at h k) (blockIn log at) (Cmd.Refused 16 at)
+abbrev pub blockTaken : List ℕ → ℕ → Head → ℕ → Command
+blockTaken log at h k = taken (blockPasses h k (dyIn log at) (dxIn log at) (distortionIn log at)) (blockIn log at) 16 log at
 
 abbrev pub blockDue : List ℕ → ℕ → Head → ℕ → Command
-blockDue log at h k = judged (ltb k (headBlocks h)) (commandSize (blockIn log at)) log at (blockTaken log at h k)
+blockDue log at h k = judged (ltb k (headBlocks h)) (sizeBy (getD log at 0)) log at (blockTaken log at h k)
 
 abbrev pub stillDue : List ℕ → ℕ → Head → ℕ → Command
 stillDue log at h k = judged (ltb k (headBlocks h)) (commandSize Cmd.Still) log at Cmd.Still
@@ -67,20 +72,22 @@ endDue log at h k = judged (leb (headBlocks h) k) (commandSize (Cmd.End (headBlo
 
 -- ---- what a call hands out, by phase
 
--- "The command byte decides: 1 head, 2 block, 3 still block, 4 end; 0 and 5 to 255 are unknown." The number is that of the command which it begins; 13 at
+-- "The command byte decides: 1 head, 2 block, 3 still block, 4 end"; 5 is a block and 6 a head too: "Unknown are now 0 and 7 to 255" (02, request 4). 13 at
 -- the log's length if none begins.
 unfoldable pub startCommand : List ℕ → ℕ → Command
 startCommand log at =
+    let byte = getD log at 0 in
     cond (leb (length log) at) (Cmd.Refused 13 at)
-    (cond (eqb (getD log at 0) (commandNumber (Cmd.Head (headIn log at)))) (headDue log at)
+    (cond (eqb byte 1 || eqb byte 6) (headDue log at)
     (Cmd.Refused 14 at))
 
 unfoldable pub bodyCommand : List ℕ → ℕ → Head → ℕ → Command
 bodyCommand log at h k =
+    let byte = getD log at 0 in
     cond (leb (length log) at) (Cmd.Refused 13 at)
-    (cond (eqb (getD log at 0) (commandNumber (blockIn log at))) (blockDue log at h k)
-    (cond (eqb (getD log at 0) (commandNumber Cmd.Still)) (stillDue log at h k)
-    (cond (eqb (getD log at 0) (commandNumber (Cmd.End (be4 log (at + 1))))) (endDue log at h k)
+    (cond (eqb byte 2 || eqb byte 5) (blockDue log at h k)
+    (cond (eqb byte 3) (stillDue log at h k)
+    (cond (eqb byte 4) (endDue log at h k)
     (Cmd.Refused 14 at))))
 
 -- "The call after the end command answers 18 if bytes follow it, else 34."
@@ -119,7 +126,7 @@ byPhase log at Ended = stepOf (afterEnd log at) at Over
 byPhase log at Over = refusedStep at 34 0
 
 -- "34 walker called after a refusal, or after its end with no byte left, or one built by hand whose place is past the log, whose head numbers (once a
--- head is read) 15 would turn away, or whose blocks exceed the grid; place 0". A head built by hand with another measure than 1 is one of those.
+-- head is read) 15 would turn away, or whose blocks exceed the grid; place 0". A measure built by hand that is neither 1 nor 2 is one of those.
 unfoldable pub stepAt : List ℕ → Cursor → WalkStep
 stepAt log c = cond (ltb (length log) (c .at)) (refusedStep (c .at) 34 0) (byPhase log (c .at) (c .phase))
 
@@ -155,13 +162,19 @@ standing-blocks h k e = leb→le k (headBlocks h) (and-right (headOk h) (leb k (
 
 -- what a whole command that is due comes to
 module _ (log : List ℕ) (at : ℕ) where
-  pub head-no : (headRefusal (headIn log at) ≡ 0 → ⊥) → headTaken log at ≡ Cmd.Refused 15 at
-  unfolding headTaken
-  head-no h = rw (ne-eqb (headRefusal (headIn log at)) 0 h)
+  pub taken-no : (passes : Bool) (command : Command) (refusal : ℕ) → passes ≡ false → taken passes command refusal log at ≡ Cmd.Refused refusal at
+  unfolding taken
+  taken-no passes command refusal e = rw e
 
-  pub head-yes : headRefusal (headIn log at) ≡ 0 → headTaken log at ≡ Cmd.Head (headIn log at)
-  unfolding headTaken
-  head-yes e = rw (eq-eqb (headRefusal (headIn log at)) 0 e)
+  pub taken-other : (passes : Bool) (command : Command) (refusal : ℕ) → passes ≡ true → (getD log at 0 ≡ commandNumber command → ⊥)
+      → taken passes command refusal log at ≡ Cmd.Refused refusal at
+  unfolding taken
+  taken-other passes command refusal e n = rw (e, ne-eqb (getD log at 0) (commandNumber command) n)
+
+  pub taken-yes : (passes : Bool) (command : Command) (refusal : ℕ) → passes ≡ true → getD log at 0 ≡ commandNumber command
+      → taken passes command refusal log at ≡ command
+  unfolding taken
+  taken-yes passes command refusal e o = rw (e, eq-eqb (getD log at 0) (commandNumber command) o)
 
   pub end-no : (h : Head) → (be4 log (at + 1) ≡ headBlocks h → ⊥) → endTaken log at h ≡ Cmd.Refused 17 at
   unfolding endTaken
@@ -170,19 +183,6 @@ module _ (log : List ℕ) (at : ℕ) where
   pub end-yes : (h : Head) → be4 log (at + 1) ≡ headBlocks h → endTaken log at h ≡ Cmd.End (headBlocks h)
   unfolding endTaken
   end-yes h e = rw (eq-eqb (be4 log (at + 1)) (headBlocks h) e)
-
-  module _ (h : Head) (k : ℕ) {dy dx : ℤ} {distortion : ℕ} (ey : dy ≡ dyIn log at) (ex : dx ≡ dxIn log at) (ed : distortion ≡ distortionIn log at) where
-    pub block-no : entryOk h k dy dx (pos distortion) ≡ false → blockTaken log at h k ≡ Cmd.Refused 16 at
-    unfolding blockTaken
-    block-no e = rw (← ey, ← ex, ← ed, e)
-
-    pub block-still : entryOk h k dy dx (pos distortion) ≡ true → isStill dy dx (pos distortion) ≡ true → blockTaken log at h k ≡ Cmd.Refused 16 at
-    unfolding blockTaken
-    block-still e f = rw (← ey, ← ex, ← ed, e, f)
-
-    pub block-yes : entryOk h k dy dx (pos distortion) ≡ true → isStill dy dx (pos distortion) ≡ false → blockTaken log at h k ≡ Cmd.Block dy dx distortion
-    unfolding blockTaken
-    block-yes e f = rw (← ey, ← ex, ← ed, e, f)
 
 -- ---- what is handed out lies inside the log
 
@@ -205,24 +205,36 @@ module _ {log : List ℕ} {at : ℕ} (inside : at ≤ length log) where
       go true e = f (leb-true _ _ e)
       go false e = within-refused 13 at
 
+  within-taken : (passes : Bool) (command : Command) (refusal : ℕ) → commandSize command ≡ sizeBy (commandNumber command)
+      → at + sizeBy (getD log at 0) ≤ length log → Within log at (taken passes command refusal log at)
+  unfolding taken
+  within-taken false command refusal s f = within-refused refusal at
+  within-taken true command refusal s f = go (eqb (getD log at 0) (commandNumber command)) refl
+    where
+      go : (t : Bool) → eqb (getD log at 0) (commandNumber command) ≡ t → Within log at (cond t command (Cmd.Refused refusal at))
+      go true e = let q : commandSize command ≡ sizeBy (getD log at 0) = s ∙ sym (ap sizeBy (eqb-true (getD log at 0) (commandNumber command) e)) in record { size = rw q f }
+      go false e = within-refused refusal at
+
   pub start-within : Within log at (startCommand log at)
-  unfolding startCommand headTaken
+  unfolding startCommand
   start-within =
       let h = headIn log at in
+      let byte = getD log at 0 in
       within-cond (leb (length log) at) (within-refused 13 at)
-      (within-cond (eqb (getD log at 0) 1)
-      (within-judged true (commandSize (Cmd.Head h)) (headTaken log at) (λ f. within-cond (headOk h) (record { size = f }) (within-refused 15 at)))
+      (within-cond (eqb byte 1 || eqb byte 6)
+      (within-judged true (sizeBy byte) (headTaken log at) (within-taken (headOk h) (Cmd.Head h) 15 (head-size h)))
       (within-refused 14 at))
 
   pub body-within : (h : Head) (k : ℕ) → Within log at (bodyCommand log at h k)
-  unfolding bodyCommand blockTaken endTaken
+  unfolding bodyCommand endTaken
   body-within h k =
+      let byte = getD log at 0 in
       within-cond (leb (length log) at) (within-refused 13 at)
-      (within-cond (eqb (getD log at 0) 2)
-      (within-judged (ltb k (headBlocks h)) (commandSize (blockIn log at)) (blockTaken log at h k)
-      (λ f. within-cond (blockPasses log at h k) (record { size = f }) (within-refused 16 at)))
-      (within-cond (eqb (getD log at 0) 3) (within-judged (ltb k (headBlocks h)) (commandSize Cmd.Still) Cmd.Still (λ f. record { size = f }))
-      (within-cond (eqb (getD log at 0) 4)
+      (within-cond (eqb byte 2 || eqb byte 5)
+      (within-judged (ltb k (headBlocks h)) (sizeBy byte) (blockTaken log at h k)
+      (within-taken (blockPasses h k (dyIn log at) (dxIn log at) (distortionIn log at)) (blockIn log at) 16 (block-size (dyIn log at) (dxIn log at) (distortionIn log at))))
+      (within-cond (eqb byte 3) (within-judged (ltb k (headBlocks h)) (commandSize Cmd.Still) Cmd.Still (λ f. record { size = f }))
+      (within-cond (eqb byte 4)
       (within-judged (leb (headBlocks h) k) (commandSize (Cmd.End (headBlocks h))) (endTaken log at h)
       (λ f. within-cond (eqb (be4 log (at + 1)) (headBlocks h)) (record { size = f }) (within-refused 17 at)))
       (within-refused 14 at))))

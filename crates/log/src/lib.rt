@@ -3,11 +3,11 @@
 ghost use mathlib.Core.Path.{_≡_};
 ghost use mathlib.Core.Bool.{true};
 ghost use Prim.Native.Nat.{_+_, _≤_, _<_};
-ghost use lib.ListN.{length};
+ghost use lib.ListN.{length, getD};
 ghost use Rattle.log_command.specs.declared.Command.the-variants as Cmd;
-ghost use Rattle.log_command.specs.Commands.{commandSize};
+ghost use Rattle.log_command.specs.Commands.{commandSize, sizeBy};
 ghost use Rattle.log_head.specs.Heads.{headRefusal, headBlocks};
-ghost use Rattle.log.specs.Step.{headDue, blockTaken, blockDue, stillDue, endDue, startCommand, bodyCommand, afterEnd};
+ghost use Rattle.log.specs.Step.{taken, headDue, blockPasses, blockTaken, blockDue, stillDue, endDue, startCommand, bodyCommand, afterEnd};
 ghost use Rattle.log.specs.Step.{standingOk, refusedStep, commandStep, stepOf, bodyStep, stepAt, startCursor};
 use log_command::Command;
 use log_head::Head;
@@ -41,52 +41,72 @@ fn refused(number: u32, place: usize) -> Command
     Command::Refused { number, place }
 }
 
-// A head: due at the start.
-fn head_due(log: &[u8], at: usize) -> Command
-    requires { ⌜ at ≤ length (now log) ⌝ }
+// A head or a block that the rules let pass, under its own number alone; else refused by this number.
+fn taken(passes: bool, command: Command, refusal: u32, log: &[u8], at: usize) -> Command
+    requires { ⌜ at < length (now log) ⌝ }
+    ensures { λ r. ⌜ r ≡ taken passes command refusal (now (log .entry)) at ⌝ }
+{
+    if !passes {
+        return refused(refusal, at);
+    }
+    if signed::wide_u8(log[at]) != log_command::command_number(command) {
+        return refused(refusal, at); // command 5 with 65,535 or less, command 6 with measure 1
+    }
+    command
+}
+
+// A head of so many bytes: due at the start.
+fn head_due(log: &[u8], at: usize, size: usize) -> Command
+    requires { ⌜ (at ≤ length (now log)) × (size ≡ sizeBy (getD (now log) at 0)) × (8 ≤ size) ⌝ }
     ensures { λ r. ⌜ r ≡ headDue (now (log .entry)) at ⌝ }
 {
-    if log.len() - at < log_command::HEAD_SIZE {
+    if log.len() - at < size {
         return refused(13, at);
     }
     let head = log_command::head_in(log, at);
-    if log_head::head_refusal(head) != 0 {
-        return refused(15, at);
+    let passes = log_head::head_refusal(head) == 0;
+    taken(passes, Command::Head(head), 15, log, at)
+}
+
+// 16 lets the block pass as block k.
+fn block_passes(head: Head, k: usize, dy: i32, dx: i32, distortion: usize) -> bool
+    requires { ⌜ (headRefusal head ≡ 0) × (k < headBlocks head) ⌝ }
+    ensures { λ r. ⌜ r ≡ blockPasses head k dy dx distortion ⌝ }
+{
+    if !log_head::block_ok(head, k, dy, dx, distortion) {
+        return false;
     }
-    Command::Head(head)
+    !log_head::is_still(dy, dx, distortion as i32)
 }
 
 // A whole block command that is due: the block, or 16.
 fn block_taken(log: &[u8], at: usize, head: Head, blocks: usize) -> Command
-    requires { ⌜ (at + 5 ≤ length (now log)) × (headRefusal head ≡ 0) × (blocks < headBlocks head) ⌝ }
+    requires { ⌜ (at + 5 ≤ length (now log)) × (at + sizeBy (getD (now log) at 0) ≤ length (now log)) ⌝ }
+    requires { ⌜ (headRefusal head ≡ 0) × (blocks < headBlocks head) ⌝ }
     ensures { λ r. ⌜ r ≡ blockTaken (now (log .entry)) at head blocks ⌝ }
 {
     let dy = signed::from_byte(log[at + 1]);
     let dx = signed::from_byte(log[at + 2]);
-    let distortion = log_command::two(log, at + 3);
-    let d = distortion as i32;
-    if !log_head::entry_ok(head, blocks, dy, dx, d) {
-        return refused(16, at);
-    }
-    if log_head::is_still(dy, dx, d) {
-        return refused(16, at);
-    }
-    Command::Block {
+    let d = log_command::distortion_in(log, at);
+    let passes = block_passes(head, blocks, dy, dx, d);
+    let block = Command::Block {
         dy,
         dx,
-        distortion: distortion as u32,
-    }
+        distortion: d as u32,
+    };
+    taken(passes, block, 16, log, at)
 }
 
-// A block as command 2: due until the grid is full.
-fn block_due(log: &[u8], at: usize, head: Head, all: usize, blocks: usize) -> Command
+// A block of so many bytes: due until the grid is full.
+fn block_due(log: &[u8], at: usize, head: Head, all: usize, blocks: usize, size: usize) -> Command
     requires { ⌜ (at ≤ length (now log)) × (headRefusal head ≡ 0) × (all ≡ headBlocks head) ⌝ }
+    requires { ⌜ (size ≡ sizeBy (getD (now log) at 0)) × (5 ≤ size) ⌝ }
     ensures { λ r. ⌜ r ≡ blockDue (now (log .entry)) at head blocks ⌝ }
 {
     if blocks >= all {
         return refused(14, at);
     }
-    if log.len() - at < log_command::BLOCK_SIZE {
+    if log.len() - at < size {
         return refused(13, at);
     }
     block_taken(log, at, head, blocks)
@@ -134,9 +154,10 @@ fn start_command(log: &[u8], at: usize) -> Command
     let command = log[at];
     match command {
         0 => refused(14, at),
-        1 => head_due(log, at),
-        2..=4 => refused(14, at),
-        5..=255 => refused(14, at),
+        1 => head_due(log, at, log_command::HEAD_SIZE),
+        2..=5 => refused(14, at),
+        6 => head_due(log, at, log_command::MEASURED_HEAD_SIZE),
+        7..=255 => refused(14, at),
     }
 }
 
@@ -151,10 +172,12 @@ pub fn body_command(log: &[u8], at: usize, head: Head, all: usize, blocks: usize
     let command = log[at];
     match command {
         0 | 1 => refused(14, at),
-        2 => block_due(log, at, head, all, blocks),
+        2 => block_due(log, at, head, all, blocks, log_command::BLOCK_SIZE),
         3 => still_due(log, at, head, all, blocks),
         4 => end_due(log, at, head, all, blocks),
-        5..=255 => refused(14, at), // unknown
+        5 => block_due(log, at, head, all, blocks, log_command::LONG_BLOCK_SIZE),
+        6 => refused(14, at),
+        7..=255 => refused(14, at), // unknown
     }
 }
 

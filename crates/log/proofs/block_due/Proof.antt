@@ -13,7 +13,7 @@ refused-requires c κs = search needs
 returns : tie.Need-returns
 returns c =
     let s = c .before .before .before in
-    c .refused .ensures ∙ sym (judged-no _ _ _ _ _ (le-ltb _ _ (rw (s .pre .2) at (c .before .if1 .taken))))
+    c .refused .ensures ∙ sym (judged-no _ _ _ _ _ (le-ltb _ _ (rw (s .pre .0 .2) at (c .before .if1 .taken))))
 
 sub-if2 : tie.Need-sub-if2
 sub-if2 c = search needs
@@ -24,7 +24,7 @@ refused-requires-2 c κs = search needs
 returns-2 : tie.Need-returns-2
 returns-2 c =
     let d = c .before .before in
-    c .refused2 .ensures ∙ sym (judged-short _ _ _ _ _ (lt-ltb _ _ (rw (d .before .before .pre .2) at (d .if1 .left))) (omega arith))
+    c .refused2 .ensures ∙ sym (judged-short _ _ _ _ _ (lt-ltb _ _ (rw (d .before .before .pre .0 .2) at (d .if1 .left))) (omega arith))
 
 block-taken-requires : tie.Need-block-taken-requires
 block-taken-requires c κs = search needs
@@ -32,7 +32,7 @@ block-taken-requires c κs = search needs
 returns-3 : tie.Need-returns-3
 returns-3 c =
     let d = c .before .before in
-    c .block-taken .ensures ∙ sym (judged-whole _ _ _ _ _ (lt-ltb _ _ (rw (d .before .before .pre .2) at (d .if1 .left))) (omega arith))
+    c .block-taken .ensures ∙ sym (judged-whole _ _ _ _ _ (lt-ltb _ _ (rw (d .before .before .pre .0 .2) at (d .if1 .left))) (omega arith))
 
 pub block-due-spec : {M : Type 1} → statement M
 block-due-spec =

@@ -43,14 +43,14 @@ returns-3 c =
     c .refused3 .ensures
     ∙ sym
     (judged-whole _ _ _ _ _ (le-leb _ _ (rw (s .pre .1) at (d .if1 .left))) (omega arith)
-    ∙ end-no _ _ _ (λ e. c .before .if3 .taken (f .four .ensures ∙ e ∙ sym (s .pre .1))))
+    ∙ end-no _ _ _ (λ e. c .before .if3 .taken (f .four .ensures .0 ∙ e ∙ sym (s .pre .1))))
 
 returns-4 : tie.Need-returns-4
 returns-4 c =
     let f = c .before in
     let d = f .before .before in
     let s = d .before .before in
-    let e = sym (f .four .ensures) ∙ c .if3 .left ∙ s .pre .1 in
+    let e = sym (f .four .ensures .0) ∙ c .if3 .left ∙ s .pre .1 in
     rw (s .pre .1) (sym (judged-whole _ _ _ _ _ (le-leb _ _ (rw (s .pre .1) at (d .if1 .left))) (omega arith) ∙ end-yes _ _ _ e))
 
 pub end-due-spec : {M : Type 1} → statement M
