@@ -13,7 +13,7 @@ use lib.Seq.{getD-drop}
 use borrow.Rule.Slice.PartAt.{part-to-end}
 use Rattle.base.specs.Index.{row-next, row-fits}
 use Rattle.base.specs.Sum.{sumTo, sumTo-more, sumTo-ext, sumTo-cut, sumTo-group, sumOver-ext}
-use Rattle.refusals.specs.Refusals.{blockSizeOk, block-size-elim}
+use Rattle.refusals.specs.Refusals.{blockSizeOk, block-size-elim, block-size}
 use Rattle.measures.specs.Measures.{Measure, measureOf}
 use Rattle.distortion.specs.Blocks.{row-first, row-more, rowFrom, rowsApart, rowsFrom, rowsUpTo, sumUpTo-is, sumUpTo-ext, Rows, BlockRows, BlockSum, UpTo, sizeBy}
 
@@ -80,8 +80,7 @@ getD-from a l k = ap (λ (z : List ℕ). getD z k 0) (part-to-end l a) ∙ getD-
 -- blocks that lie inside begin inside
 pub block-begins : (older newer : List ℕ) (width n a b : ℕ) → BlockRows older newer width n a b → (a ≤ length newer) × (b ≤ length older)
 block-begins older newer width n a b k =
-    let some : 0 < n = block-size-elim (λ (m : ℕ). 0 < m) (omega arith) (omega arith) (omega arith) n (k .allowed) in
-    let first = row-fits 0 n width some in
+    let first = row-fits 0 n width (omega (arith, block-size n (k .allowed) .least)) in
     (omega (arith, k .in-newer), omega (arith, k .in-older))
 
 -- the rows of blocks that begin at places a and b are the rows of two frames that begin there
@@ -124,13 +123,15 @@ block-sum measure ceiling older newer width n a b m groups d e four h =
       is = rw quarter is;
     }
 
--- a kernel that is none of the first five
-pub last-kernel : (k : ℕ) → k < 128 → T (blockSizeOk (sizeBy k)) → (k ≡ 16 → ⊥) → (k ≡ 8 → ⊥) → (k ≡ 4 → ⊥) → (k ≡ 80 → ⊥) → (k ≡ 72 → ⊥) → k ≡ 68
-last-kernel k h t a b c d e =
-    block-size-elim (λ (m : ℕ). sizeBy k ≡ m → k ≡ 68)
-    (λ q. ⊎-elim (λ i. absurd (c i)) (λ i. i) (either 4 q))
+-- a kernel that is none of the others is that of absolute differences with N 32
+pub last-kernel : (k : ℕ) → k < 128 → T (blockSizeOk (sizeBy k)) → (k ≡ 16 → ⊥) → (k ≡ 8 → ⊥) → (k ≡ 4 → ⊥) → (k ≡ 80 → ⊥) → (k ≡ 72 → ⊥)
+    → (k ≡ 68 → ⊥) → (k ≡ 96 → ⊥) → k ≡ 32
+last-kernel k h t a b c d e f g =
+    block-size-elim (λ (m : ℕ). sizeBy k ≡ m → k ≡ 32)
+    (λ q. ⊎-elim (λ i. absurd (c i)) (λ i. absurd (f i)) (either 4 q))
     (λ q. ⊎-elim (λ i. absurd (b i)) (λ i. absurd (e i)) (either 8 q))
     (λ q. ⊎-elim (λ i. absurd (a i)) (λ i. absurd (d i)) (either 16 q))
+    (λ q. ⊎-elim (λ i. i) (λ i. absurd (g i)) (either 32 q))
     (sizeBy k) t refl
   where
     either : (m : ℕ) → sizeBy k ≡ m → (k ≡ m) ⊎ (k ≡ m + 64)

@@ -14,7 +14,7 @@ use Prim.Native.Nat.{ℕ, zero, suc, _+_, _*_, _/_, _%_, _≤_, _<_}
 use mathlib.Core.Path.{_≡_, refl, ap₂}
 use mathlib.Core.Bool.{Bool, true, false, cond}
 use mathlib.Core.List.{List}
-use native.Mathlib.Nat.{add-zero, add-suc, add-mul, mul-le-mul-right}
+use native.Mathlib.Nat.{add-zero, add-suc, add-mul, mul-le-mul, mul-le-mul-right}
 use native.Mathlib.Numerals.{add-one}
 use native.Mathlib.Omega.{arith}
 use lib.Dec.{T, leb, eqb}
@@ -23,12 +23,12 @@ use borrow.Author.Tests.{leb-true, leb-false, le-leb, lt-leb, eq-eqb, ne-eqb}
 use lib.ListN.{length, getD}
 use Rattle.base.specs.Sum.{sumTo, sumTo-none, sumTo-more, sumOver, sumOver-ext, sumOver-bound}
 use Rattle.base.specs.Index.{row-fits}
-use Rattle.measures.specs.Measures.{Measure, measureOf, measure-other, most-small, pel-most}
+use Rattle.measures.specs.Measures.{Measure, measureOf, squares, measure-other, most-small, pel-most}
 use Rattle.order.specs.declared.Vector.{Vector}
 use Rattle.frame.specs.declared.Setting.{Setting}
-use Rattle.frame.specs.Pictures.{Pair, pel}
+use Rattle.frame.specs.Pictures.{Pair, pel, largestN}
 use Rattle.frame.specs.Candidates.{olderRow, olderColumn}
-use Rattle.refusals.specs.Refusals.{blockSizeOk, block-size-elim, Placed}
+use Rattle.refusals.specs.Refusals.{blockSizeOk, block-size, Placed}
 
 abbrev pub Block : Type 0
 Block = ℕ → ℕ → ℕ
@@ -221,11 +221,14 @@ block-inside older newer s y x r c k = record {
 
 -- an allowed N is small
 pub size-small : (n : ℕ) → T (blockSizeOk n) → n < 64
-size-small = block-size-elim (λ (n : ℕ). n < 64) (omega arith) (omega arith) (omega arith)
+size-small n t = omega (arith, block-size n t .most)
 
--- no distortion by either measure reaches the top of its type
+-- no distortion is larger than the largest by squares
+pub distortion-largest : (measure n : ℕ) → T (blockSizeOk n) → n * (n * measureOf measure .most) ≤ largestN * (largestN * squares .most)
+distortion-largest measure n t =
+    let s = block-size n t .most in
+    mul-le-mul s (mul-le-mul s (most-small measure))
+
+-- and so none reaches the top of its type
 pub distortion-small : (measure n : ℕ) → T (blockSizeOk n) → n * (n * measureOf measure .most) < 4294967295
-distortion-small measure n t =
-    let m = measureOf measure .most in
-    block-size-elim (λ (k : ℕ). k * (k * m) < 4294967295) (omega (arith, most-small measure)) (omega (arith, most-small measure))
-    (omega (arith, most-small measure)) n t
+distortion-small measure n t = omega (arith, distortion-largest measure n t)

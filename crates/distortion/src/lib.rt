@@ -114,7 +114,13 @@ pub fn distortion_from(
     if kernel == 72 {
         return rows_by_four(there, here, measures::SQUARES, width, 8, 2, ceiling);
     }
-    rows_by_four(there, here, measures::SQUARES, width, 4, 1, ceiling)
+    if kernel == 68 {
+        return rows_by_four(there, here, measures::SQUARES, width, 4, 1, ceiling);
+    }
+    if kernel == 96 {
+        return rows_by_four(there, here, measures::SQUARES, width, 32, 8, ceiling);
+    }
+    rows_by_four(there, here, measures::ABSOLUTE, width, 32, 8, ceiling)
 }
 
 // The distortion of the newer block at row y, column x against the older block at row r, column c.

@@ -18,13 +18,16 @@ entry e = e .before .before .before .before .before
 firsts : (s : tie.Start) → let a = s .args in (a .a ≤ length (now (a .newer))) × (a .b ≤ length (now (a .older)))
 firsts s = block-begins _ _ _ _ _ _ (s .pre .1)
 
-left : (e : tie.Else5) → entry (e .before .before .before .before) .args .kernel ≡ 68
-left e =
+left : (g : tie.Else7) → entry (g .before .before .before .before .before .before) .args .kernel ≡ 32
+left g =
+    let f = g .before in
+    let e = f .before in
     let d = e .before in
     let c = d .before in
     let b = c .before in
     let a = b .before in
     last-kernel _ (entry a .pre .0) (entry a .pre .1 .allowed) (a .if1 .left) (b .if2 .left) (c .if3 .left) (d .if4 .left) (e .if5 .left)
+    (f .if6 .left) (g .if7 .left)
 
 sub-here : tie.Need-sub-here
 sub-here c = firsts (c .before .before) .0
@@ -75,10 +78,22 @@ returns-5 : tie.Need-returns-5
 returns-5 c = rw (c .before .if5 .taken) (block-sum 2 _ _ _ _ 8 _ _ 8 2 _ refl refl (c .rows-by-four5 .ensures))
 
 rows-by-four-requires-6 : tie.Need-rows-by-four-requires-6
-rows-by-four-requires-6 c κs = by-four _ _ _ _ _ _ 4 1 (entry (c .before .before .before .before) .pre .1) (ap sizeBy (left c)) refl (omega arith)
+rows-by-four-requires-6 c κs = by-four _ _ _ _ _ _ 4 1 (entry (c .before .before .before .before .before) .pre .1) (ap sizeBy (c .if6 .taken)) refl (omega arith)
 
 returns-6 : tie.Need-returns-6
-returns-6 c = rw (left (c .before)) (block-sum 2 _ _ _ _ 4 _ _ 4 1 _ refl refl (c .rows-by-four6 .ensures))
+returns-6 c = rw (c .before .if6 .taken) (block-sum 2 _ _ _ _ 4 _ _ 4 1 _ refl refl (c .rows-by-four6 .ensures))
+
+rows-by-four-requires-7 : tie.Need-rows-by-four-requires-7
+rows-by-four-requires-7 c κs = by-four _ _ _ _ _ _ 32 8 (entry (c .before .before .before .before .before .before) .pre .1) (ap sizeBy (c .if7 .taken)) refl (omega arith)
+
+returns-7 : tie.Need-returns-7
+returns-7 c = rw (c .before .if7 .taken) (block-sum 2 _ _ _ _ 32 _ _ 32 8 _ refl refl (c .rows-by-four7 .ensures))
+
+rows-by-four-requires-8 : tie.Need-rows-by-four-requires-8
+rows-by-four-requires-8 c κs = by-four _ _ _ _ _ _ 32 8 (entry (c .before .before .before .before .before .before) .pre .1) (ap sizeBy (left c)) refl (omega arith)
+
+returns-8 : tie.Need-returns-8
+returns-8 c = rw (left (c .before)) (block-sum 1 _ _ _ _ 32 _ _ 32 8 _ refl refl (c .rows-by-four8 .ensures))
 
 pub distortion-from-spec : {M : Type 1} → statement M
 distortion-from-spec =
@@ -101,4 +116,8 @@ distortion-from-spec =
     rows-by-four-requires-5
     returns-5
     rows-by-four-requires-6
-    returns-6)
+    returns-6
+    rows-by-four-requires-7
+    returns-7
+    rows-by-four-requires-8
+    returns-8)
