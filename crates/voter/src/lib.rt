@@ -69,7 +69,10 @@ pub fn is_voter(newer: &[u8], s: Setting, y: usize, x: usize) -> bool
     if s.n == 8 {
         return differs(here, s.width, 8);
     }
-    differs(here, s.width, 4)
+    if s.n == 4 {
+        return differs(here, s.width, 4);
+    }
+    differs(here, s.width, 32)
 }
 
 // Whether grid block k of the newer frame votes.

@@ -16,10 +16,10 @@ entry h = h .before .before .before
 first : (s : tie.Start) → let a = s .args in a .y * a .s .width + a .x ≤ length (now (a .newer))
 first s = standing-begins (now (s .args .newer)) _ _ _ (s .pre)
 
-left : (e : tie.Else2) → entry (e .before .before .before .before) .args .s .n ≡ 4
+left : (e : tie.Else3) → entry (e .before .before .before .before .before .before) .args .s .n ≡ 32
 left e =
-    let s = entry (e .before .before .before .before) in
-    last-size (now (s .args .newer)) _ _ _ (s .pre) (e .before .before .if1 .left) (e .if2 .left)
+    let s = entry (e .before .before .before .before .before .before) in
+    last-size (now (s .args .newer)) _ _ _ (s .pre) (e .before .before .before .before .if1 .left) (e .before .before .if2 .left) (e .if3 .left)
 
 mul-a : tie.Need-mul-a
 mul-a c = omega (arith, first (c .before .before))
@@ -58,13 +58,23 @@ returns-2 c =
 
 differs-requires-3 : tie.Need-differs-requires-3
 differs-requires-3 c κs =
-    let s = entry (c .before .before .before .before) in
-    standing-inside (now (s .args .newer)) _ _ _ (s .pre) 4 (left c)
+    let s = entry (c .before .before .before .before .before .before) in
+    standing-inside (now (s .args .newer)) _ _ _ (s .pre) 4 (c .if3 .taken)
 
 returns-3 : tie.Need-returns-3
 returns-3 c =
-    let s = entry (c .before .before .before .before .before) in
-    standing-votes (now (s .args .newer)) _ _ _ (s .pre) 4 _ (left (c .before)) (c .differs3 .ensures)
+    let s = entry (c .before .before .before .before .before .before .before) in
+    standing-votes (now (s .args .newer)) _ _ _ (s .pre) 4 _ (c .before .if3 .taken) (c .differs3 .ensures)
+
+differs-requires-4 : tie.Need-differs-requires-4
+differs-requires-4 c κs =
+    let s = entry (c .before .before .before .before .before .before) in
+    standing-inside (now (s .args .newer)) _ _ _ (s .pre) 32 (left c)
+
+returns-4 : tie.Need-returns-4
+returns-4 c =
+    let s = entry (c .before .before .before .before .before .before .before) in
+    standing-votes (now (s .args .newer)) _ _ _ (s .pre) 32 _ (left (c .before)) (c .differs4 .ensures)
 
 pub is-voter-spec : {M : Type 1} → statement M
 is-voter-spec =
@@ -80,4 +90,6 @@ is-voter-spec =
     differs-requires-2
     returns-2
     differs-requires-3
-    returns-3)
+    returns-3
+    differs-requires-4
+    returns-4)
