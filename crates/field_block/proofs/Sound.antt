@@ -12,13 +12,13 @@ use Rattle.base.specs.Picks.{pick-few}
 use Rattle.order.specs.declared.Vector.{Vector}
 use Rattle.order.specs.Vectors.{Within, vectorCount}
 use Rattle.base.specs.AtMost.{one-most, zeros-most, append-most}
-use Rattle.measures.specs.Measures.{squares, measureOf, most-small}
+use Rattle.measures.specs.Measures.{squares}
 use Rattle.refusals.specs.declared.Request.{Request}
 use Rattle.frame.specs.Pictures.{Pair, pairOf, largestN, lastCount}
 use Rattle.frame.specs.Candidates.{Candidate, candidate, candidate-yes}
 use Rattle.refusals.specs.Cross.{crossWindow, cross as cross-is}
-use Rattle.refusals.specs.Refusals.{settingOf, blockSizeOk, block-size-elim, Requested, window-small, windowOk}
-use Rattle.distortion.specs.Blocks.{distortion, distortion-most}
+use Rattle.refusals.specs.Refusals.{settingOf, blockSizeOk, Requested, window-small, windowOk}
+use Rattle.distortion.specs.Blocks.{distortion, distortion-most, distortion-largest}
 use Rattle.search.specs.declared.SearchResult.{SearchResult}
 use Rattle.search.specs.SearchResult.{searchResult, onlyAtOne}
 use Rattle.search.specs.Target.{target}
@@ -59,9 +59,7 @@ module _ (p : Pair) (bytes : Bytes (p .older) × Bytes (p .newer)) (allowed : T 
   distortion-few y x v =
       le-trans
       (distortion-most (p .setting .measure) (p .setting .n) _ _ (λ i j hi hj. (bytes .1 _, bytes .0 _)))
-      (let h = most-small (p .setting .measure) in
-      block-size-elim (λ (n : ℕ). n * (n * measureOf (p .setting .measure) .most) ≤ largestN * (largestN * squares .most)) (omega (arith, h)) (omega (arith, h))
-      (omega (arith, h)) (p .setting .n) allowed)
+      (distortion-largest (p .setting .measure) (p .setting .n) allowed)
 
   module _ (w y x : ℕ) (small : w ≤ 16) (down : y + p .setting .n ≤ p .setting .height) (across : x + p .setting .n ≤ p .setting .width) where
     near : (v : Vector) → Candidate (p .setting) w y x v → Within 16 v

@@ -10,7 +10,7 @@ use lib.Signed.{_≤ℤ_, _<ℤ_, leZ-yes, ltZ-yes}
 use Rattle.base.specs.Sum.{sumTo-ext, sumTo-add}
 use Rattle.order.specs.declared.Vector.{Vector}
 use Rattle.order.specs.Vectors.{Within}
-use Rattle.frame.specs.Pictures.{Pair, Fitting}
+use Rattle.frame.specs.Pictures.{Pair, Fitting, lastCount}
 use Rattle.frame.specs.Grid.{blocks, blockRow, blockColumn, block-down, block-across}
 use Rattle.frame.specs.Candidates.{candidate, candidate-yes}
 use Rattle.refusals.specs.Refusals.{blockSizeOk, windowOk, thresholdOk, requestOf}
@@ -156,8 +156,8 @@ module _ (p : Pair) (w : ℕ) (f : Fine p w) where
     pub sum-dropped : droppedOver founds (blocks (p .setting)) ≡ overGrid p (λ y x. howMany (isDropped p w y x))
     sum-dropped = sumTo-ext _ _ (blocks (p .setting)) (λ k h. grid-dropped t k h)
 
-    pub sum-measured : countOver founds (blocks (p .setting)) 4 ≡ overGrid p (λ y x. howMany (isMeasured p w y x))
+    pub sum-measured : countOver founds (blocks (p .setting)) lastCount ≡ overGrid p (λ y x. howMany (isMeasured p w y x))
     sum-measured = sumTo-ext _ _ (blocks (p .setting)) (λ k h. grid-measured t k h)
 
-    pub sum-both : droppedOver founds (blocks (p .setting)) + countOver founds (blocks (p .setting)) 4 ≡ overGrid p (λ y x. howMany (candidate (p .setting) w y x))
+    pub sum-both : droppedOver founds (blocks (p .setting)) + countOver founds (blocks (p .setting)) lastCount ≡ overGrid p (λ y x. howMany (candidate (p .setting) w y x))
     sum-both = sym (sumTo-add _ _ (blocks (p .setting))) ∙ sumTo-ext _ _ (blocks (p .setting)) (λ k h. grid-adds t k h)

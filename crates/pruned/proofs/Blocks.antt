@@ -1,6 +1,6 @@
 -- A block that is ready to be searched: it has a table of its own, N is a power of two, and at a resolution that divides N no test drops the winner.
-use Prim.Native.Nat.{ℕ, _+_, _≤_, _∣_, _<_}
-use mathlib.Core.Path.{refl}
+use Prim.Native.Nat.{ℕ, _+_, _∣_, _<_}
+use mathlib.Core.Path.{ap}
 use mathlib.Core.List.{List}
 use native.Mathlib.Nat.{le-trans, mul-le-mul, mul-le-mul-right}
 use native.Mathlib.Omega.{arith}
@@ -8,7 +8,7 @@ use lib.Dec.{T}
 use lib.ListN.{length}
 use Rattle.order.specs.Preference.{preferred}
 use Rattle.frame.specs.Pictures.{Pair, largestN, lastCount}
-use Rattle.refusals.specs.Refusals.{blockSizeOk, block-size-elim}
+use Rattle.refusals.specs.Refusals.{blockSizeOk, block-size}
 use Rattle.distortion.specs.Blocks.{measureIn, distortion, newerBlock, olderBlock}
 use Rattle.frame.specs.declared.SearchBlock.{SearchBlock}
 use Rattle.search.specs.Target.{Ready}
@@ -33,17 +33,15 @@ block-fillable older newer b r =
       table = mul-le-mul {n₂ = largestN + 1} {m₂ = largestN + 1} (omega (arith, n)) (omega (arith, n));
     }
 
--- the N that are allowed, 4, 8 and 16, are powers of two
+-- the N that are allowed are powers of two
 pub block-size-power : (n : ℕ) → T (blockSizeOk n) → PowerOfTwo n
-block-size-power = block-size-elim PowerOfTwo (1, refl) (2, refl) (3, refl)
+block-size-power n t = let s = block-size n t in (s .doublings, s .power)
 
--- with at most three resolutions after N
+-- with so few resolutions after N that each has its count
 pub few-rounds : (n : ℕ) → T (blockSizeOk n) → length (resolutions n) < lastCount
-few-rounds = block-size-elim (λ n. length (resolutions n) < lastCount) (rw (resolutions-many 1) (omega arith)) (rw (resolutions-many 2) (omega arith))
-    (rw (resolutions-many 3) (omega arith))
-
-pub two-least : (n : ℕ) → T (blockSizeOk n) → 2 ≤ n
-two-least = block-size-elim (λ n. 2 ≤ n) (omega arith) (omega arith) (omega arith)
+few-rounds n t =
+    let s = block-size n t in
+    omega (arith, ap (λ k. length (resolutions k)) (s .power), resolutions-many (s .doublings), s .few)
 
 pub safe-at : (p : Pair) (y x m : ℕ) → m ∣ p .setting .n → Safe (placeDistortion p y x) (placeDistance p y x) (measureIn p .limit) m
 unfolding distortion

@@ -1,6 +1,6 @@
 -- What search 2's answer is worth. Whatever N is, dropped and finally measured are all candidates. Where N is a power of two, at a block that stands
--- wholly inside, the answer is the exhaustive best, because no test drops it, and what is dropped is strictly worse. That five counts are enough is said
--- of N 4, 8 and 16.
+-- wholly inside, the answer is the exhaustive best, because no test drops it, and what is dropped is strictly worse. That the counts are enough is said
+-- of the N that are allowed.
 use Prim.Native.Nat.{ℕ, _+_, _≤_, _<_}
 use mathlib.Core.Path.{_≡_, refl, ap, _∙_}
 use lib.Dec.{T}
@@ -47,7 +47,7 @@ module _ (p : Pair) (w y x : ℕ) where
   unfolding prunedSearch pruning
   all-counted = search-counts _ _ _ _ _ _ _
 
-  -- where N leaves at most three resolutions, five counts are enough: the last, at m = 1, is how many are finally measured
+  -- where each resolution has its count, the last of them, at m = 1, is how many are finally measured
   pub measured : length (resolutions (p .setting .n)) < lastCount → probes (prunedSearch p w y x) ≡ length (pruning p w y x .left)
   unfolding prunedSearch pruning
   measured few = last-count _ _ _ _ _ _ _ few
@@ -87,7 +87,7 @@ module _ (p : Pair) (w y x : ℕ) (power : PowerOfTwo (p .setting .n)) (small : 
       search-drops (measureIn p) (measure-lawful (p .setting .measure)) (p .setting .n) (newerBlock p y x) (λ k. olderBlock p y x (preferred k))
       (resolutions (p .setting .n)) (places (p .setting) w y x) (stillDistortion p y x) given (resolutions-divide (p .setting .n) power) i
 
--- the N that are allowed: 4, 8 and 16
+-- the N that are allowed
 module _ (p : Pair) (w y x : ℕ) (allowed : T (blockSizeOk (p .setting .n))) where
   pub pruned-probes : probes (prunedSearch p w y x) ≡ length (pruning p w y x .left)
   pruned-probes = measured p w y x (few-rounds (p .setting .n) allowed)

@@ -25,7 +25,7 @@ use Rattle.candidates.proofs.Listing.{front-take, gathered-long, listed-front}
 use Rattle.pruned_steps.specs.Memory.{Begun, measureRemaining}
 use Rattle.pruned.proofs.State.{InMemory}
 
--- the last of the five counts
+-- the last of the counts
 filled-up : (z : ℕ) (cs t : List ℕ) (slot x : ℕ) → slot ≡ lastCount → length cs ≡ countNumber → slot ≡ z + length t → take slot cs ≡ replicate z 0 ++ t
     → set cs slot x ≡ replicate (countNumber - length (t ++ (x ∷ []))) 0 ++ (t ++ (x ∷ []))
 filled-up z cs t slot x e f g h =
@@ -46,7 +46,7 @@ pub record Going (e : ℕ) (D : ℕ → ℕ) (d limit : ℕ → ℕ → ℕ) (N 
   pub testsCounted : Counted (pick p vectorCount) state
   pub ahead : prune e D d limit N (resolutions N) (pick p vectorCount) ≡ rounds D d limit (halvings m) state
   pub divides : (i : ℕ) → i ∈ halvings m → i ∣ N
-  pub slots : r .slot + length (halvings m) ≡ 4
+  pub slots : r .slot + length (halvings m) ≡ lastCount
   pub wide : length dist ≡ vectorCount
 
 module _ (e : ℕ) (D : ℕ → ℕ) (d limit : ℕ → ℕ → ℕ) (N : ℕ) (p : ℕ → Bool) where
@@ -69,7 +69,7 @@ module _ {e : ℕ} {D : ℕ → ℕ} {d limit : ℕ → ℕ → ℕ} {N : ℕ} {
   pub going-few : r .count ≤ length (pick p vectorCount)
   going-few = omega (arith, g .held .many, counted-length (g .testsCounted))
 
-  pub going-room : 2 ≤ m → r .slot < 4
+  pub going-room : 2 ≤ m → r .slot < lastCount
   going-room h = omega (arith, g .slots, ap length (halvings-more m h))
 
   pub going-divides : 2 ≤ m → m ∣ N
@@ -111,10 +111,10 @@ module _ {e : ℕ} {D : ℕ → ℕ} {d limit : ℕ → ℕ → ℕ} {N : ℕ} {
   going-last all h same =
       let at-end : ended e D d limit N p ≡ g .state = g .ahead ∙ rounds-none D d limit m (g .state) h in
       let last : r .slot ≡ lastCount = omega (arith, g .slots, ap length (halvings-none m h)) in
-      let five = filled-up (g .unused) (r .counts) (g .state .tested) (r .slot) (r .count) last (g .held .five) (g .held .slot) (g .held .tested) in
+      let all-counts = filled-up (g .unused) (r .counts) (g .state .tested) (r .slot) (r .count) last (g .held .counts-many) (g .held .slot) (g .held .tested) in
       let gone : all - r .count ≡ length (g .state .dropped) = omega (arith, g .held .many, counted-length (g .testsCounted)) in
       rw (at-end, g .held .left, gone, g .held .many)
-      (ap (λ (cs : List ℕ). searchResult (preferred (leastOf D (g .state .left))) (D (leastOf D (g .state .left))) cs (length (g .state .dropped))) five)
+      (ap (λ (cs : List ℕ). searchResult (preferred (leastOf D (g .state .left))) (D (leastOf D (g .state .left))) cs (length (g .state .dropped))) all-counts)
 
 -- those that remain are candidates
 pub going-listed : {e : ℕ} {D : ℕ → ℕ} {d limit : ℕ → ℕ → ℕ} {N : ℕ} {b : SearchBlock} {m : ℕ} {remaining dist : List ℕ} {r : PruneState}
@@ -142,8 +142,8 @@ module _ (e : ℕ) (D : ℕ → ℕ) (N : ℕ) (b : SearchBlock) {before remaini
       many = sym (f .count ∙ a .many);
       left = rw (f .count) (front-take a);
       slot = omega arith;
-      five = ap length (f .counts);
-      tested = rw (f .counts) (take-zeros (r .slot) 5 (omega (arith, f .slot)) ∙ sym (append-nil _));
+      counts-many = ap length (f .counts);
+      tested = rw (f .counts) (take-zeros (r .slot) countNumber (omega (arith, f .slot)) ∙ sym (append-nil _));
     }
 
     -- after the test at N the rounds from N / 2 on lead to the end

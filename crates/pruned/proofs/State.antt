@@ -22,14 +22,14 @@ use Rattle.candidates.proofs.Listing.{front-take, front-long}
 use Rattle.pruned_remaining.proofs.Listing.{within-few, swept-long, Stored, filled-is, nearest-filled, within-filled}
 use Rattle.pruned_steps.specs.Memory.{testsCounted, recounted, bounded, Leveled}
 
--- the search stands at s, with z of the five counts unused; E is kept as long as more than one candidate remains
+-- the search stands at s, with z of the counts unused; E is kept as long as more than one candidate remains
 pub record InMemory (z : ℕ) (s : Pruning) (remaining : List ℕ) (r : PruneState) : Type 0 where
   pub long : length remaining ≡ vectorCount
   pub bound : 1 < r .count → r .bound ≡ s .bound
   pub many : length (s .left) ≡ r .count
   pub left : take (r .count) remaining ≡ s .left
   pub slot : r .slot ≡ z + length (s .tested)
-  pub five : length (r .counts) ≡ countNumber
+  pub counts-many : length (r .counts) ≡ countNumber
   pub tested : take (r .slot) (r .counts) ≡ replicate z 0 ++ s .tested
 
 -- E lowered to the distortion of the nearest
@@ -45,7 +45,7 @@ lower-done D d m {z} {s} {remaining} {dist} {r} h more few g =
       many = h .many;
       left = h .left;
       slot = h .slot;
-      five = h .five;
+      counts-many = h .counts-many;
       tested = h .tested;
     }
 
@@ -55,9 +55,9 @@ count-done : {z : ℕ} {s : Pruning} {remaining : List ℕ} {r : PruneState} →
     (testsCounted r .slot ≡ z + length tested) × (length (testsCounted r .counts) ≡ countNumber)
     × (take (testsCounted r .slot) (testsCounted r .counts) ≡ replicate z 0 ++ tested)
 count-done {z} {s} {remaining} {r} h l =
-    let room : r .slot < length (r .counts) = omega (arith, h .five) in (
+    let room : r .slot < length (r .counts) = omega (arith, h .counts-many) in (
       omega (arith, h .slot, length-append (s .tested) (length (s .left) ∷ [])),
-      length-set (r .counts) (r .slot) _ ∙ h .five,
+      length-set (r .counts) (r .slot) _ ∙ h .counts-many,
       rw (add-one (r .slot), take-suc-set, h .tested, h .many) (append-assoc (replicate z 0) (s .tested) (r .count ∷ [])),
     )
 
@@ -81,7 +81,7 @@ sift-done d limit m {z} {s} {remaining} {dist} {after} {r} {k} h e few l g f =
       many = sym (f .many ∙ ap length w);
       left = front-take f ∙ w;
       slot = c .0;
-      five = c .1;
+      counts-many = c .1;
       tested = c .2;
     }
 
@@ -109,7 +109,7 @@ sift-alone D d limit m {z} {s} {remaining} {r} h one l some =
       many = ap length stays ∙ h .many;
       left = h .left ∙ sym stays;
       slot = c .0;
-      five = c .1;
+      counts-many = c .1;
       tested = c .2;
     }
 

@@ -1,10 +1,10 @@
--- The search window holds every candidate's older block, as all of the frame does; and its summed-area table has at most 49 × 49 places.
+-- The search window holds every candidate's older block, as all of the frame does; and its summed-area table has at most 65 × 65 places.
 use Prim.Native.Nat.{ℕ, _+_, _*_, _≤_, _<_}
 use mathlib.Core.List.{List}
 use native.Mathlib.Nat.{le-trans, mul-le-mul, mul-le-mul-right}
 use native.Mathlib.Omega.{arith}
 use lib.ListN.{length}
-use Rattle.refusals.specs.Refusals.{block-size-elim}
+use Rattle.refusals.specs.Refusals.{block-size}
 use Rattle.frame.specs.Pictures.{largestN}
 use Rattle.frame.specs.declared.SearchBlock.{SearchBlock}
 use Rattle.frame.specs.declared.Region.{Region}
@@ -71,4 +71,4 @@ module _ (older newer : List ℕ) (b : SearchBlock) (r : Ready older newer b) wh
       record { down = p .down; across = p .across; high = p .paired .fitting .high; wide = p .paired .fitting .wide; window = r .window }
 
   pub ready-size : b .setting .n ≤ largestN
-  ready-size = block-size-elim (λ n. n ≤ largestN) (omega arith) (omega arith) (omega arith) (b .setting .n) (r .placed .paired .allowed)
+  ready-size = block-size (b .setting .n) (r .placed .paired .allowed) .most

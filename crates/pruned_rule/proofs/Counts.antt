@@ -54,7 +54,7 @@ tested-rounds D dist limit [] s = omega arith
 tested-rounds D dist limit (m ∷ ms) s =
     omega (arith, tested-rounds D dist limit ms (sift dist limit m (lower D dist m s)), length-append (s .tested) (length (s .left) ∷ []))
 
--- the last of at most five counts, with zeros in front
+-- the last of the counts, with zeros in front
 last-of-counts : (t : List ℕ) (l : ℕ) → length t ≤ lastCount → getD (replicate (countNumber - length (t ++ (l ∷ []))) 0 ++ (t ++ (l ∷ []))) lastCount 0 ≡ l
 last-of-counts t l h =
     let e : countNumber - length (t ++ (l ∷ [])) + length t ≡ lastCount = omega (arith, length-append t (l ∷ [])) in

@@ -40,7 +40,7 @@ halves-divide (suc n) (suc j) {m} i =
     (λ r. dvd-trans m (halves-divide n j (subst (λ (x : ℕ). m ∈ halves n x) (half-pow j) r)) (pow-dvd j))
     (in-cond (ltb (2 ^ suc j) 2) i)
 
--- a power of two from 2 on: 4, 8 and 16 are such, and so is 32
+-- a power of two from 2 on, as each allowed N is
 abbrev pub PowerOfTwo : ℕ → Type 0
 PowerOfTwo N = (j : ℕ) × (N ≡ 2 ^ suc j)
 
@@ -76,7 +76,7 @@ unfolding halves
 halvings-none zero h = refl
 halvings-none (suc n) h = ap (λ (t : Bool). cond t [] (suc n ∷ halves n (suc n / 2))) (lt-ltb (suc n) 2 h)
 
--- after N = 2 ^ (j + 1) there are j resolutions: of the five counts, two more are N's own and that at m = 1
+-- after N = 2 ^ (j + 1) there are j resolutions: of the counts, two more are N's own and that at m = 1
 pub resolutions-many : (j : ℕ) → length (resolutions (2 ^ suc j)) ≡ j
 resolutions-many zero = rw (half-pow 0, halvings-none 1 (omega arith))
 resolutions-many (suc j) =

@@ -57,7 +57,8 @@ prune e D dist limit N ms ks = rounds D dist limit ms (sift dist limit N (allRem
 unfoldable pub prunedBest : (e : ℕ) (D : ℕ → ℕ) (dist limit : ℕ → ℕ → ℕ) (N : ℕ) (ms ks : List ℕ) → ℕ
 prunedBest e D dist limit N ms ks = leastOf D (prune e D dist limit N ms ks .left)
 
--- "five counts, for m = 16, 8, 4, 2, 1. Unused ones are 0": the last is how many were finally measured
+-- "five counts, for m = 16, 8, 4, 2, 1. Unused ones are 0", and 02, request 4: "Counts become six, for m = 32 first". The last is how many were finally
+-- measured
 unfoldable pub counts : Pruning → List ℕ
 counts s = let c = s .tested ++ (length (s .left) ∷ []) in replicate (countNumber - length c) 0 ++ c
 

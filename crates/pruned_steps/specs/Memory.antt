@@ -1,7 +1,7 @@
 -- What code holds between the steps of search 2: the remaining candidates' places in front of an array `remaining`, E and the counts in a struct
 -- `PruneState`.
 --   stillDistortion    the distortion of (0,0), with which E begins
---   firstSlot          where the count at N stands among the five: they end with that, those at the resolutions after N and the one at m = 1
+--   firstSlot          where the count at N stands among the six: they end with that, those at the resolutions after N and the one at m = 1
 --   Begun              before the first test: all candidates, E the distortion of (0,0), no count
 --   recounted          after counting the tests at a resolution, k candidates remaining; testsCounted: all of them
 --   bounded            E lowered to e, if that is less

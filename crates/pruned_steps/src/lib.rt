@@ -30,7 +30,7 @@ pub struct PruneState {
     pub counts: [u32; frame::COUNTS],
 }
 
-// Where the count of the tests at N stands among the five: log2 N places before the last, which is for m = 1.
+// Where the count of the tests at N stands among the six: log2 N places before the last, which is for m = 1.
 fn first_slot(n: usize) -> usize
     requires { ⌜ T (blockSizeOk n) ⌝ }
     ensures { λ r. ⌜ r ≡ firstSlot n ⌝ }

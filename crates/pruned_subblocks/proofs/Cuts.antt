@@ -106,8 +106,8 @@ module _ (a g : Block) (rows columns m k : ℕ) (block steps sums : List ℕ) (t
     -- of bytes, and N at most the largest: the numbers fit the code's
     pub compared : ((i j : ℕ) → a i j ≤ 255) → ((i j : ℕ) → g i j ≤ 255) → 2 ≤ m → m ≤ largestN → k * m ≤ largestN
         → Compared block steps sums (m * (columns + 1)) m (k * k) (corner r c)
-    compared ab gb two side sixteen = record {
-      few = squares-few k m two sixteen;
+    compared ab gb two side size = record {
+      few = squares-few k m two size;
       side = side;
       sums-long = cut .sums-long;
       steps-long = cut .steps-long;

@@ -2,9 +2,10 @@
 use Prim.Native.Nat.{_≤_}
 use mathlib.Core.List.{List·Memᴰ·tail}
 use mathlib.Core.Path.{_≡_, refl, sym, ap, _∙_}
-use native.Mathlib.Nat.{dvd-refl, div-mul-cancel}
+use native.Mathlib.Nat.{le-trans, dvd-refl, div-mul-cancel}
 use native.Mathlib.Omega.{arith}
 use borrow.Author.Needs.{needs}
+use lib.Dec.{lit≤}
 use lib.ListN.{length}
 use denote.Ref.{now}
 use Rattle.base.specs.Picks.{pick}
@@ -12,6 +13,7 @@ use Rattle.measures.specs.Measures.{measureOf}
 use Rattle.order.proofs.Order.{first-still}
 use Rattle.order.specs.Vectors.{vectorCount}
 use Rattle.frame.specs.Pictures.{pairOf}
+use Rattle.refusals.specs.Refusals.{block-size}
 use Rattle.pruned_region.proofs.Windows.{ready-size}
 use Rattle.pruned_subblocks.specs.Squares.{BlockSums}
 use Rattle.pruned_sums.specs.Area.{sums-of}
@@ -24,7 +26,7 @@ use Rattle.pruned.specs.Answer.{pruning, prunedPlace, prunedSearch}
 use Rattle.pruned_distance.specs.Remaining.{distanceOf}
 use Rattle.candidates.specs.Gathered.{candidateAt}
 use Rattle.candidates.specs.Chosen.{distortionOf}
-use Rattle.pruned.proofs.Blocks.{block-fillable, block-size-power, few-rounds, two-least, safe-at}
+use Rattle.pruned.proofs.Blocks.{block-fillable, block-size-power, few-rounds, safe-at}
 use Rattle.candidates.proofs.Listing.{gathered-few, gathered-long, gathered-listed}
 use Rattle.pruned_remaining.proofs.Listing.{filled-is}
 use Rattle.pruned.proofs.State.{sift-done, level-done, level-wide}
@@ -102,7 +104,7 @@ fill-distances-requires c κs =
       record {
         lent = l;
         whole = div-mul-cancel _ (dvd-refl _);
-        two = two-least _ (l .ready .placed .paired .allowed);
+        two = le-trans (lit≤ tt) (block-size _ (l .ready .placed .paired .allowed) .least);
         listed = gathered-listed _ (g .gather .ensures) refl;
       },
       block-sums o,

@@ -1,25 +1,26 @@
 -- `first_slot`: N has log2 N - 1 resolutions after it.
 use Prim.Native.Nat.{ℕ, _-_, _≤_}
-use mathlib.Core.Path.{_≡_, refl}
+use mathlib.Core.Path.{_≡_, ap}
 use native.Mathlib.Omega.{arith}
 use borrow.Author.Needs.{needs}
-use lib.Count.{trailingZeros}
 use lib.Dec.{T}
+use lib.ListN.{length}
 use Rattle.frame.specs.Pictures.{lastCount}
 use Rattle.refusals.specs.Cross.{log2}
-use Rattle.refusals.specs.Refusals.{blockSizeOk, block-size-elim}
-use Rattle.pruned_rule.specs.Prune.{halves}
+use Rattle.refusals.specs.Refusals.{blockSizeOk, block-size}
+use Rattle.pruned_rule.specs.Prune.{resolutions}
+use Rattle.pruned_rule.proofs.Search.{resolutions-many}
 use Rattle.pruned_steps.specs.Memory.{firstSlot}
 use Rattle.pruned_steps.proofs.first_slot.Statement.{statement}
 use Rattle.pruned_steps.proofs.first_slot.Tie as tie
 
-few : (n : ℕ) → T (blockSizeOk n) → log2 n ≤ 4
-unfolding trailingZeros
-few = block-size-elim (λ n. log2 n ≤ 4) (omega arith) (omega arith) (omega arith)
+few : (n : ℕ) → T (blockSizeOk n) → log2 n ≤ lastCount
+few n t = let s = block-size n t in omega (arith, s .log, s .few)
 
 slot : (n : ℕ) → T (blockSizeOk n) → lastCount - log2 n ≡ firstSlot n
-unfolding halves trailingZeros
-slot = block-size-elim (λ n. lastCount - log2 n ≡ firstSlot n) refl refl refl
+slot n t =
+    let s = block-size n t in
+    omega (arith, s .log, ap (λ k. length (resolutions k)) (s .power), resolutions-many (s .doublings))
 
 log2-window-requires : tie.Need-log2-window-requires
 log2-window-requires c κs = search needs
