@@ -47,7 +47,7 @@ tableOf older s = summed (blockAt older (s .width) 0 0) (s .height) (s .width)
 
 -- ---- the answer
 
--- the count at place i of five (m = 16, 8, 4, 2, 1), over the first n blocks
+-- the count at place i of six (m = 32, 16, 8, 4, 2, 1), over the first n blocks
 abbrev pub countOver : (ℕ → SearchResult) → ℕ → ℕ → ℕ
 countOver found n i = sumTo (λ k. getD (found k .counts) i 0) n
 

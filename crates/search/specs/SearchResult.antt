@@ -1,8 +1,8 @@
 -- 01, "The four searches": "The result of a search carries a vector, a distortion and five counts, for m = 16, 8, 4, 2, 1. Unused ones are 0.
--- It also carries the number dropped".
+-- It also carries the number dropped". 02, request 4: "Counts become six, for m = 32 first".
 --   searchResult    the answer of a search that was not refused
 --   refusedSearch   the answer of a refused one: the number, and zeros elsewhere
---   onlyAtOne       the five counts of a search that counts at m = 1 alone
+--   onlyAtOne       the counts of a search that counts at m = 1 alone
 --   vectorIn        the vector of an answer
 --   probes          its count at m = 1
 use Prim.Native.Nat.{ℕ}

@@ -10,7 +10,7 @@ ghost use Rattle.search.specs.Target.{Ready, Past, targetOf, measureCand
 use frame::Older;
 use frame::SearchBlock;
 
-// What a search answers: a vector, its distortion, five counts for m = 16, 8, 4, 2, 1, and the number dropped.
+// What a search answers: a vector, its distortion, six counts for m = 32, 16, 8, 4, 2, 1, and the number dropped.
 #[repr(C)]
 pub struct SearchResult {
     pub refusal: u32,
