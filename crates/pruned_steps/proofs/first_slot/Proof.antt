@@ -29,7 +29,7 @@ cast-result : tie.Need-cast-result
 cast-result c = search needs
 
 sub-result : tie.Need-sub-result
-sub-result c = rw (c .log2-window .ensures) (few _ (c .before .pre))
+sub-result c = omega (arith, c .log2-window .ensures, few _ (c .before .pre))
 
 returns : tie.Need-returns
 returns c = rw (c .log2-window .ensures) (slot _ (c .before .pre))
