@@ -11,7 +11,7 @@ use native.Mathlib.Numerals.{add-one}
 use native.Mathlib.Omega.{arith}
 use borrow.Author.Tests.{le-leb, eq-eqb}
 use lib.IntN.{pos}
-use lib.ListN.{length, getD}
+use lib.ListN.{length}
 use Rattle.log_head.specs.declared.Head.{Head}
 use Rattle.log.specs.declared.Phase.the-variants.{Body, Ended}
 use Rattle.log.specs.declared.Cursor.{Cursor}
@@ -159,7 +159,7 @@ begun log = go (stepAt log startCursor) (kinds log startCursor)
         → let h = commandHead (s .command) in
         (headRefusal h ≡ 0) × (commandSize (Cmd.Head h) ≤ length log) × (s ≡ commandStep (Cmd.Head h) 0 (Body h 0))
     go s (Cases.refused number place a b w) e = let z : _≡_ {A = ℕ} 0 1 = cc in absurd (omega arith)
-    go s (Cases.head q t r) e = (r, t .room, refl)
+    go s (Cases.head q t r) e = (r, omega (arith, t .room), refl)
     go s (Cases.block h k q r g t o u) e = let z : _≡_ {A = ℕ} 0 1 = cc in absurd (omega arith)
     go s (Cases.still h k q r g t) e = let z : _≡_ {A = ℕ} 0 1 = cc in absurd (omega arith)
     go s (Cases.end h k q r g t n) e = let z : _≡_ {A = ℕ} 0 1 = cc in absurd (omega arith)
@@ -183,6 +183,7 @@ acceptedLog log e =
     go s (Cases.head q t r) i is e =
         let h = headIn log 0 in
         let from = commandSize (Cmd.Head h) in
+        let z : 0 + from ≡ from = omega arith in
         record {
           begins = t;
           is = i;
@@ -190,9 +191,9 @@ acceptedLog log e =
           commands = commandsFrom (length log) log (body log h r from 0);
           rest =
               rw i
-              (walked-all log h r (length log) from 0 (omega arith) (t .room) (omega arith)
-              (sym (ap commandNumber (last-after _ (length log) log (body log h r from 0) (omega arith))) ∙ e));
-          whole = rw i is;
+              (walked-all log h r (length log) from 0 (omega arith) (rw z at (t .room)) (omega arith)
+              (sym (ap commandNumber (last-after _ (length log) log (body log h r from 0) (omega arith))) ∙ (rw z at e)));
+          whole = rw i (rw z at is);
         }
     go s (Cases.block h k q r g t o u) i is e = let z : _≡_ {A = ℕ} 0 1 = cc in absurd (omega arith)
     go s (Cases.still h k q r g t) i is e = let z : _≡_ {A = ℕ} 0 1 = cc in absurd (omega arith)

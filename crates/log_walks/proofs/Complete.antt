@@ -85,7 +85,7 @@ complete h list ok entries =
     let from = listTo-from (blockCommand list) (headBlocks h) in
     call-on (length log + 1) log startCursor (Cmd.Head h) _ (omega arith) (head-step h rest ok) refl
     ∙ ap (_∷_ (Cmd.Head h))
-    (rest-walked h list ok entries log (headBlocks h) (commandSize (Cmd.Head h)) 0 (length log + 1 - 1) (omega arith) (omega arith)
-    (ap (λ (cs : List Command). flatMap commandBytes (cs ++ end)) from)
+    (rest-walked h list ok entries log (headBlocks h) (0 + commandSize (Cmd.Head h)) 0 (length log + 1 - 1) (omega arith) (omega arith)
+    (behind log 0 (commandBytes (Cmd.Head h)) rest refl ∙ ap (λ (cs : List Command). flatMap commandBytes (cs ++ end)) from)
     ∙ ap (λ (cs : List Command). cs ++ (Cmd.End (headBlocks h) ∷ Cmd.Refused 34 0 ∷ [])) (sym from)
     ∙ sym (append-assoc blocks end (Cmd.Refused 34 0 ∷ [])))

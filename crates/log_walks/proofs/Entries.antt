@@ -1,5 +1,5 @@
 -- Each block of an accepted log is one that 16 lets pass: a block command was tested, and (0,0) with distortion 0 always passes.
-use Prim.Native.Nat.{ℕ, zero, suc, _+_, _*_, _<_}
+use Prim.Native.Nat.{ℕ, zero, suc, _+_, _<_}
 use mathlib.Core.Path.{_≡_}
 use mathlib.Core.List.{List, _∷_, flatMap}
 use mathlib.Core.Bool.{true}
@@ -14,7 +14,7 @@ use Rattle.order.specs.Vectors.{vec}
 use Rattle.log_head.specs.declared.Head.{Head}
 use Rattle.log_command.specs.declared.Command.{Command}
 use Rattle.log_command.specs.Commands.{commandNumber, blockValues}
-use Rattle.log_head.specs.Heads.{settingIn, headRefusal, headed, headBlocks, entryOk}
+use Rattle.log_head.specs.Heads.{settingIn, largestIn, headRefusal, headed, headBlocks, entryOk}
 use Rattle.log_list.specs.Listed.{valueOf}
 use Rattle.log.specs.Walk.{walk, logHead, lastOf}
 use Rattle.log_walks.proofs.Accepted.{AcceptedFrom, last, block, still, acceptedLog}
@@ -28,7 +28,7 @@ still-ok h ok k l =
     let f = headed h ok .fitting in
     let t = still-candidate s (h .w) (blockRow s k) (blockColumn s k) (block-down s f k l) (block-across s f k l) in
     let c = T-true (candidate s (h .w) (blockRow s k) (blockColumn s k) (vec (pos 0) (pos 0))) t in
-    rw (c, le-leb 0 (255 * (h .n * h .n)) (omega arith))
+    rw (c, le-leb 0 (largestIn h) (omega arith))
 
 -- what holds of the three numbers of block i of a list
 abbrev Passes : Head → ℕ → List ℤ → ℕ → Type 0

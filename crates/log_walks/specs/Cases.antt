@@ -4,26 +4,26 @@
 --   Kind     the outcomes: refused; a head, a block, a still block, the end
 --   kinds    every call has one of them
 use Prim.Native.Nat.{ℕ, _+_, _≤_, _<_}
-use mathlib.Core.Path.{_≡_, refl}
+use mathlib.Core.Path.{_≡_, refl, ap, sym, _∙_}
 use mathlib.Core.List.{List}
-use mathlib.Core.Bool.{Bool, true, false, cond, not, _&&_}
+use mathlib.Core.Bool.{Bool, true, false, cond, not, _&&_, _||_}
 use native.Mathlib.Omega.{arith}
 use lib.ListN.{length, getD}
 use lib.Dec.{leb, ltb, eqb}
-use lib.IntN.{pos}
+use lib.IntN.{ℤ, pos}
 use borrow.Author.Tests.{ltb-true, ltb-false, leb-true, eqb-true}
 use Rattle.log_head.specs.declared.Head.{Head}
 use Rattle.log_head.specs.Heads.{headRefusal, headOk, headBlocks, entryOk, isStill}
 use Rattle.log_command.specs.declared.Command.{Command}
 use Rattle.log_command.specs.declared.Command.the-variants as Cmd
 use Rattle.log_command.specs.Numbers.{be4}
-use Rattle.log_command.specs.Commands.{commandNumber, commandSize}
+use Rattle.log_command.specs.Commands.{commandNumber, commandSize, sizeBy, head-size, block-size}
 use Rattle.log_command.specs.Operands.{headIn, dyIn, dxIn, distortionIn, blockIn}
 use Rattle.log.specs.declared.Phase.{Phase}
 use Rattle.log.specs.declared.Phase.the-variants.{Start, Body, Ended, Over}
 use Rattle.log.specs.declared.Cursor.{Cursor}
 use Rattle.log.specs.declared.WalkStep.{WalkStep}
-use Rattle.log.specs.Step.{judged, headTaken, headDue, blockTaken, blockDue, stillDue, endTaken, endDue, startCommand, bodyCommand}
+use Rattle.log.specs.Step.{judged, taken, headTaken, headDue, blockPasses, blockTaken, blockDue, stillDue, endTaken, endDue, startCommand, bodyCommand}
 use Rattle.log.specs.Step.{refusedStep, commandStep, stepOf, standingOk, bodyStep, byPhase, stepAt, standing-head, standing-blocks}
 
 -- "34 walker called after a refusal, or after its end with no byte left, or one built by hand"
@@ -83,22 +83,43 @@ module _ (log : List ℕ) (at : ℕ) (inside : at ≤ length log) where
       go true e false f = away phase 13 (omega arith) (omega arith)
       go false e b f = away phase 14 (omega arith) (omega arith)
 
+  taken-kind : (phase counted : Phase) (passes : Bool) (command : Command) (refusal : ℕ) → 13 ≤ refusal → refusal < 34
+      → (passes ≡ true → getD log at 0 ≡ commandNumber command → Kind log (in-phase phase) (stepOf command at counted))
+      → Kind log (in-phase phase) (stepOf (taken passes command refusal log at) at counted)
+  unfolding taken
+  taken-kind phase counted passes command refusal l m k = go passes refl (eqb (getD log at 0) (commandNumber command)) refl
+    where
+      go : (a : Bool) → passes ≡ a → (b : Bool) → eqb (getD log at 0) (commandNumber command) ≡ b
+          → Kind log (in-phase phase) (stepOf (cond (a && b) command (Cmd.Refused refusal at)) at counted)
+      go true e true f = k e (eqb-true _ _ f)
+      go true e false f = away phase refusal l m
+      go false e b f = away phase refusal l m
+
+  -- a command under its own number has room where the number's size has
+  standing-in : (command : Command) → commandSize command ≡ sizeBy (commandNumber command) → getD log at 0 ≡ commandNumber command
+      → at + sizeBy (getD log at 0) ≤ length log → Stands log at command
+  standing-in command s e f = let q : commandSize command ≡ sizeBy (getD log at 0) = s ∙ sym (ap sizeBy e) in record { byte = e; room = rw q f }
+
   -- ---- at the start
 
   start-kind : Kind log (in-phase Start) (stepOf (startCommand log at) at Over)
-  unfolding startCommand headTaken
-  start-kind = go (leb (length log) at) (eqb (getD log at 0) 1) refl
+  unfolding startCommand
+  start-kind = go (leb (length log) at) (eqb byte 1 || eqb byte 6)
     where
-      taken : getD log at 0 ≡ 1 → at + 8 ≤ length log → (a : Bool) → headOk (headIn log at) ≡ a
-          → Kind log (in-phase Start) (stepOf (cond a (Cmd.Head (headIn log at)) (Cmd.Refused 15 at)) at Over)
-      taken e f true g = head refl (record { byte = e; room = f }) (eqb-true _ _ g)
-      taken e f false g = away Start 15 (omega arith) (omega arith)
+      byte : ℕ
+      byte = getD log at 0
 
-      go : (t b : Bool) → eqb (getD log at 0) 1 ≡ b
-          → Kind log (in-phase Start) (stepOf (cond t (Cmd.Refused 13 at) (cond b (headDue log at) (Cmd.Refused 14 at))) at Over)
-      go true b e = away Start 13 (omega arith) (omega arith)
-      go false true e = judged-kind Start Over true 8 (headTaken log at) (λ d f. taken (eqb-true _ _ e) f (headOk (headIn log at)) refl)
-      go false false e = away Start 14 (omega arith) (omega arith)
+      h : Head
+      h = headIn log at
+
+      go : (t b : Bool) → Kind log (in-phase Start) (stepOf (cond t (Cmd.Refused 13 at) (cond b (headDue log at) (Cmd.Refused 14 at))) at Over)
+      go true b = away Start 13 (omega arith) (omega arith)
+      go false true =
+          judged-kind Start Over true (sizeBy byte) (headTaken log at)
+          (λ d f.
+          taken-kind Start Over (headOk h) (Cmd.Head h) 15 (omega arith) (omega arith)
+          (λ g e. head refl (standing-in (Cmd.Head h) (head-size h) e f) (eqb-true _ _ g)))
+      go false false = away Start 14 (omega arith) (omega arith)
 
   -- ---- among the blocks
 
@@ -106,21 +127,29 @@ module _ (log : List ℕ) (at : ℕ) (inside : at ≤ length log) where
     abbrev counted : Phase
     counted = Body h (k + 1)
 
-    block-kind : getD log at 0 ≡ 2 → Kind log (in-phase (Body h k)) (stepOf (blockDue log at h k) at counted)
-    unfolding blockTaken
-    block-kind e =
-        judged-kind (Body h k) counted (ltb k (headBlocks h)) 5 (blockTaken log at h k)
+    block-kind : Kind log (in-phase (Body h k)) (stepOf (blockDue log at h k) at counted)
+    block-kind =
+        judged-kind (Body h k) counted (ltb k (headBlocks h)) (sizeBy (getD log at 0)) (blockTaken log at h k)
         (λ d f.
-        go (ltb-true _ _ d) f (entryOk h k (dyIn log at) (dxIn log at) (pos (distortionIn log at))) refl
-        (isStill (dyIn log at) (dxIn log at) (pos (distortionIn log at)))
-        refl)
+        taken-kind (Body h k) counted (blockPasses h k dy dx distortion) (blockIn log at) 16 (omega arith) (omega arith)
+        (λ g e. go (ltb-true _ _ d) (standing-in (blockIn log at) (block-size dy dx distortion) e f) (entryOk h k dy dx (pos distortion)) refl
+        (isStill dy dx (pos distortion)) refl g))
       where
-        go : k < headBlocks h → at + 5 ≤ length log → (a : Bool) → entryOk h k (dyIn log at) (dxIn log at) (pos (distortionIn log at)) ≡ a
-            → (b : Bool) → isStill (dyIn log at) (dxIn log at) (pos (distortionIn log at)) ≡ b
-            → Kind log (in-phase (Body h k)) (stepOf (cond (a && not b) (blockIn log at) (Cmd.Refused 16 at)) at counted)
-        go d f true g true j = away (Body h k) 16 (omega arith) (omega arith)
-        go d f true g false j = block h k refl (standing-head h k s) d (record { byte = e; room = f }) g j
-        go d f false g b j = away (Body h k) 16 (omega arith) (omega arith)
+        dy : ℤ
+        dy = dyIn log at
+
+        dx : ℤ
+        dx = dxIn log at
+
+        distortion : ℕ
+        distortion = distortionIn log at
+
+        go : k < headBlocks h → Stands log at (blockIn log at) → (a : Bool) → entryOk h k dy dx (pos distortion) ≡ a
+            → (b : Bool) → isStill dy dx (pos distortion) ≡ b → (a && not b) ≡ true
+            → Kind log (in-phase (Body h k)) (stepOf (blockIn log at) at counted)
+        go d f true g false j e = block h k refl (standing-head h k s) d f g j
+        go d f true g true j e = let z : _≡_ {A = ℕ} 0 1 = cc in absurd (omega arith)
+        go d f false g b j e = let z : _≡_ {A = ℕ} 0 1 = cc in absurd (omega arith)
 
     still-kind : getD log at 0 ≡ 3 → Kind log (in-phase (Body h k)) (stepOf (stillDue log at h k) at counted)
     still-kind e =
@@ -140,20 +169,23 @@ module _ (log : List ℕ) (at : ℕ) (inside : at ≤ length log) where
 
     body-kind : Kind log (in-phase (Body h k)) (bodyStep log at h k)
     unfolding bodyCommand
-    body-kind = go (leb (length log) at) (eqb (getD log at 0) 2) refl (eqb (getD log at 0) 3) refl (eqb (getD log at 0) 4) refl
+    body-kind = go (leb (length log) at) (eqb byte 2 || eqb byte 5) (eqb byte 3) refl (eqb byte 4) refl
       where
-        go : (t b2 : Bool) → eqb (getD log at 0) 2 ≡ b2 → (b3 : Bool) → eqb (getD log at 0) 3 ≡ b3 → (b4 : Bool) → eqb (getD log at 0) 4 ≡ b4
+        byte : ℕ
+        byte = getD log at 0
+
+        go : (t b : Bool) (b3 : Bool) → eqb byte 3 ≡ b3 → (b4 : Bool) → eqb byte 4 ≡ b4
             → Kind log (in-phase (Body h k))
             (stepOf
             (cond t (Cmd.Refused 13 at)
-            (cond b2 (blockDue log at h k) (cond b3 (stillDue log at h k) (cond b4 (endDue log at h k) (Cmd.Refused 14 at)))))
+            (cond b (blockDue log at h k) (cond b3 (stillDue log at h k) (cond b4 (endDue log at h k) (Cmd.Refused 14 at)))))
             at
             counted)
-        go true b2 e2 b3 e3 b4 e4 = away (Body h k) 13 (omega arith) (omega arith)
-        go false true e2 b3 e3 b4 e4 = block-kind (eqb-true _ _ e2)
-        go false false e2 true e3 b4 e4 = still-kind (eqb-true _ _ e3)
-        go false false e2 false e3 true e4 = end-kind (eqb-true _ _ e4)
-        go false false e2 false e3 false e4 = away (Body h k) 14 (omega arith) (omega arith)
+        go true b b3 e3 b4 e4 = away (Body h k) 13 (omega arith) (omega arith)
+        go false true b3 e3 b4 e4 = block-kind
+        go false false true e3 b4 e4 = still-kind (eqb-true _ _ e3)
+        go false false false e3 true e4 = end-kind (eqb-true _ _ e4)
+        go false false false e3 false e4 = away (Body h k) 14 (omega arith) (omega arith)
 
   -- ---- in any phase
 
