@@ -1,5 +1,4 @@
 -- A walk's cursor and commands as plain numbers, for callers that have no enums.
---   logged              a caller's head as a log has it, of measure 1
 --   phaseOf, cursorOf   the cursor that plain numbers stand for: phase 0 before the head, 1 among the blocks, 2 after the end, any other after a refusal
 --   plainIn, plainOf    a cursor as plain numbers; where a phase has no head and no blocks they are 0
 --   answerOf            the number and the values of each case of a command, beside the cursor after it
@@ -26,12 +25,8 @@ use Rattle.log_plain.specs.declared.Walked.{Walked}
 
 -- ---- cursors
 
--- 02, request 1: "Logs carry measure 1 only for now". A caller's cursor is taken whatever its head's measure says, 0 too, until request 4 has logs of measure 2
-abbrev pub logged : Head → Head
-logged h = record { width = h .width; height = h .height; n = h .n; w = h .w; search = h .search; measure = 1 }
-
 unfoldable pub phaseOf : ℕ → Head → ℕ → Phase
-phaseOf phase h blocks = cond (eqb phase 0) Start (cond (eqb phase 1) (Body (logged h) blocks) (cond (eqb phase 2) Ended Over))
+phaseOf phase h blocks = cond (eqb phase 0) Start (cond (eqb phase 1) (Body h blocks) (cond (eqb phase 2) Ended Over))
 
 abbrev pub cursorOf : Place → Cursor
 cursorOf p = record { at = p .at; phase = phaseOf (p .phase) (p .head) (p .blocks) }
@@ -48,23 +43,16 @@ plainIn at Over = plainNumbers at 3 noHead 0
 abbrev pub plainOf : Cursor → Place
 plainOf c = plainIn (c .at) (c .phase)
 
--- among the blocks the head has measure 1, as every walk's
-abbrev pub Carried : Phase → Type 0
-Carried Start = Unit {0}
-Carried (Body h blocks) = h .measure ≡ 1
-Carried Ended = Unit {0}
-Carried Over = Unit {0}
-
 -- the plain numbers of a walk's cursor stand for it: a walk goes on as it would
-pub cursor-plain : (c : Cursor) → Carried (c .phase) → cursorOf (plainOf c) ≡ c
+pub cursor-plain : (c : Cursor) → cursorOf (plainOf c) ≡ c
 unfolding phaseOf
 cursor-plain c = go (c .at) (c .phase)
   where
-    go : (at : ℕ) (p : Phase) → Carried p → cursorOf (plainIn at p) ≡ record { at = at; phase = p }
-    go at Start e = refl
-    go at (Body h blocks) e = rw (← e)
-    go at Ended e = refl
-    go at Over e = refl
+    go : (at : ℕ) (p : Phase) → cursorOf (plainIn at p) ≡ record { at = at; phase = p }
+    go at Start = refl
+    go at (Body h blocks) = refl
+    go at Ended = refl
+    go at Over = refl
 
 -- ---- commands
 

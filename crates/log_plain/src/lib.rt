@@ -3,14 +3,14 @@
 ghost use mathlib.Core.Path.{_≡_};
 ghost use lib.IntN.{pos};
 ghost use Rattle.log_head.specs.Heads.{noHead};
-ghost use Rattle.log_plain.specs.Plain.{logged, cursorOf, plainOf, answer, answerOf, walkFrom};
+ghost use Rattle.log_plain.specs.Plain.{cursorOf, plainOf, answer, answerOf, walkFrom};
 use log::Cursor;
 use log::Phase;
 use log_command::Command;
 use log_head::Head;
 
 // Where a walk stands: the offset of the next command, and how far the walk is: 0 before the head, 1 among the blocks, 2 after the end,
-// any other number after a refusal. Head and blocks count among the blocks alone, and the head's measure not there either.
+// any other number after a refusal. Head and blocks count among the blocks alone.
 #[repr(C)]
 pub struct Place {
     pub at: usize,
@@ -19,7 +19,7 @@ pub struct Place {
     pub blocks: usize,
 }
 
-// What a call of the walker answers: the command's number 1 to 4 with its values, or a refusal with its place, and where the walk then
+// What a call of the walker answers: the command's number 1 to 6 with its values, or a refusal with its place, and where the walk then
 // stands.
 #[repr(C)]
 pub struct Walked {
@@ -34,28 +34,13 @@ pub struct Walked {
     pub next: Place,
 }
 
-// A head as a log has it: of measure 1, whatever a caller's head says.
-fn logged(head: Head) -> Head
-    ensures { λ r. ⌜ r ≡ logged head ⌝ }
-{
-    Head {
-        width: head.width,
-        height: head.height,
-        n: head.n,
-        w: head.w,
-        search: head.search,
-        measure: measures::ABSOLUTE,
-    }
-}
-
 // The cursor that plain numbers stand for.
 fn cursor_of(p: Place) -> Cursor
     ensures { λ r. ⌜ r ≡ cursorOf p ⌝ }
 {
     let at = p.at;
     let phase = p.phase;
-    let given = p.head;
-    let head = logged(given);
+    let head = p.head;
     match phase {
         0 => Cursor {
             at,

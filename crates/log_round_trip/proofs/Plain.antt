@@ -7,14 +7,13 @@ use native.Mathlib.Omega.{arith}
 use borrow.Author.Tests.{ne-eqb}
 use lib.Dec.{eqb}
 use lib.ListN.{length}
-use Rattle.log_head.specs.Heads.{headed}
 use Rattle.log.specs.declared.Cursor.{Cursor}
 use Rattle.log.specs.declared.WalkStep.{WalkStep}
 use Rattle.log_command.specs.Commands.{isRefused}
 use Rattle.log.specs.Step.{stepAt, startCursor}
 use Rattle.log.specs.Walk.{commandsFrom, walk}
 use Rattle.log_plain.specs.declared.Place.{Place}
-use Rattle.log_plain.specs.Plain.{phaseOf, cursorOf, plainOf, Carried, cursor-plain, answerOf, walkFrom, answersFrom, CommandsOf, none, more}
+use Rattle.log_plain.specs.Plain.{phaseOf, cursorOf, plainOf, cursor-plain, answerOf, walkFrom, answersFrom, CommandsOf, none, more}
 use Rattle.log_walks.specs.Cases.{Kind, refused, head, block, still, end, kinds}
 use Rattle.log_walks.proofs.Ends.{enough}
 
@@ -25,19 +24,19 @@ commands-from zero log p = none
 commands-from (suc calls) log p =
     more (stepAt log (cursorOf p) .command) (plainOf (stepAt log (cursorOf p) .next))
     (go
-    (λ c m. subst (λ (d : Cursor). CommandsOf (answersFrom calls log (plainOf c)) (commandsFrom calls log d)) (cursor-plain c m)
+    (λ c. subst (λ (d : Cursor). CommandsOf (answersFrom calls log (plainOf c)) (commandsFrom calls log d)) (cursor-plain c)
     (commands-from calls log (plainOf c)))
     (stepAt log (cursorOf p))
     (kinds log (cursorOf p)))
   where
-    go : ((c : Cursor) → Carried (c .phase) → CommandsOf (answersFrom calls log (plainOf c)) (commandsFrom calls log c)) → (s : WalkStep) → Kind log (cursorOf p) s
+    go : ((c : Cursor) → CommandsOf (answersFrom calls log (plainOf c)) (commandsFrom calls log c)) → (s : WalkStep) → Kind log (cursorOf p) s
         → let w = answerOf (s .command) (plainOf (s .next)) in
         CommandsOf (cond (eqb (w .refusal) 0) (answersFrom calls log (w .next)) []) (cond (isRefused (s .command)) [] (commandsFrom calls log (s .next)))
     go on s (refused number place a b w) = rw (ne-eqb number 0 (λ e. omega (arith, w .least))) none
-    go on s (head a t r) = on (s .next) (headed _ r .measure)
-    go on s (block h k a r g t o q) = on (s .next) (headed h r .measure)
-    go on s (still h k a r g t) = on (s .next) (headed h r .measure)
-    go on s (end h k a r g t n) = on (s .next) tt
+    go on s (head a t r) = on (s .next)
+    go on s (block h k a r g t o q) = on (s .next)
+    go on s (still h k a r g t) = on (s .next)
+    go on s (end h k a r g t n) = on (s .next)
 
 pub plain-walk : (log : List ℕ) (calls : ℕ) → length log < calls → CommandsOf (answersFrom calls log (plainOf startCursor)) (walk log)
 unfolding walk phaseOf

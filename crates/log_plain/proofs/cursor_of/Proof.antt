@@ -1,12 +1,9 @@
--- `cursor_of`: the head as a log has it; the match is the definition's chain of tests.
+-- `cursor_of`: the match is the definition's chain of tests.
 use borrow.Author.Needs.{needs}
 use borrow.Author.Tests.{ne-eqb}
 use Rattle.log_plain.specs.Plain.{phaseOf}
 use Rattle.log_plain.proofs.cursor_of.Statement.{statement}
 use Rattle.log_plain.proofs.cursor_of.Tie as tie
-
-logged-requires : tie.Need-logged-requires
-logged-requires c κs = search needs
 
 returns : tie.Need-returns
 unfolding phaseOf
@@ -14,7 +11,7 @@ returns c = simp (c .match .keys1)
 
 returns-2 : tie.Need-returns-2
 unfolding phaseOf
-returns-2 c = simp (c .match .keys2, ← (c .before .logged .ensures))
+returns-2 c = simp (c .match .keys2)
 
 returns-3 : tie.Need-returns-3
 unfolding phaseOf
@@ -25,4 +22,4 @@ unfolding phaseOf
 returns-4 c = let no = c .match .rest in simp (ne-eqb _ 0 (no .0 .0 .1), ne-eqb _ 1 (no .0 .1), ne-eqb _ 2 (no .1))
 
 pub cursor-of-spec : {M : Type 1} → statement M
-cursor-of-spec = tie.close (tie.spec logged-requires returns returns-2 returns-3 returns-4)
+cursor-of-spec = tie.close (tie.spec returns returns-2 returns-3 returns-4)
