@@ -8,14 +8,28 @@ use lib.IntN.{ℤ}
 use lib.ListN.{length, drop, length-append}
 use Rattle.base.specs.Lists.{listTo, concatTo, concatTo-more}
 use Rattle.base.specs.Fronts.{flatMap-append, flatMap-listTo}
+use Rattle.signed.specs.Int.{up}
+use Rattle.put.specs.Digits.{cond-length}
 use Rattle.put.specs.Put.{Put, put-over, over-fits}
 use Rattle.log_head.specs.declared.Head.{Head}
-use Rattle.log_command.specs.Commands.{commandBytes}
+use Rattle.log_command.specs.Numbers.{bytes2, bytes4}
+use Rattle.log_command.specs.Commands.{carries, isLong, headNumber, commandBytes, sizeBy, head-size}
 use Rattle.log_head.specs.Heads.{headBlocks, isStill}
 use Rattle.log_command.specs.Logs.{blockCommand, logCommands, logOf}
 use Rattle.log_list.specs.Listed.{valueOf}
 use Rattle.log_writing.specs.Writing.{writeResult}
 use Rattle.log_writing.specs.Parts.{headBytes, numbersBytes, endBytes, blockBytes}
+
+-- a head has at most 9 bytes, a block at most 7
+pub head-few : (h : Head) → length (headBytes h) ≤ 9
+unfolding headBytes
+head-few h = omega (arith, cond-length (carries h) (h .measure ∷ []) [] 1 (omega arith) (omega arith))
+
+pub numbers-few : (dy dx distortion : ℤ) → length (numbersBytes dy dx distortion) ≤ 7
+unfolding numbersBytes
+numbers-few dy dx distortion =
+    let d = up distortion in
+    omega (arith, cond-length (isLong d) (bytes4 d) (bytes2 d) 4 (omega arith) (omega arith))
 
 module _ (list : List ℤ) where
   pub log-parts : (h : Head) → logOf h list ≡ headBytes h ++ (concatTo (blockBytes list) (headBlocks h) ++ endBytes (headBlocks h))
@@ -35,20 +49,22 @@ module _ (list : List ℤ) where
     block-moved e = rw e refl
 
   -- the length, block by block
-  pub sized-first : 13 ≡ 13 + length (concatTo (blockBytes list) 0)
+  pub sized-first : (size : ℕ) → size ≡ size + length (concatTo (blockBytes list) 0)
   unfolding concatTo
-  sized-first = refl
+  sized-first size = omega arith
 
-  pub sized-more : (size k more : ℕ) → size ≡ 13 + length (concatTo (blockBytes list) k) → more ≡ length (blockBytes list k)
-      → size + more ≡ 13 + length (concatTo (blockBytes list) (k + 1))
-  sized-more size k more e m =
+  pub sized-more : (first size k more : ℕ) → size ≡ first + length (concatTo (blockBytes list) k) → more ≡ length (blockBytes list k)
+      → size + more ≡ first + length (concatTo (blockBytes list) (k + 1))
+  sized-more first size k more e m =
       omega (arith, ap length (concatTo-more (blockBytes list) k), length-append (concatTo (blockBytes list) k) (blockBytes list k))
 
-  pub sized-all : (h : Head) (size : ℕ) → size ≡ 13 + length (concatTo (blockBytes list) (headBlocks h)) → size ≡ length (logOf h list)
+  pub sized-all : (h : Head) (size : ℕ) → size ≡ sizeBy (headNumber h) + 5 + length (concatTo (blockBytes list) (headBlocks h))
+      → size ≡ length (logOf h list)
   unfolding headBytes endBytes
   sized-all h size e =
       let blocks = concatTo (blockBytes list) (headBlocks h) in
-      omega (arith, ap length (log-parts h), length-append (headBytes h) (blocks ++ endBytes (headBlocks h)), length-append blocks (endBytes (headBlocks h)))
+      let around = length-append (headBytes h) (blocks ++ endBytes (headBlocks h)) in
+      omega (arith, head-size h, ap length (log-parts h), around, length-append blocks (endBytes (headBlocks h)))
 
 -- a log put from the start of a buffer that it fits
 pub log-put : {log before after : List ℕ} {next size : ℕ} → Put before 0 log after next → size ≡ length log → size ≤ length before

@@ -1,35 +1,50 @@
--- `log_size`: 8 bytes for the head, 5 for the end, and those of each block.
-use Prim.Native.Nat.{_+_, _-_, _*_, _≤_}
+-- `log_size`: the bytes of head and end, and those of each block.
+use Prim.Native.Nat.{_+_, _-_, _*_, _≤_, _<_}
 use mathlib.Core.Path.{_≡_}
 use native.Mathlib.Omega.{arith}
 use borrow.Author.Needs.{needs}
 use Rattle.base.specs.Lists.{concatTo}
-use Rattle.log_head.specs.Heads.{headBlocks}
-use Rattle.log_writing.specs.Parts.{blockBytes}
-use Rattle.log_writing.proofs.Bytes.{sized-first, sized-more, sized-all}
+use Rattle.log_head.specs.Heads.{headBlocks, entry}
+use Rattle.log_writing.specs.Parts.{headBytes, blockBytes}
+use Rattle.log_writing.proofs.Bytes.{head-few, sized-first, sized-more, sized-all}
 use lib.ListN.{length}
+use Rattle.log_command.specs.Commands.{head-size}
 use Rattle.log_writing.proofs.log_size.Statement.{statement}
 use Rattle.log_writing.proofs.log_size.Tie as tie
 
 abbrev Inv-loop : tie.InvT-loop
-Inv-loop list n size₀ k₀ size k = (k ≤ n) × (size ≤ 13 + 5 * k) × (size ≡ 13 + length (concatTo (blockBytes list) k))
+Inv-loop list n size₀ k₀ size k = (k ≤ n) × (size ≤ 14 + 7 * k) × (size ≡ size₀ + length (concatTo (blockBytes list) k))
 
 abbrev μ-loop : tie.MeasureT-loop
 μ-loop list n size₀ k₀ size k = n - k
 
 head-blocks-requires : tie.Need-head-blocks-requires Inv-loop μ-loop
-head-blocks-requires c κs = c .pre .fine
+head-blocks-requires c κs = c .pre .listed .fine
+
+head-size-requires : tie.Need-head-size-requires Inv-loop μ-loop
+head-size-requires c κs = search needs
+
+add-size : tie.Need-add-size Inv-loop μ-loop
+unfolding headBytes
+add-size c = let h = c .before .before .args .head in
+    omega (arith, c .head-size .ensures, head-size h, head-few h)
 
 loop-holds : tie.Need-loop-holds Inv-loop μ-loop
-loop-holds c = (omega arith, omega arith, sized-first _)
+unfolding headBytes
+loop-holds c =
+    let h = c .before .before .args .head in
+    (omega arith, omega (arith, c .head-size .ensures, head-size h, head-few h), sized-first _ _)
 
 block-size-requires : tie.Need-block-size-requires Inv-loop μ-loop
 block-size-requires c κs =
-    let b = c .before .before in
-    (omega (arith, b .before .pre .room, b .head-blocks .ensures), omega (arith, b .head-blocks .ensures))
+    let l = c .before .loop in
+    let b = c .before .before .before in
+    let p = b .before .pre in
+    let t : l .k < headBlocks (b .before .args .head) = omega (arith, b .head-blocks .ensures) in
+    ((omega (arith, p .listed .room), omega (arith, p .listed .few)), entry _ (p .listed .fine) _ _ _ _ (p .each _ t))
 
-add-size : tie.Need-add-size Inv-loop μ-loop
-add-size c = search needs
+add-size-2 : tie.Need-add-size-2 Inv-loop μ-loop
+add-size-2 c = search needs
 
 add-k : tie.Need-add-k Inv-loop μ-loop
 add-k c = search needs
@@ -40,14 +55,15 @@ loop-less c = search needs
 loop-again : tie.Need-loop-again Inv-loop μ-loop
 loop-again c =
     let l = c .before .before .loop in
-    (omega arith, omega (arith, l .inv .1, c .block-size .ensures .1), sized-more _ _ _ _ (l .inv .2) (c .block-size .ensures .0))
+    (omega arith, omega (arith, l .inv .1, c .block-size .ensures .1), sized-more _ _ _ _ _ (l .inv .2) (c .block-size .ensures .0))
 
 returns : tie.Need-returns Inv-loop μ-loop
 returns c =
     let l = c .before .loop in
-    let s = c .before .before .before in
-    let e : l .k ≡ headBlocks (s .args .head) = omega (arith, c .before .before .head-blocks .ensures) in
-    sized-all _ _ _ (rw e at (l .inv .2))
+    let z = c .before .before in
+    let b = z .before in
+    let e : l .k ≡ headBlocks (b .before .args .head) = omega (arith, b .head-blocks .ensures) in
+    sized-all _ _ _ (rw (e, z .head-size .ensures) at (l .inv .2))
 
 pub log-size-spec : {M : Type 1} → statement M
 log-size-spec =
@@ -56,9 +72,11 @@ log-size-spec =
     Inv-loop
     μ-loop
     head-blocks-requires
+    head-size-requires
+    add-size
     loop-holds
     block-size-requires
-    add-size
+    add-size-2
     add-k
     loop-less
     loop-again

@@ -7,8 +7,7 @@ use mir.Syntax.{w32}
 use mir.Val.{toZ, ofZ}
 use Rattle.log_list.specs.Listed.{valueOf}
 use Rattle.log_list.proofs.Sound.{through}
-use Rattle.log_writing.specs.Parts.{numbersBytes}
-use Rattle.log_writing.proofs.Bytes.{block-still, block-moved}
+use Rattle.log_writing.proofs.Bytes.{numbers-few, block-still, block-moved}
 use Rattle.log_writing.proofs.put_block.Statement.{statement}
 use Rattle.log_writing.proofs.put_block.Tie as tie
 
@@ -65,14 +64,14 @@ same-length-2 : tie.Need-same-length-2
 same-length-2 c = search needs
 
 returns-2 : tie.Need-returns-2
-unfolding numbersBytes
 returns-2 c =
     let p = c .before .before in
     let v = values (p .before) in
-    let t = moved (p .before) in (
-      rw (block-moved _ _ (sym (t .before .still-at .ensures) ∙ t .if1 .left)) (rw (v .0, v .1, v .2) at (p .put-numbers .ensures)),
-      omega (arith, p .put-numbers .ensures .place),
-    )
+    let t = moved (p .before) in
+    let a = start t .args in
+    let z = valueOf (now (a .list)) (a .k) in
+    let w = rw (v .0, v .1, v .2) at (p .put-numbers .ensures) in
+    (rw (block-moved _ _ (sym (t .before .still-at .ensures) ∙ t .if1 .left)) w, omega (arith, w .place, numbers-few (z 0) (z 1) (z 2)))
 
 pub put-block-spec : {M : Type 1} → statement M
 put-block-spec =

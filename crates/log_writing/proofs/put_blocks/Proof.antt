@@ -12,7 +12,7 @@ use Rattle.log_writing.proofs.put_blocks.Statement.{statement}
 use Rattle.log_writing.proofs.put_blocks.Tie as tie
 
 abbrev Inv-loop : tie.InvT-loop
-Inv-loop out₀ at list n next₀ k₀ out next k = (k ≤ n) × (next ≤ 8 + 5 * k) × (length out ≡ length out₀) × Put out₀ at (concatTo (blockBytes list) k) out next
+Inv-loop out₀ at list n next₀ k₀ out next k = (k ≤ n) × (next ≤ 9 + 7 * k) × (length out ≡ length out₀) × Put out₀ at (concatTo (blockBytes list) k) out next
 
 abbrev μ-loop : tie.MeasureT-loop
 μ-loop out₀ at list n next₀ k₀ out next k = n - k

@@ -1,4 +1,4 @@
--- `put_end`: the command, then four bytes, the higher two first.
+-- `put_end`: the command, then the number.
 use borrow.Author.Needs.{needs}
 use Rattle.put.specs.Put.{put-then}
 use Rattle.log_writing.specs.Parts.{endBytes}
@@ -8,22 +8,15 @@ use Rattle.log_writing.proofs.put_end.Tie as tie
 put-byte-requires : tie.Need-put-byte-requires
 put-byte-requires c κs = search needs
 
-put-two-requires : tie.Need-put-two-requires
-put-two-requires c κs = search needs
-
-put-two-requires-2 : tie.Need-put-two-requires-2
-put-two-requires-2 c κs = search needs
+put-four-requires : tie.Need-put-four-requires
+put-four-requires c κs = search needs
 
 same-length : tie.Need-same-length
 same-length c = search needs
 
 returns : tie.Need-returns
 unfolding endBytes
-returns c =
-    let e = c .before .before in
-    let b = e .before .before .before .before in
-    put-then (b .before .before .before .before .put-byte .ensures) (put-then (b .put-two .ensures) (e .put-two2 .ensures))
+returns c = let b = c .before .before in put-then (b .before .before .before .before .put-byte .ensures) (b .put-four .ensures)
 
 pub put-end-spec : {M : Type 1} → statement M
-put-end-spec =
-    tie.close (tie.spec put-byte-requires put-two-requires put-two-requires-2 same-length returns)
+put-end-spec = tie.close (tie.spec put-byte-requires put-four-requires same-length returns)

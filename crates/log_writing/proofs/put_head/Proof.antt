@@ -1,4 +1,5 @@
 -- `put_head`: each number of an accepted head fits its bytes, and they are put in order.
+use mathlib.Core.Path.{_≡_, _∙_}
 use native.Mathlib.Omega.{arith}
 use borrow.Author.Needs.{needs}
 use Rattle.log_writing.specs.Parts.{headBytes}
@@ -9,7 +10,7 @@ use Rattle.log_writing.proofs.put_head.Tie as tie
 
 -- the points of the function's code, each from the next number's
 abbrev start : tie.After-put-byte → tie.Start
-start c = c .before .before .before
+start c = c .before .before .before .before
 
 abbrev marked : tie.After-put-two → tie.After-put-byte
 marked c = c .before .before .before .before
@@ -25,6 +26,12 @@ sized c = c .before .before .before .before .before
 
 abbrev windowed : tie.After-put-byte4 → tie.After-put-byte3
 windowed c = c .before .before .before .before .before
+
+abbrev sought : tie.After-put-measure → tie.After-put-byte4
+sought c = c .before .before .before .before
+
+head-number-requires : tie.Need-head-number-requires
+head-number-requires c κs = search needs
 
 put-byte-requires : tie.Need-put-byte-requires
 put-byte-requires c κs = search needs
@@ -53,24 +60,47 @@ cast-put-byte-3 c = omega (arith, headed _ (start (marked (wide (high (sized (c 
 put-byte-requires-4 : tie.Need-put-byte-requires-4
 put-byte-requires-4 c κs = search needs
 
-same-length : tie.Need-same-length
-same-length c = search needs
-
-returns : tie.Need-returns
-unfolding headBytes
-returns c =
-    let f = c .before .before in
+put-measure-requires : tie.Need-put-measure-requires
+put-measure-requires c κs =
+    let f = c .before .before .before in
     let e = windowed f in
     let d = sized e in
     let b = high d in
     let a = wide b in
-    let last = put-then (d .put-byte2 .ensures) (put-then (e .put-byte3 .ensures) (f .put-byte4 .ensures)) in
-    put-then (marked a .put-byte .ensures) (put-then (a .put-two .ensures) (put-then (b .put-two2 .ensures) last))
+    let sizes : b .put-two2 .result ≡ 5 = omega (arith, marked a .put-byte .ensures .place, a .put-two .ensures .place, b .put-two2 .ensures .place) in
+    omega (arith, sizes, d .put-byte2 .ensures .place, e .put-byte3 .ensures .place, f .put-byte4 .ensures .place)
+
+same-length : tie.Need-same-length
+same-length c =
+    let g = c .before .before in
+    let f = sought g in
+    let e = windowed f in
+    let d = sized e in
+    let b = high d in
+    let a = wide b in
+    let m = marked a in
+    let last = g .put-measure .kept .0 ∙ f .put-byte4 .kept .0 ∙ e .put-byte3 .kept .0 ∙ d .put-byte2 .kept .0 in
+    last ∙ b .put-two2 .kept .0 ∙ a .put-two .kept .0 ∙ m .put-byte .kept .0
+
+returns : tie.Need-returns
+unfolding headBytes
+returns c =
+    let g = c .before .before in
+    let f = sought g in
+    let e = windowed f in
+    let d = sized e in
+    let b = high d in
+    let a = wide b in
+    let m = marked a in
+    let last = put-then (d .put-byte2 .ensures) (put-then (e .put-byte3 .ensures) (put-then (f .put-byte4 .ensures) (g .put-measure .ensures))) in
+    rw (← m .before .head-number .ensures)
+    (put-then (m .put-byte .ensures) (put-then (a .put-two .ensures) (put-then (b .put-two2 .ensures) last)))
 
 pub put-head-spec : {M : Type 1} → statement M
 put-head-spec =
     tie.close
     (tie.spec
+    head-number-requires
     put-byte-requires
     put-two-requires
     put-two-requires-2
@@ -80,5 +110,6 @@ put-head-spec =
     put-byte-requires-3
     cast-put-byte-3
     put-byte-requires-4
+    put-measure-requires
     same-length
     returns)

@@ -1,9 +1,8 @@
 -- `put_log`: head, blocks and end, one after the other.
 use native.Mathlib.Omega.{arith}
 use borrow.Author.Needs.{needs}
-use Rattle.log_writing.specs.Parts.{headBytes}
 use Rattle.put.specs.Put.{put-then}
-use Rattle.log_writing.proofs.Bytes.{log-parts}
+use Rattle.log_writing.proofs.Bytes.{head-few, log-parts}
 use Rattle.log_writing.proofs.put_log.Statement.{statement}
 use Rattle.log_writing.proofs.put_log.Tie as tie
 
@@ -18,8 +17,9 @@ put-head-requires : tie.Need-put-head-requires
 put-head-requires c κs = search needs
 
 put-blocks-requires : tie.Need-put-blocks-requires
-unfolding headBytes
-put-blocks-requires c κs = let a = c .before .before .before in (omega (arith, a .put-head .ensures .place), start a .pre)
+put-blocks-requires c κs =
+    let a = c .before .before .before in
+    (omega (arith, head-few (start a .args .head), a .put-head .ensures .place), start a .pre)
 
 head-blocks-requires : tie.Need-head-blocks-requires
 head-blocks-requires c κs = start (headed (c .before .before .before)) .pre .listed .fine

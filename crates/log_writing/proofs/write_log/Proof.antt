@@ -26,7 +26,7 @@ returns c =
     rw (c .refused-write .ensures, ← t .before .before .list-verdict .ensures, ne-eqb _ 0 (t .if1 .taken)) refl
 
 log-size-requires : tie.Need-log-size-requires
-log-size-requires c κs = past c .listed
+log-size-requires c κs = past c
 
 refused-write-requires-2 : tie.Need-refused-write-requires-2
 refused-write-requires-2 c κs = search needs
