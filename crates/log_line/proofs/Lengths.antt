@@ -3,6 +3,7 @@
 --   head-line .. still-line      how long a command's line is
 use Prim.Native.Nat.{ℕ, suc, _+_, _≤_, _<_}
 use native.Mathlib.Omega.{arith}
+use mathlib.Core.Bool.{Bool, true, false, cond}
 use mathlib.Core.List.{List, [], _∷_, _++_}
 use lib.ListN.{length, length-append}
 use lib.Dec.{eqb}
@@ -11,6 +12,7 @@ use Rattle.put.specs.Digits.{digits, decimal, limit, cond-length, digits-length
 use Rattle.log_head.specs.declared.Head.{Head}
 use Rattle.log_head.specs.Heads.{Headed, Entry}
 use Rattle.log_command.specs.declared.Command.the-variants as Cmd
+use Rattle.log_command.specs.Commands.{carries}
 use Rattle.log_line.specs.Line.{numberText, spaced, endWord, refusedWord, atWord, worded, lineOf}
 
 pub record Short (text : List ℕ) (n : ℕ) : Type 0 where
@@ -37,14 +39,21 @@ few-signed k (negsuc n) after h = record { most = omega (arith, few-digits k (su
 
 -- ---- lines
 
-pub head-line : (h : Head) → Headed h → Short (lineOf (Cmd.Head h)) 37
+pub head-line : (h : Head) → Headed h → Short (lineOf (Cmd.Head h)) 20
 unfolding worded spaced limit
 head-line h a =
     both (few-digits 3 (h .width) 32 (omega (arith, a .fitting .wide)))
     (both (few-digits 3 (h .height) 32 (omega (arith, a .fitting .high)))
     (both (few-digits 1 (h .n) 32 (omega (arith, a .size)))
     (both (few-digits 1 (h .w) 32 (omega (arith, a .window)))
-    (any-number (h .search) 10))))
+    (last (carries h)))))
+  where
+    search : (after : ℕ) → Short (numberText (pos (h .search)) after) 2
+    search after = few-digits 0 (h .search) after (omega (arith, a .searching))
+
+    last : (t : Bool) → Short (spaced (pos (h .search) ∷ cond t (pos (h .measure) ∷ []) [])) 4
+    last true = both (search 32) (few-digits 0 (h .measure) 10 (omega (arith, a .measure)))
+    last false = record { most = omega (arith, search 10 .most) }
 
 pub block-line : (dy dx : ℤ) (distortion : ℕ) → Entry dy dx (pos distortion) → Short (lineOf (Cmd.Block dy dx distortion)) 29
 unfolding worded spaced limit

@@ -1,5 +1,6 @@
--- 01, "Log": the line that a command prints as. "that is width, height, N, w, search; dy, dx, distortion; blocks. A still block prints as `0 0 0`." "34 itself
--- unprinted". "A refusal prints as `refused 14 at 8`". Each line ends in byte 10.
+-- 01, "Log": the line that a command prints as. "that is width, height, N, w, search; dy, dx, distortion; blocks. A still block prints as `0 0 0`."
+-- "34 itself unprinted". "A refusal prints as `refused 14 at 8`". 02, request 4, of command 6: "Its printed line ends with the measure."
+-- Each line ends in byte 10.
 --   numberText  an integer's digits, with a sign before them where it is below 0, and the byte after it
 --   spaced      integers with a space between two, and the line's end after the last
 --   worded      a command's words and values

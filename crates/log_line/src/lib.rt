@@ -1,14 +1,15 @@
 // The line of a command: its words and numbers, put into a lent buffer. A byte past the buffer's end is counted and not put.
 
 ghost use mathlib.Core.Path.{_≡_};
-ghost use mathlib.Core.Bool.{false};
+ghost use mathlib.Core.Bool.{false, cond};
+ghost use mathlib.Core.List.{[], _∷_};
 ghost use Prim.Native.Nat.{_+_, _≤_};
 ghost use lib.ListN.{length};
 ghost use lib.IntN.{pos};
 ghost use Rattle.put.specs.Put.{Put};
 ghost use Rattle.log_command.specs.declared.Command.the-variants as Cmd;
-ghost use Rattle.log_command.specs.Commands.{isRefused};
-ghost use Rattle.log_line.specs.Line.{numberText, worded, lineOf};
+ghost use Rattle.log_command.specs.Commands.{carries, isRefused};
+ghost use Rattle.log_line.specs.Line.{numberText, spaced, worded, lineOf};
 use log_command::Command;
 use log_head::Head;
 
@@ -48,16 +49,29 @@ fn put_signed(out: &mut [u8], at: usize, z: i32, after: u8) -> usize
     put_field(out, at, n, after)
 }
 
-// The line of a head, which does not show its measure.
+// The end of a head's line: the search, and the measure where the head carries it.
+fn put_search(out: &mut [u8], at: usize, h: Head) -> usize
+    requires { ⌜ at ≤ 1000000900 ⌝ }
+    ensures { λ r. ⌜ (Put (now (out .entry)) at (spaced (pos (h .search) ∷ cond (carries h) (pos (h .measure) ∷ []) [])) (now (out .exit)) r)
+        × (r ≤ at + 42) ⌝ }
+{
+    if log_command::carries(h) {
+        let k = put_field(out, at, h.search as usize, b' ');
+        return put_field(out, k, h.measure as usize, b'\n');
+    }
+    put_field(out, at, h.search as usize, b'\n')
+}
+
+// The line of a head.
 fn put_head(out: &mut [u8], at: usize, h: Head) -> usize
     requires { ⌜ at ≤ 1000000000 ⌝ }
-    ensures { λ r. ⌜ (Put (now (out .entry)) at (worded (Cmd.Head h)) (now (out .exit)) r) × (r ≤ at + 105) ⌝ }
+    ensures { λ r. ⌜ (Put (now (out .entry)) at (worded (Cmd.Head h)) (now (out .exit)) r) × (r ≤ at + 126) ⌝ }
 {
     let a = put_field(out, at, h.width, b' ');
     let b = put_field(out, a, h.height, b' ');
     let c = put_field(out, b, h.n, b' ');
     let d = put_field(out, c, h.w, b' ');
-    put_field(out, d, h.search as usize, b'\n')
+    put_search(out, d, h)
 }
 
 // The line of a block.

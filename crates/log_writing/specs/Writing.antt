@@ -1,5 +1,5 @@
--- 01, "Log": writing a log from head numbers and a list into a lent buffer. "Writing answers with the log's length." "Writing tests 1, 3, 4, 5, 10, then 16
--- with the block's number, from 0, as place, then 19: buffer shorter than the log." 02, request 1: 51 is "tested after 4".
+-- 01, "Log": writing a log from head numbers and a list into a lent buffer. "Writing answers with the log's length." "Writing tests 1, 3, 4, 5, 10,
+-- then 16 with the block's number, from 0, as place, then 19: buffer shorter than the log." 02, request 1: 51 is "tested after 4".
 --   WriteResult   what the call answers, with what the buffer then holds: writeLog
 use Prim.Native.Nat.{ℕ}
 use mathlib.Core.List.{List, _++_}

@@ -67,7 +67,8 @@ put-measure-requires c κs =
     let d = sized e in
     let b = high d in
     let a = wide b in
-    let sizes : b .put-two2 .result ≡ 5 = omega (arith, marked a .put-byte .ensures .place, a .put-two .ensures .place, b .put-two2 .ensures .place) in
+    let m = marked a in
+    let sizes : b .put-two2 .result ≡ 5 = omega (arith, m .put-byte .ensures .place, a .put-two .ensures .place, b .put-two2 .ensures .place) in
     omega (arith, sizes, d .put-byte2 .ensures .place, e .put-byte3 .ensures .place, f .put-byte4 .ensures .place)
 
 same-length : tie.Need-same-length
