@@ -2,23 +2,22 @@
 --   printed-long, printed-walk   what is printed for a log that is too long, and for another
 --   fits                         no log prints more than 6 × 65,536 + 20 bytes
 --   all-put                      what `print_log` promises of the whole text
-use Prim.Native.Nat.{ℕ, zero, suc, _+_, _*_, _/_, _%_, _≤_, _<_}
+use Prim.Native.Nat.{ℕ, zero, suc, _+_, _*_, _≤_, _<_}
 use native.Mathlib.Omega.{arith}
 use mathlib.Core.Path.{_≡_}
-use mathlib.Core.List.{List, [], _∷_, _++_, flatMap}
-use mathlib.Core.Bool.{cond}
+use mathlib.Core.List.{List, [], _++_, flatMap}
+use mathlib.Core.Bool.{Bool, true, false, cond}
 use native.Mathlib.Decide.{decLt}
 use borrow.Author.Tests.{lt-ltb, le-ltb}
 use lib.ListN.{length, length-append}
-use lib.Dec.{ltb, eqb}
-use lib.IntN.{ℤ, pos, negsuc, natAbs}
 use Rattle.put.specs.Put.{Put, overFront, put-over}
-use Rattle.log_head.specs.declared.Head.{Head}
 use Rattle.log.specs.declared.Cursor.{Cursor}
 use Rattle.log_command.specs.declared.Command.the-variants as Cmd
 use Rattle.log.specs.declared.WalkStep.{WalkStep}
-use Rattle.log_command.specs.Commands.{isRefused}
-use Rattle.log_head.specs.Heads.{Headed, headed, Entry, entry}
+use Rattle.log_command.specs.Numbers.{bytes2, bytes4}
+use Rattle.log_command.specs.Commands.{isLong, isRefused}
+use Rattle.log_command.specs.Operands.{distortionIn}
+use Rattle.log_head.specs.Heads.{headed, entry}
 use Rattle.log.specs.Step.{stepAt, startCursor}
 use Rattle.log.specs.Walk.{commandsFrom, walk}
 use Rattle.log_walks.specs.Cases.{Kind, kinds}
@@ -34,6 +33,14 @@ textFrom calls log c = flatMap lineOf (commandsFrom calls log c)
 abbrev Fitted : ℕ → List ℕ → Cursor → Type 0
 Fitted calls log c = length (textFrom calls log c) + 6 * c .at ≤ 6 * length log + 20
 
+-- a distortion has two bytes or more
+some-bytes : (distortion : ℕ) → 2 ≤ length (cond (isLong distortion) (bytes4 distortion) (bytes2 distortion))
+some-bytes distortion = go (isLong distortion)
+  where
+    go : (t : Bool) → 2 ≤ length (cond t (bytes4 distortion) (bytes2 distortion))
+    go true = omega arith
+    go false = omega arith
+
 one-more : (calls : ℕ) (log : List ℕ) (c : Cursor) → length log ≤ longestLog
     → ((next : Cursor) → next .at ≤ length log → Fitted calls log next) → c .at ≤ length log → Fitted (suc calls) log c
 unfolding commandsFrom flatMap
@@ -48,7 +55,8 @@ one-more calls log c small after h = go (stepAt log c) (kinds log c)
         → length (lineOf (s .command) ++ flatMap lineOf (cond (isRefused (s .command)) [] (commandsFrom calls log (s .next)))) + 6 * c .at ≤ 6 * length log + 20
     go s (Kind.refused n place a b none) = omega (arith, length-append (lineOf (Cmd.Refused n place)) [], refused-line n place a (omega arith) .most)
     go s (Kind.head phase there ok) = more _ _ _ (head-line _ (headed _ ok)) (there .room) (omega arith)
-    go s (Kind.block g k phase ok due there passed still) = more _ _ _ (block-line _ _ _ (entry g ok k _ _ _ passed)) (there .room) (omega arith)
+    go s (Kind.block g k phase ok due there passed still) = more _ _ _ (block-line _ _ _ (entry g ok k _ _ _ passed)) (there .room)
+        (omega (arith, some-bytes (distortionIn log (c .at))))
     go s (Kind.still g k phase ok due there) = more _ _ _ still-line (there .room) (omega arith)
     go s (Kind.end g k phase ok full there blocks) = more _ _ _ (end-line _) (there .room) (omega arith)
 
