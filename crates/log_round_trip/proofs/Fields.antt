@@ -39,7 +39,7 @@ still-is dy dx z e =
     (zero-is dy (T-true a (and-left a (b && c) t)), zero-is dx (T-true b (and-left b c u)), zero-is z (T-true c (and-right b c u)))
 
 module _ (h : Head) (list : List ℤ) (ok : headRefusal h ≡ 0) (entries : (k : ℕ) → k < headBlocks h → listedOk h list k ≡ true) where
-  block-values : (k : ℕ) → k < headBlocks h → (x : Command) → Made (valueOf list k 0) (valueOf list k 1) (valueOf list k 2) x
+  pub block-values : (k : ℕ) → k < headBlocks h → (x : Command) → Made (valueOf list k 0) (valueOf list k 1) (valueOf list k 2) x
       → blockValues x ≡ valueOf list k 0 ∷ valueOf list k 1 ∷ valueOf list k 2 ∷ []
   block-values k l x (as-still e) = let s = still-is (valueOf list k 0) (valueOf list k 1) (valueOf list k 2) e in rw (s .0, s .1, s .2)
   block-values k l x (as-block e) =

@@ -3,3 +3,4 @@ pub mod Writing
 pub mod Reading
 pub mod Fields
 pub mod RoundTrip
+pub mod Earlier

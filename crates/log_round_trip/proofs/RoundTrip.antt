@@ -77,18 +77,20 @@ module _ (log : List ℕ) (bytes : Each (λ (b : ℕ). b < 256) log) (list : Lis
   abbrev after : List ℤ
   after = field ++ drop (length field) list
 
-  three : length field ≡ 3 * headBlocks head
+  pub three : length field ≡ 3 * headBlocks head
   unfolding fieldOf
   three = field-length log ended
 
-  same-log : logOf head after ≡ log
+  pub field-log : logOf head field ≡ log
   unfolding logOf fieldOf flatMap
-  same-log =
-      front-log head field (drop (length field) list) (omega (arith, three))
-      ∙ sym (append-nil (flatMap commandBytes (logCommands head field)))
+  field-log =
+      sym (append-nil (flatMap commandBytes (logCommands head field)))
       ∙ sym (flatMap-append commandBytes (logCommands head field) (Cmd.Refused 34 0 ∷ []))
       ∙ ap (flatMap commandBytes) (sym (whole log ended))
       ∙ sym (sound log bytes ended)
+
+  same-log : logOf head after ≡ log
+  same-log = front-log head field (drop (length field) list) (omega (arith, three)) ∙ field-log
 
   writes-back : (buffer : List ℕ) → length log ≤ length buffer
       → writeLog (readLog log list .answer .head) (readLog log list .list) buffer
