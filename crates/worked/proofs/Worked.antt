@@ -31,7 +31,7 @@ use Rattle.field.specs.Field.{entriesOf, tableOf}
 use Rattle.track.specs.Track.{trackHome, stepRefusal, arrived}
 use Rattle.log_head.specs.Heads.{headRefusal, entryOk, isStill}
 use Rattle.log_command.specs.Numbers.{be2, be4}
-use Rattle.log.specs.Step.{judged, headTaken, blockTaken, endTaken, standingOk, startCommand, bodyCommand, stepAt}
+use Rattle.log.specs.Step.{judged, taken, endTaken, standingOk, startCommand, bodyCommand, stepAt}
 use Rattle.log_command.specs.Operands.{headIn}
 use Rattle.log.specs.Walk.{commandsFrom, walk as logWalk, lastOf}
 use Rattle.log_command.specs.Logs.{blockCommand, logCommands, logOf}
@@ -42,7 +42,7 @@ use Rattle.log_reading.specs.Reading.{fieldOf, logRead, readLog}
 use Rattle.put.specs.Digits.{digits}
 use Rattle.log_line.specs.Line.{numberText, spaced, endWord, refusedWord, atWord, worded}
 use Rattle.log_text.specs.Text.{printLog}
-use Rattle.worked.specs.Table.{pairA, pairB, pairC, pairD, Query, search, measuring, distance, everyBlock, travelling, calls, writing, reading}
+use Rattle.worked.specs.Table.{pairA, pairB, pairC, pairD, pair32, Query, search, measuring, distance, everyBlock, travelling, calls, writing, reading}
 use Rattle.worked.specs.Table.{walking, printing, Answer, found, filled, travels, results, answer, Row, Right, table}
 use Rattle.worked.proofs.Places.{walkPlaces, after}
 use Rattle.worked.proofs.Alike.{every, allAlike}
@@ -90,7 +90,7 @@ each (r ∷ rs) e =
 -- the whole table at once
 computed : answers table ≡ oweds table
 unfolding
-    table pairA pairB pairC pairD
+    table pairA pairB pairC pairD pair32
     sumTo leastFrom leastOf preference candidate crossWindow firstRefusal blockSizeOk windowOk thresholdOk pairRefusal requestRefusal
     measureOf distortionBy distortion measureRefusal measureVector countPoint probePoint probe atOrigin around widened isIn fresh resultOf
     square ring moved step1 step23 step4 from3 from2 fourStep diagonalCross plusCross pass allPasses diagonal onDiagonal ended finished cross
@@ -99,7 +99,7 @@ unfolding
     rows columns blocks blockRow blockColumn listTo concatTo summed fieldRefusal entriesOf tableOf
     largestTo smallestTo largest smallest isVoter voters votes every allAlike
     runFrom trackHome stepRefusal arrived
-    signedByte byteOf headRefusal entryOk isStill be2 be4 judged headIn headTaken blockTaken endTaken standingOk startCommand bodyCommand stepAt
+    signedByte byteOf headRefusal entryOk isStill be2 be4 judged headIn taken endTaken standingOk startCommand bodyCommand stepAt
     commandsFrom logWalk lastOf blockCommand logCommands logOf flatMap
     listRefusal firstWrong listVerdict writeLog fieldOf logRead readLog digits numberText spaced endWord refusedWord atWord worded printLog
 computed = refl

@@ -1,9 +1,10 @@
 -- 01, "Worked pairs": "Marked * belong to the proved set." These, A to I, stand here in one table, with one proof over it. A row has a query of a pair
 -- and the answer that is owed, in 01's words above it; it is right if the definitions that the contracts cite give that answer.
 --   pairA, pairB, pairC, pairD   the frames with their setting, by the absolute measure; E and F have C's, G and H have B's; bySquares: by squares
+--   pair32     32×32, N 32, older all 255, newer all 0: the largest distortion (02, request 4)
 --   speckled   frames of one grey but for one pel, for what makes a voter
 --   full, pruned, fourStep, cross   a request for a search of a pair
---   headOf, logB, logC   a head by search 2 with w 1; the logs of B and C
+--   headOf, logB, logC   a head by search 2 with w 1; the logs of B and C; log32, log32Squares: those of pair32 by either measure
 --   heldList, heldTable, heldBuffer   what lent memory held
 --   Query    a query: a search of one block, the measuring call, a distance, a field, a travel, calls on a track, or a log that is written, read,
 --            walked or printed
@@ -65,6 +66,10 @@ pairC = pairOf (replicate 64 7) (replicate 64 7) (setting 8 8 4 1)
 -- D* "4×4, newer alternating 0 and 20 along and down, older all 10"
 unfoldable pub pairD : Pair
 pairD = pairOf (replicate 16 10) (twice (0 ∷ 20 ∷ 0 ∷ 20 ∷ 20 ∷ 0 ∷ 20 ∷ 0 ∷ [])) (setting 4 4 4 1)
+
+-- 32×32, N 32, older all 255, newer all 0
+unfoldable pub pair32 : Pair
+pair32 = pairOf (replicate 1024 255) (replicate 1024 0) (setting 32 32 32 1)
 
 -- 4×4, all 10 but for the newer one's first pel
 abbrev pub speckled : ℕ → Pair
@@ -142,7 +147,7 @@ answer (reading log list) = read (readLog log list)
 answer (walking log) = commands (walk log)
 answer (printing log) = text (printLog log)
 
--- what a search owes: a vector, its distortion, the five counts and the number dropped
+-- what a search owes: a vector, its distortion, the counts, which have a 0 more in front than 01 prints (02, request 4), and the number dropped
 abbrev pub finds : Vector → ℕ → List ℕ → ℕ → Answer
 finds v d counts dropped = found (searchResult v d counts dropped)
 
@@ -209,7 +214,7 @@ tableC = sumsOf (0 ∷ 7 ∷ 14 ∷ 21 ∷ 28 ∷ 35 ∷ 42 ∷ 49 ∷ 56 ∷ []
 
 -- B by search 2
 abbrev pub readsB : FieldAnswer
-readsB = reads vectorB 1 1 (0 ∷ 0 ∷ 2 ∷ 2 ∷ 1 ∷ []) 1
+readsB = reads vectorB 1 1 (0 ∷ 0 ∷ 0 ∷ 2 ∷ 2 ∷ 1 ∷ []) 1
 
 abbrev pub stepA : Call
 stepA = step pairA 16 0 (heldList 5) (heldTable 27)
@@ -255,6 +260,32 @@ textB =
 abbrev pub logC : List ℕ
 logC = 1 ∷ 0 ∷ 8 ∷ 0 ∷ 8 ∷ 4 ∷ 1 ∷ 2 ∷ 3 ∷ 3 ∷ 3 ∷ 3 ∷ 4 ∷ 0 ∷ 0 ∷ 0 ∷ 4 ∷ []
 
+-- 02, request 4: command 5 with 261,120: `01 00 20 00 20 20 01 02 05 00 00 00 03 fc 00 04 00 00 00 01`
+abbrev pub log32 : List ℕ
+log32 = 1 ∷ 0 ∷ 32 ∷ 0 ∷ 32 ∷ 32 ∷ 1 ∷ 2 ∷ 5 ∷ 0 ∷ 0 ∷ 0 ∷ 3 ∷ 252 ∷ 0 ∷ 4 ∷ 0 ∷ 0 ∷ 0 ∷ 1 ∷ []
+
+-- by squares, commands 6 and 5, with 66,585,600: `06 00 20 00 20 20 01 02 02 05 00 00 03 f8 04 00 04 00 00 00 01`
+abbrev pub log32Squares : List ℕ
+log32Squares = 6 ∷ 0 ∷ 32 ∷ 0 ∷ 32 ∷ 32 ∷ 1 ∷ 2 ∷ 2 ∷ 5 ∷ 0 ∷ 0 ∷ 3 ∷ 248 ∷ 4 ∷ 0 ∷ 4 ∷ 0 ∷ 0 ∷ 0 ∷ 1 ∷ []
+
+-- "32 32 32 1 2 2", "0 0 66585600" and "end 1": "Its printed line ends with the measure."
+abbrev pub text32Squares : List ℕ
+text32Squares =
+    51 ∷ 50 ∷ 32 ∷ 51 ∷ 50 ∷ 32 ∷ 51 ∷ 50 ∷ 32 ∷ 49 ∷ 32 ∷ 50 ∷ 32 ∷ 50 ∷ 10
+    ∷ 48 ∷ 32 ∷ 48 ∷ 32 ∷ 54 ∷ 54 ∷ 53 ∷ 56 ∷ 53 ∷ 54 ∷ 48 ∷ 48 ∷ 10
+    ∷ 101 ∷ 110 ∷ 100 ∷ 32 ∷ 49 ∷ 10 ∷ []
+
+-- pair32's list, with distortion d
+abbrev pub list32 : ℕ → List ℤ
+list32 d = triple origin d ++ heldList 2
+
+-- command 6 carrying this measure, before a still block; command 5 with 65,535
+abbrev pub carrying : ℕ → List ℕ
+carrying measure = 6 ∷ 0 ∷ 32 ∷ 0 ∷ 32 ∷ 32 ∷ 1 ∷ 2 ∷ measure ∷ 3 ∷ 4 ∷ 0 ∷ 0 ∷ 0 ∷ 1 ∷ []
+
+abbrev pub long65535 : List ℕ
+long65535 = 1 ∷ 0 ∷ 32 ∷ 0 ∷ 32 ∷ 32 ∷ 1 ∷ 2 ∷ 5 ∷ 0 ∷ 0 ∷ 0 ∷ 0 ∷ 255 ∷ 255 ∷ 4 ∷ 0 ∷ 0 ∷ 0 ∷ 1 ∷ []
+
 abbrev pub writes : List ℕ → Answer
 writes log = written (writeResult (record { refusal = 0; place = 0; length = length log }) (log ++ heldBuffer 2))
 
@@ -278,13 +309,13 @@ unfoldable pub table : List Row
 table =
     -- A* ".. w 16, ..: (0,0), 32; pruned 0,0,1,1,1"
     (search pairA (full 16) 0 0 gives finds origin 32 (onlyAtOne 1) 0)
-    ∷ (search pairA (pruned 16) 0 0 gives finds origin 32 (0 ∷ 0 ∷ 1 ∷ 1 ∷ 1 ∷ []) 0)
+    ∷ (search pairA (pruned 16) 0 0 gives finds origin 32 (0 ∷ 0 ∷ 0 ∷ 1 ∷ 1 ∷ 1 ∷ []) 0)
     ∷ (measuring pairA origin gives measures 32)
     ∷ (everyBlock pairA (full 16) (heldList 5) (heldTable 27) gives fills (readsBlank (onlyAtOne 1) 0) listA (heldTable 27))
-    ∷ (everyBlock pairA (pruned 16) (heldList 5) (heldTable 27) gives fills (readsBlank (0 ∷ 0 ∷ 1 ∷ 1 ∷ 1 ∷ []) 0) listA tableA)
+    ∷ (everyBlock pairA (pruned 16) (heldList 5) (heldTable 27) gives fills (readsBlank (0 ∷ 0 ∷ 0 ∷ 1 ∷ 1 ∷ 1 ∷ []) 0) listA tableA)
     -- B* ".. w 1, ..: (0,1), 0; full 2; pruned 0,0,2,2,1, dropped 1; travel (0,-1)"
     ∷ (search pairB (full 1) 0 0 gives finds vectorB 0 (onlyAtOne 2) 0)
-    ∷ (search pairB (pruned 1) 0 0 gives finds vectorB 0 (0 ∷ 0 ∷ 2 ∷ 2 ∷ 1 ∷ []) 1)
+    ∷ (search pairB (pruned 1) 0 0 gives finds vectorB 0 (0 ∷ 0 ∷ 0 ∷ 2 ∷ 2 ∷ 1 ∷ []) 1)
     ∷ (measuring pairB vectorB gives measures 0)
     ∷ (everyBlock pairB (full 1) (heldList 5) (heldTable 32) gives fills (reads vectorB 1 1 (onlyAtOne 2) 0) listB (heldTable 32))
     ∷ (everyBlock pairB (pruned 1) (heldList 5) (heldTable 32) gives fills readsB listB tableB)
@@ -300,7 +331,7 @@ table =
     ∷ (search pairC (full 1) 4 0 gives stillAfter 4)
     ∷ (search pairC (full 1) 4 4 gives stillAfter 4)
     ∷ (everyBlock pairC (full 1) (heldList 14) (heldTable 83) gives fills (readsBlank (onlyAtOne 16) 0) listC (heldTable 83))
-    ∷ (everyBlock pairC (pruned 1) (heldList 14) (heldTable 83) gives fills (readsBlank (0 ∷ 0 ∷ 16 ∷ 16 ∷ 16 ∷ []) 0) listC tableC)
+    ∷ (everyBlock pairC (pruned 1) (heldList 14) (heldTable 83) gives fills (readsBlank (0 ∷ 0 ∷ 0 ∷ 16 ∷ 16 ∷ 16 ∷ []) 0) listC tableC)
     -- "log `01 00 08 00 08 04 01 02 03 03 03 03 04 00 00 00 04`"
     ∷ (writing (headOf pairC) listC (heldBuffer 19) gives writes logC)
     ∷ (reading logC (heldList 14) gives readsAs (headOf pairC) listC)
@@ -315,11 +346,11 @@ table =
     ∷ (distance (bySquares pairD) 2 gives apart 0)
     ∷ (measuring (bySquares pairD) origin gives measures 1600)
     ∷ (search (bySquares pairD) (full 16) 0 0 gives finds origin 1600 (onlyAtOne 1) 0)
-    ∷ (search (bySquares pairD) (pruned 16) 0 0 gives finds origin 1600 (0 ∷ 0 ∷ 1 ∷ 1 ∷ 1 ∷ []) 0)
+    ∷ (search (bySquares pairD) (pruned 16) 0 0 gives finds origin 1600 (0 ∷ 0 ∷ 0 ∷ 1 ∷ 1 ∷ 1 ∷ []) 0)
     -- B by squares: at 4 the distance of (0,0), 25,600, is just 4² × E, so it is dropped at 2 and not before
     ∷ (distance (bySquares pairB) 4 gives apart 25600)
     ∷ (measuring (bySquares pairB) origin gives measures 1600)
-    ∷ (search (bySquares pairB) (pruned 1) 0 0 gives finds vectorB 0 (0 ∷ 0 ∷ 2 ∷ 2 ∷ 1 ∷ []) 1)
+    ∷ (search (bySquares pairB) (pruned 1) 0 0 gives finds vectorB 0 (0 ∷ 0 ∷ 0 ∷ 2 ∷ 2 ∷ 1 ∷ []) 1)
     -- E* "C's frames, block (2,2): four-step 17; cross w 2, T 0: 9; T 1: 1"
     ∷ (search pairC fourStep 2 2 gives stillAfter 17)
     ∷ (search pairC (cross 2 0) 2 2 gives stillAfter 9)
@@ -340,6 +371,25 @@ table =
     -- a block votes from 8 on
     ∷ (everyBlock (speckled 17) (full 16) (heldList 3) [] gives fills (readsBlank (onlyAtOne 1) 0) (triple origin 7) [])
     ∷ (everyBlock (speckled 18) (full 16) (heldList 3) [] gives fills (reads origin 1 1 (onlyAtOne 1) 0) (triple origin 8) [])
+    -- 02, request 4: N 32 with the largest distortions, their logs both ways, the lines; 10 after command 6 has place 9
+    ∷ (measuring pair32 origin gives measures 261120)
+    ∷ (measuring (bySquares pair32) origin gives measures 66585600)
+    ∷ (search pair32 (pruned 1) 0 0 gives finds origin 261120 (1 ∷ 1 ∷ 1 ∷ 1 ∷ 1 ∷ 1 ∷ []) 0)
+    ∷ (search (bySquares pair32) (pruned 1) 0 0 gives finds origin 66585600 (1 ∷ 1 ∷ 1 ∷ 1 ∷ 1 ∷ 1 ∷ []) 0)
+    -- T goes by the measure alone, whatever N is
+    ∷ (search pairC (cross 2 261120) 2 2 gives stillAfter 1)
+    ∷ (writing (headOf pair32) (list32 261120) (heldBuffer 22) gives writes log32)
+    ∷ (reading log32 (heldList 5) gives readsAs (headOf pair32) (list32 261120))
+    ∷ (writing (headOf (bySquares pair32)) (list32 66585600) (heldBuffer 23) gives writes log32Squares)
+    ∷ (reading log32Squares (heldList 5) gives readsAs (headOf (bySquares pair32)) (list32 66585600))
+    ∷ (reading log32Squares (heldList 2) gives read (readResult (refusedRead 10 9) (heldList 2)))
+    ∷ (walking log32Squares
+    gives commands (Cmd.Head (headOf (bySquares pair32)) ∷ Cmd.Block (pos 0) (pos 0) 66585600 ∷ Cmd.End 1 ∷ Cmd.Refused 34 0 ∷ []))
+    ∷ (printing log32Squares gives text text32Squares)
+    -- "with 65,535 or less it is turned away by 16"; "carrying any other is turned away by 15"
+    ∷ (reading long65535 (heldList 3) gives read (readResult (refusedRead 16 8) (heldList 3)))
+    ∷ (reading (carrying 1) (heldList 3) gives read (readResult (refusedRead 15 0) (heldList 3)))
+    ∷ (reading (carrying 2) (heldList 3) gives readsAs (headOf (bySquares pair32)) stillBlock)
     -- I* "empty log: 13 at 0": the list as it was; the line "refused 13 at 0"
     ∷ (reading [] (heldList 2) gives read (readResult (refusedRead 13 0) (heldList 2)))
     ∷ (walking [] gives commands (Cmd.Refused 13 0 ∷ []))
