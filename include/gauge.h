@@ -40,10 +40,10 @@ enum gauge_refusal {
     GAUGE_ACCEPTED = 0,
     GAUGE_BAD_SIZE = 1,       /* width or height not 4 to 1,024 */
     GAUGE_BAD_FRAME = 2,      /* a frame whose length is not width x height */
-    GAUGE_BAD_N = 3,          /* N not 4, 8 or 16, or larger than width or height */
+    GAUGE_BAD_N = 3,          /* N not 4, 8, 16 or 32, or larger than width or height */
     GAUGE_BAD_SEARCH = 4,     /* the search not 1 to 4 */
     GAUGE_BAD_WINDOW = 5,     /* a window w that the search does not take */
-    GAUGE_BAD_THRESHOLD = 6,  /* a threshold t over 65,280, by squares over 16,646,400, or not 0 with search 1, 2 or 3 */
+    GAUGE_BAD_THRESHOLD = 6,  /* a threshold t over 261,120, by squares over 66,585,600, or not 0 with search 1, 2 or 3 */
     GAUGE_BAD_PLACE = 7,      /* the block not wholly inside the newer frame; for a row view, the N pels not inside one row */
     GAUGE_NO_CANDIDATE = 8,   /* the vector no candidate of window 16: a part over 16 in size, or the older block not inside its frame */
     GAUGE_SHORT_TABLE = 9,    /* search 2: a table shorter than GAUGE_TABLE_LENGTH */
@@ -52,8 +52,9 @@ enum gauge_refusal {
     GAUGE_BAD_SIDE = 12,      /* side neither 0 nor 1 */
     GAUGE_LOG_CUT = 13,       /* log: the bytes end before the command is complete */
     GAUGE_LOG_COMMAND = 14,   /* log: a command that is unknown or not due */
-    GAUGE_LOG_HEAD = 15,      /* log: a head that 1, 3, 4 or 5 would turn away */
-    GAUGE_LOG_BLOCK = 16,     /* log: a vector that is no candidate, a distortion below 0 or over 255 x N x N, or a still block as command 2 */
+    GAUGE_LOG_HEAD = 15,      /* log: a head that 1, 3, 4 or 5 would turn away, or command 6 with another measure than 2 */
+    GAUGE_LOG_BLOCK = 16,     /* log: a vector that is no candidate, a distortion below 0 or over the largest by N and measure, a still block as
+                               * command 2, or a distortion of 65,535 or less as command 5 */
     GAUGE_LOG_END = 17,       /* log: an end with another number of blocks */
     GAUGE_LOG_AFTER_END = 18, /* log: bytes after the end */
     GAUGE_SHORT_BUFFER = 19,  /* writing a log: a buffer shorter than the log */
@@ -62,7 +63,7 @@ enum gauge_refusal {
     GAUGE_STEPS_OVER = 32,    /* a step of a track that has 1,000,000 steps or more */
     GAUGE_OUT_OF_RANGE = 33,  /* a step that would lead outside -1,000,000 to 1,000,000 */
     GAUGE_WALK_OVER = 34,     /* walking a log: a walk that is over, or a cursor that no walk of this log can have */
-    GAUGE_BAD_MEASURE = 51,   /* the measure neither 1 nor 2; writing a log: not 1 */
+    GAUGE_BAD_MEASURE = 51,   /* the measure neither 1 nor 2 */
     GAUGE_NO_VOTER = 52       /* a step of a pair in which no block votes: see gauge_field_answer */
 };
 
@@ -96,10 +97,11 @@ gauge_row gauge_row_view(const uint8_t *older, size_t older_length, const uint8_
 
 /* A request for a search. */
 typedef struct {
-    size_t width, height, n;
+    size_t width, height;
+    size_t n;         /* the block size N: 4, 8, 16 or 32 */
     uint32_t search;  /* 1 full, 2 pruned, 3 four-step, 4 cross */
     size_t w;         /* the search window: full and pruned 0 to 16, four-step 7, cross 2, 4, 8 or 16 */
-    uint32_t t;       /* the threshold of cross: a distortion of (0,0) below it ends the search. 0 to 65,280, by squares 0 to 16,646,400,
+    uint32_t t;       /* the threshold of cross: a distortion of (0,0) below it ends the search. 0 to 261,120, by squares 0 to 66,585,600,
                        * whatever N is; 0 with the others */
     uint32_t measure; /* 1 absolute, 2 squares */
 } gauge_request;
@@ -109,7 +111,7 @@ typedef struct {
     uint32_t refusal;
     int32_t dy, dx;      /* the vector found */
     uint32_t distortion; /* and its distortion, by the measure asked for */
-    uint32_t counts[5];  /* pruned: how many candidates were tested at m = 16, 8, 4, 2, 1; others: 0, and at m = 1 how many were measured */
+    uint32_t counts[6];  /* pruned: how many candidates were tested at m = 32, 16, 8, 4, 2, 1; others: 0, and at m = 1 how many were measured */
     uint32_t dropped;    /* pruned: how many candidates were dropped */
 } gauge_found;
 
@@ -124,7 +126,7 @@ typedef struct {
     int32_t dy, dx;     /* the reading: the vector of most voters; the paper travelled by (-dy, -dx) */
     uint32_t votes;     /* how many voters have it */
     uint32_t voters;    /* how many blocks vote */
-    uint32_t counts[5]; /* the counts of all blocks, voters or not, summed */
+    uint32_t counts[6]; /* the counts of all blocks, voters or not, summed */
     uint32_t dropped;   /* and the numbers dropped, summed */
 } gauge_field_answer;
 
@@ -171,13 +173,16 @@ gauge_stepped gauge_step(gauge_track track, const uint8_t *older, size_t older_l
  * A log is one head, a command for each grid block, row by row, and one end. A command is a byte and its operands, numbers of one,
  * two or four bytes, highest byte first:
  *
- *     1 head         width (2 bytes), height (2), N (1), w (1), search (1)           8 bytes in all
- *     2 block        dy (1), dx (1), in two's complement: 255 is -1; distortion (2)  5
- *     3 still block  none: the vector (0,0) with distortion 0                        1
- *     4 end          the number of blocks (4)                                        5
+ *     1 head         width (2 bytes), height (2), N (1), w (1), search (1); measure 1  8 bytes in all
+ *     2 block        dy (1), dx (1), in two's complement: 255 is -1; distortion (2)    5
+ *     3 still block  none: the vector (0,0) with distortion 0                          1
+ *     4 end          the number of blocks (4)                                          5
+ *     5 block        dy (1), dx (1), distortion (4), which is above 65,535             7
+ *     6 head         as 1, then the measure (1), which is 2                            9
  *
- * So the field of a pair 5 wide and 4 high, N 4, w 1, search 2, whose one block has (0,1) and distortion 0, is
- * 01 00 05 00 04 04 01 02 | 02 00 01 00 00 | 04 00 00 00 01. (0,0) with distortion 0 is always command 3, never 2.
+ * So the field of a pair 5 wide and 4 high, N 4, w 1, search 2, measure 1, whose one block has (0,1) and distortion 0, is
+ * 01 00 05 00 04 04 01 02 | 02 00 01 00 00 | 04 00 00 00 01. Each field has one log alone: (0,0) with distortion 0 is always command 3, any
+ * other block command 2 where its distortion fits two bytes, else 5; the head is command 1 by absolute and 6 by squares.
  *
  * Commands are judged from the first on: 14 where the byte is none of these or another command is due, then 13 where the bytes end,
  * then 15, 16 or 17 by the operands. A refusal's place is the offset of its command: the log's length where no byte is left, the first
@@ -187,7 +192,7 @@ gauge_stepped gauge_step(gauge_track track, const uint8_t *older, size_t older_l
 typedef struct {
     size_t width, height, n, w;
     uint32_t search;
-    uint32_t measure; /* 1: there are logs of no other, and their bytes do not say it. Writing takes 1 alone; reading and walking hand it out */
+    uint32_t measure; /* 1 absolute, 2 squares. Writing goes by it; reading and walking hand out 1 after command 1, 2 after command 6 */
 } gauge_head;
 
 /* What writing a log answers. */
@@ -197,8 +202,8 @@ typedef struct {
     size_t length; /* the log's length in bytes */
 } gauge_written;
 
-/* The longest log of a field of this size and N, in bytes: a buffer of this length is never too short. n is not 0. */
-#define GAUGE_LOG_MOST(width, height, n) (8 + 5 * ((size_t)(height) / (n)) * ((size_t)(width) / (n)) + 5)
+/* The longest log of a field of this size and N by either measure, in bytes: a buffer of this length is never too short. n is not 0. */
+#define GAUGE_LOG_MOST(width, height, n) (9 + 7 * ((size_t)(height) / (n)) * ((size_t)(width) / (n)) + 5)
 
 /* Writes the log of a field into a buffer: head numbers, and a list of three numbers a block as the field call fills it. The buffer past the
  * log keeps what it held, as all of it does where the call is refused. Tests 1 3 4 51 5 10 16 19. */
@@ -207,7 +212,7 @@ gauge_written gauge_write_log(gauge_head head, const int32_t *list, size_t list_
 /* What reading a log answers. */
 typedef struct {
     uint32_t refusal;
-    size_t place; /* of a refusal; 8 for refusal 10 */
+    size_t place; /* of a refusal; for refusal 10 where the head ends: 8 after command 1, 9 after command 6 */
     gauge_head head;
 } gauge_log_read;
 
@@ -217,11 +222,11 @@ typedef struct {
  * GAUGE_LIST_LENGTH. */
 gauge_log_read gauge_read_log(const uint8_t *log, size_t log_length, int32_t *list, size_t list_length);
 
-/* Prints a log as text, a line a command until a refusal: `5 4 4 1 2` for a head (width, height, N, w, search), `0 1 0` for a block (dy, dx,
- * distortion), `end 1` for the end (blocks), `refused 14 at 8` for a refusal and its place; 34, the end of the walk, has no line. For more than
- * 65,536 bytes the one line `refused 20 at 65536`, though the log may be read and walked: fields of up to 13,104 blocks never have a log as
- * long. Each line ends in a newline. Puts as much of the text into the buffer as fits, with no zero byte after it, leaves the rest of the
- * buffer as it was, and answers with the length of the whole text, at most GAUGE_TEXT_MOST. */
+/* Prints a log as text, a line a command until a refusal: `5 4 4 1 2` for a head (width, height, N, w, search), `5 4 4 1 2 2` for one that is command
+ * 6 (the measure behind them), `0 1 0` for a block (dy, dx, distortion), `end 1` for the end (blocks), `refused 14 at 8` for a refusal and its
+ * place; 34, the end of the walk, has no line. For more than 65,536 bytes the one line `refused 20 at 65536`, though the log may be read and walked:
+ * fields of up to 9,360 blocks never have a log as long. Each line ends in a newline. Puts as much of the text into the buffer as fits, with no zero
+ * byte after it, leaves the rest of the buffer as it was, and answers with the length of the whole text, at most GAUGE_TEXT_MOST. */
 #define GAUGE_TEXT_MOST 393236
 size_t gauge_print_log(const uint8_t *log, size_t log_length, uint8_t *buffer, size_t buffer_length);
 
@@ -229,7 +234,7 @@ size_t gauge_print_log(const uint8_t *log, size_t log_length, uint8_t *buffer, s
 typedef struct {
     size_t at;       /* the offset of the next command */
     uint32_t phase;  /* 0 before the head, 1 among the blocks, 2 after the end, any other number after a refusal */
-    gauge_head head; /* among the blocks: the head's numbers, the measure not looked at. In any other phase none is, and all are 0 in `next` */
+    gauge_head head; /* among the blocks: the head's numbers. In any other phase none is looked at, and all are 0 in `next` */
     size_t blocks;   /* among the blocks: how many were read. In any other phase likewise */
 } gauge_cursor;
 
@@ -237,7 +242,7 @@ typedef struct {
 typedef struct {
     uint32_t refusal;
     size_t place;        /* a refusal's place */
-    uint32_t command;    /* 1 head, 2 block, 3 still block, 4 end; 0 where refused */
+    uint32_t command;    /* 1 or 6 head, 2 or 5 block, 3 still block, 4 end; 0 where refused */
     gauge_head head;     /* of a head; what a command does not have, here and in the numbers below, is 0 */
     int32_t dy, dx;      /* of a block */
     uint32_t distortion; /* of a block */
@@ -246,8 +251,8 @@ typedef struct {
 } gauge_walked;
 
 /* Hands out the command at a cursor, and the cursor to go on with. A log is accepted if the first refusal of a walk from its start is 34. Tests
- * 34 (phase 3 or more, `at` past the log, among the blocks a head that 15 would turn away or more blocks than the grid has), then 14 13 15
- * 16 17; after the end 18, or 34 where no byte is left. The place of 34 is 0. */
+ * 34 (phase 3 or more, `at` past the log, among the blocks a head that 15 would turn away, a measure neither 1 nor 2, or more blocks than the grid
+ * has), then 14 13 15 16 17; after the end 18, or 34 where no byte is left. The place of 34 is 0. */
 gauge_walked gauge_walk(const uint8_t *log, size_t log_length, gauge_cursor cursor);
 
 #ifdef __cplusplus

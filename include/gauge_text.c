@@ -11,13 +11,13 @@ const char *gauge_refusal_text(uint32_t refusal)
     case GAUGE_BAD_FRAME:
         return "a frame's length is not width x height";
     case GAUGE_BAD_N:
-        return "the block size N is not 4, 8 or 16, or is larger than width or height";
+        return "the block size N is not 4, 8, 16 or 32, or is larger than width or height";
     case GAUGE_BAD_SEARCH:
         return "the search is not 1 to 4";
     case GAUGE_BAD_WINDOW:
         return "the search does not take this window w";
     case GAUGE_BAD_THRESHOLD:
-        return "the threshold is over 65,280 (16,646,400 by squares), or not 0 with a search other than cross";
+        return "the threshold is over 261,120 (66,585,600 by squares), or not 0 with a search other than cross";
     case GAUGE_BAD_PLACE:
         return "the block or the row's part is not wholly inside its frame";
     case GAUGE_NO_CANDIDATE:
@@ -35,9 +35,9 @@ const char *gauge_refusal_text(uint32_t refusal)
     case GAUGE_LOG_COMMAND:
         return "the log has a command that is unknown or not due";
     case GAUGE_LOG_HEAD:
-        return "the log's head has a size, N, search or window that is not allowed";
+        return "the log's head has a size, N, search, window or measure that is not allowed";
     case GAUGE_LOG_BLOCK:
-        return "a block has a vector or a distortion that it cannot have, or is (0,0) with distortion 0 as command 2";
+        return "a block has a vector or distortion that it cannot have, is (0,0) with distortion 0 as command 2, or has 65,535 or less as command 5";
     case GAUGE_LOG_END:
         return "the log's end has another number of blocks";
     case GAUGE_LOG_AFTER_END:
@@ -55,7 +55,7 @@ const char *gauge_refusal_text(uint32_t refusal)
     case GAUGE_WALK_OVER:
         return "the walk along the log is over, or its cursor belongs to no walk of this log";
     case GAUGE_BAD_MEASURE:
-        return "the measure is neither 1 (absolute) nor 2 (squares), or it is not 1 for a log that is to be written";
+        return "the measure is neither 1 (absolute) nor 2 (squares)";
     case GAUGE_NO_VOTER:
         return "no block votes: in none do the newer pels differ by 8 grey levels or more";
     default:
