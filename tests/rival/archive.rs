@@ -35,7 +35,7 @@ struct GaugeFound {
     dy: i32,
     dx: i32,
     distortion: u32,
-    counts: [u32; 5],
+    counts: [u32; 6],
     dropped: u32,
 }
 
@@ -46,7 +46,7 @@ struct GaugeFieldAnswer {
     dx: i32,
     votes: u32,
     voters: u32,
-    counts: [u32; 5],
+    counts: [u32; 6],
     dropped: u32,
 }
 

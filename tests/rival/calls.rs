@@ -7,7 +7,7 @@ use crate::archive;
 use crate::fields::{few_blocks, good_request, lend_for, spoil};
 use crate::group::Group;
 use crate::pictures::{Chance, KINDS};
-use crate::question::{FieldAnswer, FieldRequest, Lent, Pair, Request, Track};
+use crate::question::{FieldAnswer, FieldRequest, Lent, Pair, Request, Track, AT_1};
 use crate::reckoning::{self, exhaustive_best, reckoned_step, NEW};
 use crate::rival::{largest_threshold, Block};
 
@@ -102,7 +102,7 @@ impl Calls {
             .map(|entry| ((entry[0] as i64, entry[1] as i64), entry[2] as i64))
             .collect();
         self.bests.same(inputs, &listed[..], bests);
-        let all = answer.dropped + answer.counts[4];
+        let all = answer.dropped + answer.counts[AT_1];
         self.bests.same(inputs, all, candidates);
     }
 
@@ -133,7 +133,7 @@ impl Calls {
                 column,
             };
             let found = archive::search_block(pair, &question);
-            let probes = found.counts[4];
+            let probes = found.counts[AT_1];
             let fact = found.refusal == 0 && found.distortion >= least && probes <= most;
             let inputs = format!("{inputs}, {question}");
             self.bounds.holds(&inputs, fact, &found, &(least, most));
@@ -168,7 +168,7 @@ fn homing_part(chance: &mut Chance) -> i32 {
 fn step_inputs(chance: &mut Chance, large: bool) -> (Pair, FieldRequest, Lent) {
     let (kind, _) = chance.one_of(&KINDS);
     let n = if large {
-        chance.one_of(&[8, 16])
+        chance.one_of(&[8, 16, 32])
     } else {
         chance.one_of(&[4, 4, 4, 4, 8])
     };
@@ -243,7 +243,7 @@ fn other_searches() -> u64 {
     for seed in 220_000..221_500 {
         let chance = &mut Chance::new(seed);
         let (kind, _) = KINDS[seed as usize % KINDS.len()];
-        let n = chance.one_of(&[4, 4, 8]);
+        let n = chance.one_of(&[4, 4, 4, 8, 8, 32]);
         let search = chance.one_of(&[1, 3, 4]);
         let measure = chance.one_of(&[1, 2]);
         let request = good_request(chance, n, search, measure);

@@ -4,7 +4,7 @@
 
 use crate::archive;
 use crate::group::Group;
-use crate::question::{Measuring, Pair, Request, Viewing, NO_MEASURES};
+use crate::question::{Measuring, Pair, Request, Viewing, NO_MEASURES, SIZES};
 use crate::rival;
 
 /// Bits above the lower 32, which a careless narrowing would lose.
@@ -121,7 +121,8 @@ fn sizes() -> u64 {
 /// Refusal 2: frames one short and one long, and of other lengths.
 fn lengths() -> u64 {
     let mut group = Group::new("edges, frame lengths");
-    for (width, height, n) in [(4, 4, 4), (5, 4, 4), (8, 9, 8), (17, 16, 16), (1024, 4, 4)] {
+    let pairs = [(4, 4, 4), (5, 4, 4), (8, 9, 8), (17, 16, 16), (1024, 4, 4)];
+    for (width, height, n) in pairs.into_iter().chain([(33, 32, 32)]) {
         let right = width * height;
         let lengths = [0, 1, right / 2, right - width, right - 1, right, right + 1];
         let lengths: Vec<usize> = lengths.into_iter().chain([2 * right]).collect();
@@ -140,19 +141,20 @@ fn lengths() -> u64 {
     group.end()
 }
 
-/// Refusal 3: N not 4, 8 or 16, or larger than width or height.
+/// Refusal 3: N not 4, 8, 16 or 32, or larger than width or height.
 fn block_sizes() -> u64 {
     let mut group = Group::new("edges, N");
     let sizes = [
-        0, 1, 2, 3, 4, 5, 7, 8, 9, 12, 15, 16, 17, 32, 64, 256, 260, 264,
+        0, 1, 2, 3, 4, 5, 7, 8, 9, 12, 15, 16, 17, 24, 31, 32, 33, 48, 64, 128, 256, 260, 264, 288,
     ];
-    let far = [ABOVE_32 + 4, TOP_BIT + 8, usize::MAX - 3, usize::MAX];
-    // Frames that each N fits into or not quite, and two that N over 16 would fit into.
+    let far = [ABOVE_32 + 4, TOP_BIT + 32, usize::MAX - 3, usize::MAX];
+    // Frames that each N fits into or not quite, and two that N over 32 would fit into.
     let small = (4..=18).flat_map(|width| (4..=18).map(move |height| (width, height)));
-    for (width, height) in small.chain([(64, 64), (1024, 1024)]) {
+    let around_32 = (31..=33).flat_map(|width| (31..=33).map(move |height| (width, height)));
+    for (width, height) in small.chain(around_32).chain([(64, 64), (1024, 1024)]) {
         let pair = pair_of(width, height);
         for n in sizes.into_iter().chain(far) {
-            let allowed = (n == 4 || n == 8 || n == 16) && n <= width && n <= height;
+            let allowed = SIZES.contains(&n) && n <= width && n <= height;
             let refusal = if allowed { 0 } else { 3 };
             all_calls(&mut group, &pair, n, 0, 0, refusal);
         }
@@ -168,8 +170,11 @@ fn searches() -> u64 {
     let windows = (0..=40).chain([48, 63, 64, 128, 255, 256, 258, 263, 1024, 65536, 65538]);
     let far = [ABOVE_32, ABOVE_32 + 2, ABOVE_32 + 7, TOP_BIT, TOP_BIT + 7];
     let windows: Vec<usize> = windows.chain(far).chain([usize::MAX]).collect();
-    let thresholds = [0, 1, 2, 255, 256, 4080, 65279, 65280, 65281, 65535, 65536];
-    let larger = [1_040_400, 16_646_399, 16_646_400, 16_646_401, 16_777_216];
+    let thresholds = [0, 1, 2, 255, 256, 4080, 65_280, 65_281, 65_536];
+    let larger = [
+        261_119, 261_120, 261_121, 262_144, 1_040_400, 16_646_401, 66_585_599, 66_585_600,
+        66_585_601, 67_108_864,
+    ];
     let thresholds = thresholds.into_iter().chain(larger);
     let thresholds: Vec<u32> = thresholds.chain([1 << 31, u32::MAX]).collect();
     for search in kinds.into_iter().chain([1 << 31, u32::MAX - 3, u32::MAX]) {
@@ -183,7 +188,7 @@ fn searches() -> u64 {
                     3 => w == 7,
                     _ => [2, 4, 8, 16].contains(&w),
                 };
-                let most = if measure == 2 { 16_646_400 } else { 65_280 };
+                let most = if measure == 2 { 66_585_600 } else { 261_120 };
                 let refusal = if !(1..=4).contains(&search) {
                     4
                 } else if measure != 1 && measure != 2 {
@@ -214,8 +219,8 @@ fn searches() -> u64 {
 /// Refusal 51: every number that is no measure; and T by each measure at its limit and one past, "whatever N is".
 fn measures() -> u64 {
     let mut group = Group::new("edges, measures");
-    let pair = pair_of(19, 17);
-    for n in [4, 8, 16] {
+    let pair = pair_of(35, 33);
+    for n in SIZES {
         let bad = NO_MEASURES.map(|measure| (measure, 51));
         for (measure, refusal) in [(1, 0), (2, 0)].into_iter().chain(bad) {
             for (search, w) in [(1, 16), (2, 16), (3, 7), (4, 16)] {
@@ -243,12 +248,12 @@ fn measures() -> u64 {
             }
         }
         for (measure, t, refusal) in [
-            (1, 65_280, 0),
-            (1, 65_281, 6),
-            (1, 16_646_400, 6),
-            (2, 65_281, 0),
-            (2, 16_646_400, 0),
-            (2, 16_646_401, 6),
+            (1, 261_120, 0),
+            (1, 261_121, 6),
+            (1, 66_585_600, 6),
+            (2, 261_121, 0),
+            (2, 66_585_600, 0),
+            (2, 66_585_601, 6),
             (2, u32::MAX, 6),
             (3, u32::MAX, 51),
         ] {
@@ -293,9 +298,12 @@ fn places(last: usize, n: usize, step: usize) -> Vec<usize> {
 /// Refusal 7: rows and columns at the last place, one past, and at the top of their type.
 fn block_places() -> u64 {
     let mut group = Group::new("edges, row and column");
-    for (width, height) in [(16, 16), (20, 17), (17, 32), (64, 16), (33, 35)] {
+    for (width, height) in [(16, 16), (20, 17), (17, 32), (64, 16), (32, 32), (33, 35)] {
         let pair = pair_of(width, height);
-        for n in [4, 8, 16] {
+        for n in SIZES {
+            if n > width || n > height {
+                continue;
+            }
             let (last_row, last_column) = (height - n, width - n);
             for row in places(last_row, n, width) {
                 for column in places(last_column, n, width) {
@@ -354,9 +362,13 @@ fn vectors_and_sides() -> u64 {
         (21, 23, 4, 10, 9),
         (50, 50, 16, 17, 17),
         (50, 50, 16, 16, 18),
+        (32, 32, 32, 0, 0),
+        (66, 66, 32, 17, 17),
+        (66, 66, 32, 16, 18),
         (60, 40, 8, 32, 52),
         (1024, 4, 4, 0, 1020),
         (4, 1024, 4, 1020, 0),
+        (1024, 33, 32, 1, 992),
     ] {
         let pair = pair_of(width, height);
         for &dy in &parts {
@@ -420,11 +432,11 @@ fn order() -> u64 {
         let pair = broken_pair(&rules);
         // By absolute and by squares in turn.
         for (good, bad, measure, over, none) in [
-            (1, 0, 1, 65_281, 3),
-            (2, 5, 2, 16_646_401, 0),
-            (3, 6, 1, 65_281, 257),
-            (4, 5, 1, 65_281, 258),
-            (4, u32::MAX, 2, 16_646_401, u32::MAX),
+            (1, 0, 1, 261_121, 3),
+            (2, 5, 2, 66_585_601, 0),
+            (3, 6, 1, 261_121, 257),
+            (4, 5, 1, 261_121, 258),
+            (4, u32::MAX, 2, 66_585_601, u32::MAX),
         ] {
             let request = Request {
                 n: if broken(3) { 5 } else { 4 },
@@ -493,6 +505,7 @@ fn table_pairs() -> Vec<Pair> {
         (8, 8),
         (16, 16),
         (17, 18),
+        (33, 32),
     ] {
         let right: usize = width * height;
         let short = right.saturating_sub(1);
@@ -514,7 +527,7 @@ fn table() -> u64 {
     let mut group = Group::new("table of refusals, single block");
     let mut others = Group::new("table of refusals, measuring and row view");
     for pair in table_pairs() {
-        for n in [0, 3, 4, 5, 8, 15, 16, 17, 32] {
+        for n in [0, 3, 4, 5, 8, 15, 16, 17, 32, 33, 64] {
             let last_row = pair.height.saturating_sub(n);
             let last_column = pair.width.saturating_sub(n);
             let places = [
@@ -530,12 +543,12 @@ fn table() -> u64 {
                         for (t, measure) in [
                             (0, 1),
                             (1, 1),
-                            (65_280, 1),
-                            (65_281, 1),
+                            (261_120, 1),
+                            (261_121, 1),
                             (0, 2),
-                            (65_281, 2),
-                            (16_646_400, 2),
-                            (16_646_401, 2),
+                            (261_121, 2),
+                            (66_585_600, 2),
+                            (66_585_601, 2),
                             (0, 3),
                         ] {
                             let request = Request {

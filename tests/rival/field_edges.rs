@@ -113,6 +113,10 @@ fn pairs((measure, by): (u32, &str)) -> u64 {
         (16, 16, 16, 0),
         (15, 16, 16, 3),
         (16, 15, 16, 3),
+        (32, 32, 32, 0),
+        (31, 32, 32, 3),
+        (32, 31, 32, 3),
+        (1024, 1024, 32, 0),
     ] {
         let pair = pair_of(width, height);
         let lengths = needed(&pair, n);
@@ -132,7 +136,8 @@ fn pairs((measure, by): (u32, &str)) -> u64 {
         asked(&mut group, &pair, plain(4), (60, 63), 2);
     }
     let pair = pair_of(64, 64);
-    for n in [0, 1, 2, 3, 5, 7, 9, 12, 15, 17, 32, 64, usize::MAX] {
+    let small = [0, 1, 2, 3, 5, 7, 9, 12, 15, 17, 24, 31, 33, 48, 64];
+    for n in small.into_iter().chain([usize::MAX]) {
         asked(&mut group, &pair, plain(n), (768, 4225), 3);
     }
     group.end()
@@ -167,11 +172,12 @@ fn requests() -> u64 {
         (4, 3, 0, 1, 5),
         (4, 16, 0, 2, 0),
         (4, 32, 0, 2, 5),
-        (4, 4, 65_280, 1, 0),
-        (4, 4, 65_281, 1, 6),
-        (4, 4, 65_281, 2, 0),
-        (4, 4, 16_646_400, 2, 0),
-        (4, 4, 16_646_401, 2, 6),
+        (4, 4, 65_281, 1, 0),
+        (4, 4, 261_120, 1, 0),
+        (4, 4, 261_121, 1, 6),
+        (4, 4, 261_121, 2, 0),
+        (4, 4, 66_585_600, 2, 0),
+        (4, 4, 66_585_601, 2, 6),
         (4, 4, u32::MAX, 1, 6),
         (4, 4, u32::MAX, 2, 6),
         (4, 4, u32::MAX, 0, 51),
@@ -182,8 +188,11 @@ fn requests() -> u64 {
         (2, 7, 1, 2, 6),
         (3, 7, 1, 2, 6),
     ] {
-        let request = asks(16, search, w, t, measure);
-        asked(&mut group, &pair, request, (36, 3185), refusal);
+        // 12 blocks, and 2.
+        for (n, list) in [(16, 36), (32, 6)] {
+            let request = asks(n, search, w, t, measure);
+            asked(&mut group, &pair, request, (list, 3185), refusal);
+        }
     }
     for measure in NO_MEASURES {
         for (search, w) in [(1, 7), (2, 7), (3, 7), (4, 8)] {
@@ -202,15 +211,18 @@ fn lengths() -> u64 {
     let pair = pair_of(64, 48);
     for (search, w, measure) in [(1, 7, 1), (2, 7, 1), (2, 7, 2), (3, 7, 2), (4, 8, 2)] {
         let no_table = if search == 2 { 9 } else { 0 };
-        for (list, table, refusal) in [
-            (36, 3185, 0),
-            (99, 4000, 0),
-            (36, 3184, no_table),
-            (36, 0, no_table),
-            (35, 3185, 10),
-            (0, 3185, 10),
+        for (n, list, table, refusal) in [
+            (16, 36, 3185, 0),
+            (16, 99, 4000, 0),
+            (16, 36, 3184, no_table),
+            (16, 36, 0, no_table),
+            (16, 35, 3185, 10),
+            (16, 0, 3185, 10),
+            (32, 6, 3185, 0),
+            (32, 6, 3184, no_table),
+            (32, 5, 3185, 10),
         ] {
-            let request = asks(16, search, w, 0, measure);
+            let request = asks(n, search, w, 0, measure);
             asked(&mut group, &pair, request, (list, table), refusal);
         }
     }
@@ -229,7 +241,7 @@ fn step_of_b(group: &mut Group, track: Track, measure: u32, refusal: i64) {
     let wanted = match refusal {
         0 => {
             let there = stands(true, track.y, track.x - 1, track.steps + 1);
-            let answer = FieldAnswer::accepted((0, 1), (1, 1), [0, 0, 2, 2, 1], 1);
+            let answer = FieldAnswer::accepted((0, 1), (1, 1), [0, 0, 0, 2, 2, 1], 1);
             (answer, there)
         }
         _ => (refused(refusal), track),
@@ -332,7 +344,7 @@ fn whole_fields() -> u64 {
         width: 11,
         height: 7,
     };
-    let wanted = FieldAnswer::accepted((0, 0), (2, 2), [0, 0, 2, 2, 2], 0);
+    let wanted = FieldAnswer::accepted((0, 0), (2, 2), [0, 0, 0, 2, 2, 2], 0);
     for measure in [1, 2] {
         let request = asks(4, 2, 0, 0, measure);
         field_of(&mut group, &pair, request, wanted, &[0; 6]);
@@ -340,12 +352,18 @@ fn whole_fields() -> u64 {
 
     // The table has sums of pels by each measure. In flat frames no block votes.
     let pair = flat(1024, 1024, 255, 0);
-    let wanted = FieldAnswer::accepted((0, 0), (0, 0), [4096; 5], 0);
-    for (measure, most) in [(1, 65_280), (2, 16_646_400)] {
-        let request = asks(16, 2, 0, 0, measure);
-        let list = [0, 0, most].repeat(4096);
+    let of_16 = [0, 4096, 4096, 4096, 4096, 4096];
+    for (n, measure, most, counts) in [
+        (16, 1, 65_280, of_16),
+        (16, 2, 16_646_400, of_16),
+        (32, 1, 261_120, [1024; 6]),
+        (32, 2, 66_585_600, [1024; 6]),
+    ] {
+        let request = asks(n, 2, 0, 0, measure);
+        let wanted = FieldAnswer::accepted((0, 0), (0, 0), counts, 0);
+        let list = [0, 0, most].repeat(counts[5] as usize);
         field_of(&mut group, &pair, request, wanted, &list);
-        let mut lent = lent(3 * 4096, 1025 * 1025);
+        let mut lent = lent(list.len(), 1025 * 1025);
         archive::field(&pair, &request, &mut lent);
         let last = lent.table[1025 * 1025 - 1];
         group.same("the greatest sum", last, 267_386_880);
@@ -356,7 +374,7 @@ fn whole_fields() -> u64 {
     pair.newer.iter_mut().step_by(2).for_each(|pel| *pel = 48);
     pair.older.clone_from(&pair.newer);
     let all = (65_536, 65_536);
-    let wanted = FieldAnswer::accepted((0, 0), all, [0, 0, 0, 0, 65_536], 0);
+    let wanted = FieldAnswer::accepted((0, 0), all, [0, 0, 0, 0, 0, 65_536], 0);
     for measure in [1, 2] {
         let request = asks(4, 1, 0, 0, measure);
         field_of(&mut group, &pair, request, wanted, &[0; 3 * 65_536]);
@@ -364,7 +382,7 @@ fn whole_fields() -> u64 {
 
     let pair = flat(8, 8, 7, 7);
     for (search, w, t, count) in [(3, 7, 0, 28), (4, 2, 0, 16), (4, 2, 1, 4)] {
-        let wanted = FieldAnswer::accepted((0, 0), (0, 0), [0, 0, 0, 0, count], 0);
+        let wanted = FieldAnswer::accepted((0, 0), (0, 0), [0, 0, 0, 0, 0, count], 0);
         for measure in [1, 2] {
             let request = asks(4, search, w, t, measure);
             field_of(&mut group, &pair, request, wanted, &[0; 12]);
@@ -375,7 +393,7 @@ fn whole_fields() -> u64 {
     let pair = flat(8, 8, 7, 16);
     for (measure, distortion) in [(1, 144), (2, 1296)] {
         for (t, count) in [(distortion, 16), (distortion + 1, 4)] {
-            let wanted = FieldAnswer::accepted((0, 0), (0, 0), [0, 0, 0, 0, count], 0);
+            let wanted = FieldAnswer::accepted((0, 0), (0, 0), [0, 0, 0, 0, 0, count], 0);
             let request = asks(4, 4, 2, t as u32, measure);
             let list = [0, 0, distortion].repeat(4);
             field_of(&mut group, &pair, request, wanted, &list);
@@ -455,9 +473,9 @@ fn stepping() -> u64 {
         (c.older[place], c.newer[place]) = (15, 15);
     }
     let b = frames_of_b();
-    let full = FieldAnswer::accepted((0, 1), (1, 1), [0, 0, 0, 0, 2], 0);
-    let up = FieldAnswer::accepted((1, 0), (1, 1), [0, 0, 2, 2, 1], 1);
-    let still = |count| FieldAnswer::accepted((0, 0), (4, 4), [0, 0, 0, 0, count], 0);
+    let full = FieldAnswer::accepted((0, 1), (1, 1), [0, 0, 0, 0, 0, 2], 0);
+    let up = FieldAnswer::accepted((1, 0), (1, 1), [0, 0, 0, 2, 2, 1], 1);
+    let still = |count| FieldAnswer::accepted((0, 0), (4, 4), [0, 0, 0, 0, 0, count], 0);
     for (pair, request, answer, y, x) in [
         (&b, asks(4, 1, 1, 0, 1), full, 10, 19),
         (&b, asks(4, 1, 1, 0, 2), full, 10, 19),

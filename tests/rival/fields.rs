@@ -4,7 +4,7 @@
 use crate::archive;
 use crate::group::Group;
 use crate::pictures::{made_up, Chance, Kind, KINDS};
-use crate::question::{FieldAnswer, FieldRequest, Lent, Pair, MEASURES, NO_MEASURES};
+use crate::question::{FieldAnswer, FieldRequest, Lent, Pair, MEASURES, NO_MEASURES, SIZES};
 use crate::reckoning::{self, majority};
 use crate::rival::{largest_threshold, Block, Vector};
 
@@ -74,7 +74,7 @@ pub fn spoil(chance: &mut Chance, pair: &mut Pair, request: &mut FieldRequest) {
         1 => pair.height = chance.one_of(&[0, 3, 1025, usize::MAX]),
         2 => drop(pair.older.pop()),
         3 => pair.newer.push(0),
-        4 => request.n = chance.one_of(&[0, 2, 5, 12, 32]),
+        4 => request.n = chance.one_of(&[0, 2, 5, 12, 32, 64]),
         5 => request.search = chance.one_of(&[0, 5, u32::MAX]),
         6 => request.w = chance.one_of(&[17, 6, 32, usize::MAX]),
         7 => request.measure = chance.one_of(&NO_MEASURES),
@@ -87,7 +87,7 @@ pub fn spoil(chance: &mut Chance, pair: &mut Pair, request: &mut FieldRequest) {
 
 /// A made-up pair of a few blocks of size N.
 pub fn few_blocks(chance: &mut Chance, kind: Kind, n: usize, w: usize) -> Pair {
-    let most = [5, 3, 2][n.trailing_zeros() as usize - 2] * n as i64;
+    let most = [5, 3, 2, 2][n.trailing_zeros() as usize - 2] * n as i64;
     let width = chance.between(n as i64, most + 3) as usize;
     let height = chance.between(n as i64, most + 3) as usize;
     made_up(chance, kind, width, height, w)
@@ -182,7 +182,7 @@ fn by_search(
         let seed = 80_000 + 2_000 * search as u64 + seed;
         let chance = &mut Chance::new(seed);
         let (kind, _) = KINDS[seed as usize % KINDS.len()];
-        let n = chance.one_of(&[4, 4, 4, 8, 8, 16]);
+        let n = chance.one_of(&[4, 4, 4, 8, 8, 16, 32]);
         let request = good_request(chance, n, search, measure);
         let pair = few_blocks(chance, kind, n, request.w);
         let lent = lend_for(chance, &pair, &request);
@@ -213,9 +213,10 @@ fn spoilt() -> u64 {
 /// List and table just long enough and one short, for every search and many sizes.
 fn edges() -> u64 {
     let mut group = Group::new("fields, list and table one short");
-    let sizes = [(4, 4), (5, 4), (7, 9), (8, 8), (16, 16), (17, 35), (31, 8)];
+    let small = [(4, 4), (5, 4), (7, 9), (8, 8), (16, 16), (17, 35), (31, 8)];
+    let sizes = small.into_iter().chain([(32, 32), (35, 70)]);
     for (width, height) in sizes {
-        for n in [4, 8, 16] {
+        for n in SIZES {
             if n > width || n > height {
                 continue;
             }
@@ -248,12 +249,11 @@ fn edges() -> u64 {
 /// Pairs at the ends of the sizes, with small windows.
 fn large_frames() -> u64 {
     let mut group = Group::new("fields, large frames");
-    for (index, (width, height)) in [(1024, 5), (6, 1024), (1024, 19), (640, 480), (1024, 1024)]
-        .into_iter()
-        .enumerate()
-    {
-        for n in [4, 8, 16] {
-            if n > width || n > height || (width * height > 40_000 && n != 16) {
+    let thin = [(1024, 5), (6, 1024), (1024, 19), (1024, 33), (33, 1024)];
+    let sizes = thin.into_iter().chain([(640, 480), (1024, 1024)]);
+    for (index, (width, height)) in sizes.enumerate() {
+        for n in SIZES {
+            if n > width || n > height || (width * height > 40_000 && n < 16) {
                 continue;
             }
             let seed = 95_000 + (index * 20 + n) as u64;

@@ -1,6 +1,6 @@
 //! One log through every call that takes logs: written, read, read and written back, printed and walked, with every answer, every
 //! place of lent memory and a few behind it against the rival. Each refusal of each call, and each fault that 16 is for, must have
-//! been met in the end.
+//! been met in the end, and each command.
 
 use crate::archive;
 use crate::fields::{length_around, BEHIND};
@@ -42,6 +42,12 @@ struct Met {
     walking: [u64; 52],
     faults_written: [u64; FAULTS.len()],
     faults_in_logs: [u64; FAULTS.len()],
+    /// How often each command was handed out, and each refused by 15, 16 and 13.
+    commands: [u64; 7],
+    refused: [u64; 7],
+    cut: [u64; 7],
+    /// Reading's 10, by its place.
+    short_list: [u64; 10],
 }
 
 /// Raises the count of the fault if it is the only one.
@@ -97,6 +103,10 @@ impl Logs {
                 walking: [0; 52],
                 faults_written: [0; FAULTS.len()],
                 faults_in_logs: [0; FAULTS.len()],
+                commands: [0; 7],
+                refused: [0; 7],
+                cut: [0; 7],
+                short_list: [0; 10],
             },
         }
     }
@@ -123,7 +133,7 @@ impl Logs {
         if wanted.refusal == 16 {
             let k = wanted.place as usize;
             let values = [0, 1, 2].map(|i| list[3 * k + i] as i64);
-            let broken = faults(head, k, values, false);
+            let broken = faults(head, k, values, None);
             alone(&mut self.met.faults_written, &broken);
         }
         there.truncate(wanted.length as usize);
@@ -145,6 +155,9 @@ impl Logs {
         self.reading.same(case, answer, wanted);
         same_places(&mut self.reading, case, &here, &there);
         self.met.reading[wanted.refusal as usize] += 1;
+        if wanted.refusal == 10 {
+            self.met.short_list[wanted.place as usize] += 1;
+        }
         if wanted.refusal == 0 {
             let length = case.log.len();
             let mut buffer = bytes(chance, length + BEHIND);
@@ -210,9 +223,21 @@ impl Logs {
         self.walking
             .same(format_args!("{case}, {cursor:?}"), answer, wanted);
         self.met.walking[wanted.refusal as usize] += 1;
+        self.met.commands[wanted.command as usize] += 1;
+        let rest = case.log.get(cursor.at..).unwrap_or(&[]);
+        let command = rest.first().copied().unwrap_or(0);
+        match wanted.refusal {
+            13 => self.met.cut[command as usize] += 1,
+            15 | 16 => self.met.refused[command as usize] += 1,
+            _ => {}
+        }
         if wanted.refusal == 16 {
-            let values = block_values(&case.log[cursor.at..]);
-            let broken = faults(&cursor.head, cursor.blocks, values, true);
+            let broken = faults(
+                &cursor.head,
+                cursor.blocks,
+                block_values(rest),
+                Some(command),
+            );
             alone(&mut self.met.faults_in_logs, &broken);
         }
         wanted
@@ -251,14 +276,28 @@ impl Logs {
                 wanted.iter().map(count_of).collect(),
             );
         }
-        // A list has no command 2, and a log cannot say a distortion below 0.
+        // A list has no commands, and a log cannot say a distortion below 0.
+        let of_commands = [Fault::StillAsBlock, Fault::SmallAsLong];
         for (what, counts, not) in [
-            ("writing", &met.faults_written, Fault::StillAsBlock),
-            ("logs", &met.faults_in_logs, Fault::Negative),
+            ("writing", &met.faults_written, &of_commands[..]),
+            ("logs", &met.faults_in_logs, &[Fault::Negative]),
         ] {
-            let wanted = FAULTS.into_iter().filter(|&fault| fault != not);
+            let wanted = FAULTS.into_iter().filter(|fault| !not.contains(fault));
             let counts = wanted.map(|fault| (format!("{fault:?}"), counts[fault as usize]));
             each(&format!("logs, faults in {what}"), counts.collect());
+        }
+        for (what, counts, wanted) in [
+            (
+                "commands handed out",
+                &met.commands[..],
+                &[1, 2, 3, 4, 5, 6][..],
+            ),
+            ("commands refused by 15 or 16", &met.refused, &[1, 2, 5, 6]),
+            ("commands cut off", &met.cut, &[1, 2, 4, 5, 6]),
+            ("places of 10 in reading", &met.short_list, &[8, 9]),
+        ] {
+            let counts = wanted.iter().map(|&of| (of.to_string(), counts[of]));
+            each(&format!("logs, {what}"), counts.collect());
         }
         self.writing.end()
             + self.reading.end()

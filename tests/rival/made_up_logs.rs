@@ -5,9 +5,11 @@ use crate::archive;
 use crate::fields::{few_blocks, good_request, lend_for, length_around};
 use crate::group::Group;
 use crate::log_calls::{bytes, numbers, same_places, Case, Logs};
-use crate::logs::{self, blocks_of, bytes_of, refused_head};
+use crate::logs::{
+    self, block_values, blocks_of, bytes_of, largest_distortion, refused_head, size_of,
+};
 use crate::pictures::{Chance, KINDS};
-use crate::question::{Cursor, Head, LogRead};
+use crate::question::{Cursor, Head, LogRead, SIZES};
 
 /// A window that the search takes.
 fn window(chance: &mut Chance, search: u32) -> usize {
@@ -20,7 +22,7 @@ fn window(chance: &mut Chance, search: u32) -> usize {
 
 /// A head that is accepted: mostly of a few blocks, sometimes of a long row or column of them.
 fn good_head(chance: &mut Chance) -> Head {
-    let n: usize = chance.one_of(&[4, 8, 16]);
+    let n = chance.one_of(&SIZES);
     let most = (1024 / n) as i64;
     let (down, across) = match chance.between(0, 39) {
         0 => (chance.between(1, most), 1),
@@ -38,7 +40,7 @@ fn good_head(chance: &mut Chance) -> Head {
         n,
         w: window(chance, search),
         search,
-        measure: 1,
+        measure: chance.one_of(&[1, 2]),
     }
 }
 
@@ -65,10 +67,13 @@ fn good_entry(chance: &mut Chance, head: &Head, k: usize) -> [i32; 3] {
     };
     let dy = part(reach(height, n, w, k / across * n));
     let dx = part(reach(width, n, w, k % across * n));
-    let most = 255 * (n * n) as i64;
-    let distortion = match chance.between(0, 4) {
+    let most = largest_distortion(head);
+    let distortion = match chance.between(0, 5) {
         0 => chance.one_of(&[most, most - 1]),
         1 => chance.one_of(&[0, 1, 255, 256]),
+        // The ends of what commands 2 and 5 carry.
+        2 => chance.one_of(&[65_535, 65_536, 65_537]).min(most),
+        3 => chance.between(0, most.min(65_535)),
         _ => chance.between(0, most),
     };
     [dy, dx, distortion].map(|value| value as i32)
@@ -103,10 +108,10 @@ fn spoil_head(chance: &mut Chance, head: &mut Head) {
     match chance.between(0, 7) {
         0 => head.width = chance.one_of(&size),
         1 => head.height = chance.one_of(&size),
-        2 => head.n = chance.one_of(&[0, 1, 5, 8, 12, 16, 17, 32, 260]),
+        2 => head.n = chance.one_of(&[0, 1, 5, 8, 12, 16, 17, 24, 32, 33, 64, 260, 288]),
         3 => head.w = chance.one_of(&[3, 6, 7, 8, 16, 17, 32, 258, 263]),
         4 => head.search = chance.one_of(&[0, 3, 4, 5, 255, 257, 1 << 31, u32::MAX]),
-        5 => head.measure = chance.one_of(&[0, 2, 2, 3, 255, 257, 65_537, 1 << 31, u32::MAX]),
+        5 => head.measure = chance.one_of(&[0, 1, 2, 3, 255, 257, 258, 65_537, 1 << 31, u32::MAX]),
         6 => head.width = chance.one_of(&far),
         _ => {
             let part = [&mut head.height, &mut head.n, &mut head.w];
@@ -129,7 +134,7 @@ fn spoil_entry(chance: &mut Chance, head: &Head, k: usize, entry: &mut [i32]) {
             _ => chance.between(-20, 20) as i32,
         }
     };
-    let most = 255 * (head.n * head.n) as i32;
+    let most = largest_distortion(head) as i32;
     match chance.between(0, 2) {
         0 => entry[0] = part(chance, head.height, k / across * head.n, entry[0]),
         1 => entry[1] = part(chance, head.width, k % across * head.n, entry[1]),
@@ -172,16 +177,15 @@ fn written(logs: &mut Logs) {
     }
 }
 
-/// Fields of made-up pairs by all searches, as the field call lists them: by absolute written, and read back as they were; by squares
-/// refused.
+/// Fields of made-up pairs by all searches and by both measures, as the field call lists them: written, and read back as they were.
 fn of_fields(logs: &mut Logs) -> u64 {
     let mut group = Group::new("logs of fields");
     for seed in 310_000..312_000 {
         let chance = &mut Chance::new(seed);
         let (kind, _) = KINDS[seed as usize % KINDS.len()];
-        let n = chance.one_of(&[4, 4, 8, 16]);
+        let n = chance.one_of(&[4, 4, 8, 16, 32]);
         let search = chance.between(1, 4) as u32;
-        let measure = chance.one_of(&[1, 1, 1, 2]);
+        let measure = chance.one_of(&[1, 2]);
         let request = good_request(chance, n, search, measure);
         let pair = few_blocks(chance, kind, n, request.w);
         let mut lent = lend_for(chance, &pair, &request);
@@ -199,14 +203,6 @@ fn of_fields(logs: &mut Logs) -> u64 {
         let list = &lent.list[..3 * blocks_of(&head)];
         let buffer_length = bytes_of(&head, list).len();
         let log = logs.write(chance, seed, &head, list, buffer_length);
-        if measure != 1 {
-            group.same(
-                format_args!("{pair}, {request}, seed {seed}"),
-                &log[..],
-                &[],
-            );
-            continue;
-        }
         let mut read = vec![0; list.len()];
         let read_length = read.len();
         let answer = archive::read_log(&log, &mut read, read_length);
@@ -238,11 +234,21 @@ fn offsets(log: &[u8]) -> Vec<usize> {
     }
 }
 
+/// A block as command 2 or 5, whether its distortion is one for that or not.
+fn block_command(command: u8, dy: u8, dx: u8, distortion: u32) -> Vec<u8> {
+    let distortion = distortion.to_be_bytes();
+    let from = if command == 5 { 0 } else { 2 };
+    [&[command, dy, dx], &distortion[from..]].concat()
+}
+
 /// A command by chance, with operands that may fit the head.
 fn any_command(chance: &mut Chance, head: &Head) -> Vec<u8> {
     let blocks = blocks_of(head);
     match chance.between(0, 9) {
-        0 => bytes_of(head, &[])[..8].to_vec(),
+        0 => {
+            let log = bytes_of(head, &[]);
+            log[..size_of(log[0])].to_vec()
+        }
         1 => {
             let number = blocks as u32 + chance.between(0, 2) as u32;
             [&[4], &number.to_be_bytes()[..]].concat()
@@ -252,8 +258,9 @@ fn any_command(chance: &mut Chance, head: &Head) -> Vec<u8> {
         _ => {
             let k = chance.between(0, blocks as i64 - 1) as usize;
             let [dy, dx, distortion] = good_entry(chance, head, k);
-            let distortion = (distortion as u16).to_be_bytes();
-            vec![2, dy as u8, dx as u8, distortion[0], distortion[1]]
+            let command = if distortion > 65_535 { 5 } else { 2 };
+            let command = chance.one_of(&[command, command, 2, 5]);
+            block_command(command, dy as u8, dx as u8, distortion as u32)
         }
     }
 }
@@ -262,13 +269,13 @@ fn any_command(chance: &mut Chance, head: &Head) -> Vec<u8> {
 fn damage(chance: &mut Chance, head: &Head, log: &mut Vec<u8>) -> &'static str {
     let offsets = offsets(log);
     let place = |chance: &mut Chance, length: usize| chance.between(0, length as i64 - 1) as usize;
-    match chance.between(0, 13) {
+    match chance.between(0, 15) {
         0 | 1 if !log.is_empty() => {
             let at = place(chance, log.len());
             log[at] = match chance.between(0, 2) {
                 0 => chance.next() as u8,
                 1 => log[at].wrapping_add(chance.one_of(&[1, 255])),
-                _ => chance.between(0, 6) as u8,
+                _ => chance.between(0, 8) as u8,
             };
             "a byte changed"
         }
@@ -295,7 +302,7 @@ fn damage(chance: &mut Chance, head: &Head, log: &mut Vec<u8>) -> &'static str {
         6 => {
             let length = chance.between(1, 60) as usize;
             *log = bytes(chance, length);
-            log[0] = chance.one_of(&[log[0], 1, 1, 1]);
+            log[0] = chance.one_of(&[log[0], 1, 1, 6]);
             "random bytes"
         }
         7 => {
@@ -303,7 +310,7 @@ fn damage(chance: &mut Chance, head: &Head, log: &mut Vec<u8>) -> &'static str {
             "nothing left"
         }
         8 => {
-            log.truncate(8);
+            log.truncate(size_of(*log.first().unwrap_or(&1)));
             for _ in 0..chance.between(1, 12) {
                 log.extend(any_command(chance, head));
             }
@@ -320,9 +327,9 @@ fn damage(chance: &mut Chance, head: &Head, log: &mut Vec<u8>) -> &'static str {
             log.drain(offsets[i]..offsets[i + 1]);
             "a command taken out"
         }
-        11 if log.len() >= 8 => {
-            let at = 1 + place(chance, 7);
-            log[at] = chance.one_of(&[0, 1, 3, 4, 7, 8, 16, 17, 32, 255]);
+        11 if log.len() >= 9 => {
+            let at = 1 + place(chance, 8);
+            log[at] = chance.one_of(&[0, 1, 2, 3, 4, 7, 8, 16, 17, 32, 255]);
             "a head's byte changed"
         }
         12 if log.len() >= 4 => {
@@ -330,18 +337,36 @@ fn damage(chance: &mut Chance, head: &Head, log: &mut Vec<u8>) -> &'static str {
             log[at] ^= chance.one_of(&[1, 2, 128, 255]);
             "an end's byte changed"
         }
-        _ => {
-            let block = |at: &usize| log[*at] == 2;
+        13 if log.len() >= 9 && (log[0] == 1 || log[0] == 6) => {
+            let numbers = log[1..8].to_vec();
+            let head = match log[0] {
+                1 => [&[6], &numbers[..], &[chance.one_of(&[0, 1, 2, 2, 3])]].concat(),
+                _ => [&[1], &numbers[..]].concat(),
+            };
+            log.splice(..size_of(log[0]), head);
+            "the other command for the head"
+        }
+        turn => {
+            let block = |at: &usize| log[*at] == 2 || log[*at] == 5;
             let at: Vec<usize> = offsets.into_iter().filter(block).collect();
-            if !at.is_empty() {
-                let at = chance.one_of(&at);
-                let operand = 1 + place(chance, 4);
-                match chance.between(0, 3) {
-                    0 => log[at + 1..at + 5].fill(0),
-                    1 => log[at + operand] = chance.between(-18, 18) as u8,
-                    2 => log[at + 3..at + 5].fill(255),
-                    _ => log[at + operand] = chance.next() as u8,
-                }
+            if at.is_empty() {
+                return "nothing";
+            }
+            let at = chance.one_of(&at);
+            let size = size_of(log[at]);
+            if turn == 14 {
+                let [_, _, distortion] = block_values(&log[at..]);
+                let other = if log[at] == 2 { 5 } else { 2 };
+                let block = block_command(other, log[at + 1], log[at + 2], distortion as u32);
+                log.splice(at..at + size, block);
+                return "the other command for a block";
+            }
+            let operand = 1 + place(chance, size - 1);
+            match chance.between(0, 3) {
+                0 => log[at + 1..at + size].fill(0),
+                1 => log[at + operand] = chance.between(-18, 18) as u8,
+                2 => log[at + 3..at + size].fill(255),
+                _ => log[at + operand] = chance.next() as u8,
             }
             "a block's operand changed"
         }

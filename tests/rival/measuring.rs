@@ -3,7 +3,7 @@
 use crate::archive;
 use crate::group::Group;
 use crate::pictures::{made_up, Chance, KINDS};
-use crate::question::{Measuring, Pair, Viewing, NO_MEASURES};
+use crate::question::{Measuring, Pair, Viewing, NO_MEASURES, SIZES};
 use crate::rival;
 
 /// A place along one side of a frame: mostly inside, sometimes just or far outside.
@@ -57,7 +57,7 @@ pub fn run() -> u64 {
     for seed in 70_000..70_900 {
         let chance = &mut Chance::new(seed);
         let (kind, _) = KINDS[seed as usize % KINDS.len()];
-        let n = chance.one_of(&[4, 8, 16]);
+        let n = chance.one_of(&SIZES);
         let reach = chance.one_of(&[3, 20, 60]);
         let width = n + chance.between(0, reach) as usize;
         let height = n + chance.between(0, reach) as usize;

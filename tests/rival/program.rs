@@ -8,7 +8,7 @@
 use crate::archive;
 use crate::group::Group;
 use crate::log_calls::TEXT_MOST;
-use crate::longest_logs::{log_of_65536, still_log};
+use crate::longest_logs::{logs_of_65536, still_log};
 use crate::made_up_logs::{damaged_log, good_log};
 use crate::pictures::Chance;
 use std::fs::{File, OpenOptions};
@@ -181,13 +181,14 @@ fn whole_and_damaged(program: &str) -> u64 {
 /// "20 program only: more than 65,536 bytes, place 65536, printed alone".
 fn at_most(program: &str) -> u64 {
     let mut cases = Cases::new(program, "65,536 bytes and more");
-    let longest = log_of_65536();
-    cases.at_once("as long as a log may be", &longest);
-    for more in [1, 2, 4_096, 65_535, 65_536, 65_537, 1_000_000] {
-        let log = [&longest[..], &vec![3; more]].concat();
-        cases.at_once("longer than a log may be", &log);
-        let damaged = [&vec![9], &log[1..]].concat();
-        cases.at_once("longer, and no log", &damaged);
+    for (longest, _) in logs_of_65536() {
+        cases.at_once("as long as a log may be", &longest);
+        for more in [1, 2, 4_096, 65_535, 65_536, 65_537, 1_000_000] {
+            let log = [&longest[..], &vec![3; more]].concat();
+            cases.at_once("longer than a log may be", &log);
+            let damaged = [&vec![9], &log[1..]].concat();
+            cases.at_once("longer, and no log", &damaged);
+        }
     }
     let still = still_log();
     for length in [65_534, 65_535, 65_536, 65_537, still.len()] {
@@ -218,9 +219,9 @@ fn dribbles(program: &str) -> u64 {
         cases.piped("a few bytes at a time", log, &[1, 7, 2, 18, 3, 5], 100);
         cases.piped("a few bytes, then the rest", log, &[18, usize::MAX], 10_000);
     }
-    let longest = log_of_65536();
+    let [(longest, _), (squares, _)] = logs_of_65536();
     let one_more = [&longest[..], &[0]].concat();
-    for log in [&longest, &one_more] {
+    for log in [&longest, &one_more, &squares] {
         cases.piped("a byte at a time", log, &[1], 0);
         cases.piped(
             "pieces by no rule",

@@ -10,6 +10,15 @@ pub const MEASURES: [(u32, &str); 2] = [(1, "absolute"), (2, "squares")];
 /// Numbers that are none, some of which a careless narrowing would turn into one.
 pub const NO_MEASURES: [u32; 10] = [0, 3, 4, 255, 256, 257, 258, 65_537, 1 << 31, u32::MAX];
 
+/// "Block size N is 4, 8 or 16", and "N may be 32".
+pub const SIZES: [usize; 4] = [4, 8, 16, 32];
+
+/// "Counts become six, for m = 32 first": for m = 32, 16, 8, 4, 2, 1.
+pub type Counts = [i64; 6];
+
+/// The place of the count for m = 1.
+pub const AT_1: usize = 5;
+
 /// A pair as it is lent: two slices and the width and height that are said to go with them. Nothing here need be valid.
 pub struct Pair {
     pub older: Vec<u8>,
@@ -82,15 +91,15 @@ pub struct Viewing {
     pub column: usize,
 }
 
-/// "The result of a search carries a vector, a distortion and five counts, for m = 16, 8, 4, 2, 1 [...] It also carries the
-/// number dropped." A refused call answers "with the number [...] and zeros elsewhere".
+/// "The result of a search carries a vector, a distortion and [...] counts [...] It also carries the number dropped." A refused call
+/// answers "with the number [...] and zeros elsewhere".
 #[derive(Clone, Copy, PartialEq, Eq, Debug, Default)]
 pub struct Answer {
     pub refusal: i64,
     pub dy: i64,
     pub dx: i64,
     pub distortion: i64,
-    pub counts: [i64; 5],
+    pub counts: Counts,
     pub dropped: i64,
 }
 
@@ -102,7 +111,7 @@ pub struct FieldAnswer {
     pub dx: i64,
     pub votes: i64,
     pub voters: i64,
-    pub counts: [i64; 5],
+    pub counts: Counts,
     pub dropped: i64,
 }
 
@@ -111,7 +120,7 @@ impl FieldAnswer {
     pub fn accepted(
         (dy, dx): (i64, i64),
         (votes, voters): (i64, i64),
-        counts: [i64; 5],
+        counts: Counts,
         dropped: i64,
     ) -> FieldAnswer {
         FieldAnswer {
@@ -136,8 +145,8 @@ pub struct Track {
     pub steps: u32,
 }
 
-/// A log's head: "width and height (2 bytes each), N, w, search (1 each)", and the measure, which a log's bytes do not have. Laid out
-/// as the header's gauge_head.
+/// A log's head: "width and height (2 bytes each), N, w, search (1 each)", and the measure, "1 after command 1". Laid out as the header's
+/// gauge_head.
 #[derive(Clone, Copy, PartialEq, Eq, Debug, Default)]
 #[repr(C)]
 pub struct Head {
@@ -176,7 +185,7 @@ pub struct Cursor {
     pub blocks: usize,
 }
 
-/// "A walker over a lent log hands out one command a call": 1 head, 2 block, 3 still block, 4 end, with its values; 0 with a
+/// "A walker over a lent log hands out one command a call": 1 or 6 head, 2 or 5 block, 3 still block, 4 end, with its values; 0 with a
 /// refusal.
 #[derive(Clone, Copy, PartialEq, Eq, Debug, Default)]
 pub struct Walked {

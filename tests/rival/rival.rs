@@ -1,7 +1,9 @@
 //! The rival: the rules of docs/REFERENCE.md for one block, written down as directly as they read and with no thought of speed.
 //! Every function names the rules' sentence that it stands for. No table, no sums kept from one place to the next, i64 throughout.
 
-use crate::question::{Answer, FieldRequest, Measured, Measuring, Pair, Request, Viewed, Viewing};
+use crate::question::{
+    Answer, Counts, FieldRequest, Measured, Measuring, Pair, Request, Viewed, Viewing,
+};
 
 /// A vector (dy, dx).
 pub type Vector = (i64, i64);
@@ -152,9 +154,9 @@ fn least(list: &[Vector], value: impl Fn(Vector) -> i64) -> (Vector, i64) {
     best
 }
 
-/// The place of m's count among "five counts, for m = 16, 8, 4, 2, 1".
+/// The place of m's count: "counts become six, for m = 32 first", then "for m = 16, 8, 4, 2, 1".
 fn place_of(m: i64) -> usize {
-    [16, 8, 4, 2, 1]
+    [32, 16, 8, 4, 2, 1]
         .iter()
         .position(|&known| known == m)
         .unwrap()
@@ -167,7 +169,7 @@ fn probed((dy, dx): Vector, distortion: i64, probes: i64) -> Answer {
         dy,
         dx,
         distortion,
-        counts: [0, 0, 0, 0, probes],
+        counts: [0, 0, 0, 0, 0, probes],
         dropped: 0,
     }
 }
@@ -182,7 +184,7 @@ fn full(block: &Block, w: i64) -> Answer {
 
 /// "2 pruned", step by step.
 fn pruned(block: &Block, w: i64) -> Answer {
-    let mut counts = [0; 5];
+    let mut counts: Counts = [0; 6];
     let mut dropped = 0;
 
     // "Begin with all candidates and E = distortion of (0,0)."
@@ -360,9 +362,9 @@ pub fn is_refused_size(width: i64, height: i64) -> bool {
     width < 4 || width > 1024 || height < 4 || height > 1024
 }
 
-/// "3 N not allowed or too big": "Block size N is 4, 8 or 16, at most width and height".
+/// "3 N not allowed or too big": "Block size N is 4, 8 or 16, at most width and height", and "N may be 32".
 pub fn is_refused_n(width: i64, height: i64, n: i64) -> bool {
-    (n != 4 && n != 8 && n != 16) || n > width || n > height
+    (n != 4 && n != 8 && n != 16 && n != 32) || n > width || n > height
 }
 
 /// "4 search not 1 to 4".
@@ -380,19 +382,19 @@ pub fn is_refused_window(search: i64, w: i64) -> bool {
 }
 
 /// "51, measure not 1 or 2".
-fn is_refused_measure(measure: u32) -> bool {
+pub fn is_refused_measure(measure: u32) -> bool {
     measure != 1 && measure != 2
 }
 
-/// "T over 65,280" is refused; "T may go up to 16,646,400 with squares".
+/// "T may go [...] to 261,120, or 66,585,600 with squares".
 pub fn largest_threshold(measure: u32) -> u32 {
     match measure {
-        1 => 65_280,
-        _ => 16_646_400,
+        1 => 261_120,
+        _ => 66_585_600,
     }
 }
 
-/// "6 T over 65,280, or not 0 with search 1, 2 or 3", that limit by the measure.
+/// "6 T over" its limit, "or not 0 with search 1, 2 or 3".
 fn is_refused_threshold(search: i64, measure: u32, t: u32) -> bool {
     t > largest_threshold(measure) || (t != 0 && search != 4)
 }

@@ -4,7 +4,7 @@
 use crate::archive;
 use crate::group::Group;
 use crate::pictures::{made_up, rough_pair, Chance, Kind, KINDS};
-use crate::question::{Answer, Pair, Request, MEASURES};
+use crate::question::{Answer, Pair, Request, AT_1, MEASURES, SIZES};
 use crate::rival::{self, largest_threshold, Block};
 
 /// A made-up pair, the seed that it came from and the block size asked for.
@@ -72,13 +72,13 @@ impl std::fmt::Display for Inputs<'_> {
 }
 
 /// A made-up pair for blocks of size N and window w. Its frames are larger than a block by `room` at least; half of them hardly by
-/// more, half reach up to 60.
+/// more, half reach up to 60, or as far as N 32 needs for window 16 all around.
 fn case_of(seed: u64, kind: Kind, n: usize, w: usize, room: usize) -> (Case, Chance) {
     // Each kind has seeds of its own.
     let seed = seed + 100_000 * kind as u64;
     let mut chance = Chance::new(seed);
     let least = n + room;
-    let reach = chance.one_of(&[9, 60 - least as i64]);
+    let reach = chance.one_of(&[9, (n + 44).max(60) as i64 - least as i64]);
     let width = least + chance.between(0, reach) as usize;
     let height = least + chance.between(0, reach) as usize;
     let pair = made_up(&mut chance, kind, width, height, w);
@@ -134,13 +134,14 @@ impl Relations {
         let block = block_of(case, request);
         let candidates = block.candidates(request.w as i64).len() as i64;
         let same = (pruned.dy, pruned.dx, pruned.distortion) == (full.dy, full.dx, full.distortion);
-        let all = pruned.dropped + pruned.counts[4] == candidates && full.counts[4] == candidates;
+        let all =
+            pruned.dropped + pruned.counts[AT_1] == candidates && full.counts[AT_1] == candidates;
         self.pruned
             .holds(case.inputs(request), same && all, pruned, full);
     }
 
     fn of_four_step(&mut self, case: &Case, request: &Request, found: &Answer, full: &Answer) {
-        let probes = found.counts[4];
+        let probes = found.counts[AT_1];
         let fact = found.distortion >= full.distortion && (1..=27).contains(&probes);
         self.four_step
             .holds(case.inputs(request), fact, found, full);
@@ -163,7 +164,7 @@ impl Relations {
             8 => 17,
             _ => 21,
         };
-        let probes = found.counts[4];
+        let probes = found.counts[AT_1];
         let fact = found.distortion >= full.distortion && (1..=most).contains(&probes);
         self.cross.holds(case.inputs(request), fact, found, full);
     }
@@ -183,7 +184,7 @@ fn full_and_pruned(kind: Kind, name: &str, relations: &mut Relations) -> u64 {
     let measure = relations.measure;
     let mut full_group = relations.group(&format!("full, {name}"));
     let mut pruned_group = relations.group(&format!("pruned, {name}"));
-    for n in [4, 8, 16] {
+    for n in SIZES {
         for w in 0..=16 {
             for round in 0..4 {
                 let seed = 10_000 + (n * 17 + w) as u64 * 4 + round;
@@ -214,7 +215,7 @@ fn full_and_pruned(kind: Kind, name: &str, relations: &mut Relations) -> u64 {
 fn four_step(kind: Kind, name: &str, relations: &mut Relations) -> u64 {
     let measure = relations.measure;
     let mut group = relations.group(&format!("four-step, {name}"));
-    for n in [4, 8, 16] {
+    for n in SIZES {
         for round in 0..40 {
             let seed = 20_000 + n as u64 * 40 + round;
             // In every other round the whole window fits around the blocks in the middle.
@@ -243,7 +244,7 @@ fn four_step(kind: Kind, name: &str, relations: &mut Relations) -> u64 {
 fn cross(kind: Kind, name: &str, relations: &mut Relations) -> u64 {
     let measure = relations.measure;
     let mut group = relations.group(&format!("cross, {name}"));
-    for n in [4, 8, 16] {
+    for n in SIZES {
         for w in [2, 4, 8, 16] {
             for round in 0..12 {
                 let seed = 30_000 + (n * 17 + w) as u64 * 12 + round;
@@ -284,7 +285,7 @@ fn cross(kind: Kind, name: &str, relations: &mut Relations) -> u64 {
 fn known_vectors(relations: &Relations) -> u64 {
     let measure = relations.measure;
     let mut group = relations.group("full and pruned, known vectors");
-    for n in [4, 8, 16] {
+    for n in SIZES {
         for w in [1, 3, 16] {
             for round in 0..40 {
                 let seed = 40_000 + (n * 17 + w) as u64 * 40 + round;
@@ -351,10 +352,12 @@ fn large_frames(relations: &mut Relations) -> u64 {
         (4, 1024),
         (1024, 17),
         (16, 1023),
+        (1024, 35),
+        (32, 1023),
         (1024, 1024),
     ];
     for (index, (width, height)) in sizes.into_iter().enumerate() {
-        for n in [4, 8, 16] {
+        for n in SIZES {
             if n > width || n > height {
                 continue;
             }

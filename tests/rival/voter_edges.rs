@@ -1,12 +1,12 @@
 //! Which blocks vote, and what follows from it, with the expected numbers written down here: blocks whose pels are just 7 or 8 apart,
 //! pels that do not count, blank blocks that would outvote the others, ties among voters, and steps of pairs without a voter. All with
-//! N 4, 8 and 16 and both measures, by all four searches or by those that find the exhaustive best.
+//! every N and both measures, by all four searches or by those that find the exhaustive best.
 
 use crate::archive;
 use crate::field_edges::{lent, needed, refused, stands, END, SUM};
 use crate::group::Group;
 use crate::pictures::Chance;
-use crate::question::{FieldRequest, Lent, Pair};
+use crate::question::{FieldRequest, Lent, Pair, SIZES};
 use crate::reckoning::{self, NEW};
 use crate::rival::Vector;
 use crate::worked::flat;
@@ -14,7 +14,7 @@ use crate::worked::flat;
 /// Every N, search and measure; w is 2, with four-step 7.
 fn all_requests() -> Vec<FieldRequest> {
     let mut all = Vec::new();
-    for n in [4, 8, 16] {
+    for n in SIZES {
         for search in 1..=4 {
             for measure in [1, 2] {
                 all.push(FieldRequest {

@@ -5,7 +5,7 @@ use crate::archive;
 use crate::group::Group;
 use crate::log_calls::Case;
 use crate::logs::{self, blocks_of, bytes_of};
-use crate::question::{Cursor, Head, Walked, NO_MEASURES};
+use crate::question::{Cursor, Head, Walked, MEASURES, NO_MEASURES, SIZES};
 use crate::worked::{HEAD_OF_B, HEAD_OF_C, LOG_OF_B, LOG_OF_C};
 
 /// One call of the walker: both sides must answer with this refusal and this place, and alike in all else. Hands back the cursor for
@@ -54,27 +54,34 @@ fn among(head: Head, blocks: usize) -> Cursor {
 }
 
 /// Every command byte in every phase, with from none to all of its bytes: "at one command 14, then 13, then the rest".
-fn commands() -> u64 {
-    let mut group = Group::new("logs, every command byte in every phase");
-    let head = bytes_of(&TWO_BLOCKS, &[0; 6])[1..8].to_vec();
+fn commands((measure, by): (u32, &str)) -> u64 {
+    let mut group = Group::new(format!("logs, {by}, every command byte in every phase"));
+    let among = Head {
+        measure,
+        ..TWO_BLOCKS
+    };
+    let head = &bytes_of(&TWO_BLOCKS, &[])[1..8];
+    let with_measure = &[head, &[2]].concat();
     for at in [0, 3, 70_000] {
         for command in 0..=255 {
-            let (size, operands) = match command {
-                1 => (8, &head[..]),
-                2 => (5, &[0, 0, 0, 1][..]),
-                3 => (1, &[][..]),
-                4 => (5, &[0, 0, 0, 2][..]),
-                _ => (1, &[][..]),
+            let operands = match command {
+                1 => head,
+                2 => &[0, 0, 0, 1],
+                4 => &[0, 0, 0, 2],
+                5 => &[0, 0, 0, 1, 0, 0],
+                6 => with_measure,
+                _ => &[],
             };
+            let size = 1 + operands.len();
             for length in 0..=size + 1 {
                 let whole = [&[command], operands, &[9]].concat();
                 let log = [&vec![7; at][..], &whole[..length]].concat();
                 let place = at as i64;
                 for (phase, blocks, due) in [
-                    (0, 0, &[1][..]),
-                    (0, usize::MAX, &[1]),
-                    (1, 0, &[2, 3]),
-                    (1, 1, &[2, 3]),
+                    (0, 0, &[1, 6][..]),
+                    (0, usize::MAX, &[1, 6]),
+                    (1, 0, &[2, 3, 5]),
+                    (1, 1, &[2, 3, 5]),
                     (1, 2, &[4]),
                 ] {
                     let refusal = if length == 0 {
@@ -83,13 +90,16 @@ fn commands() -> u64 {
                         14
                     } else if length < size {
                         13
+                    } else if command == 5 && measure == 1 {
+                        // By absolute N 4 has no distortion of 65,536.
+                        16
                     } else {
                         0
                     };
                     let cursor = Cursor {
                         at,
                         phase,
-                        head: TWO_BLOCKS,
+                        head: among,
                         blocks,
                     };
                     let place = if refusal == 0 { 0 } else { place };
@@ -111,10 +121,10 @@ fn commands() -> u64 {
     group.end()
 }
 
-/// Refusal 15, and 34 of the same head numbers in a cursor: sizes, N, searches and windows at and past their ends.
+/// Refusal 15, and 34 of the same head numbers in a cursor: sizes, N, searches, windows and measures at and past their ends.
 fn heads() -> u64 {
     let mut group = Group::new("logs, heads");
-    let sizes: [usize; 12] = [0, 3, 4, 7, 8, 15, 16, 255, 256, 1024, 1025, 65_535];
+    let sizes: [usize; 14] = [0, 3, 4, 7, 8, 15, 16, 31, 32, 255, 256, 1024, 1025, 65_535];
     let mut judged = |head: Head| {
         let Head {
             width,
@@ -122,7 +132,7 @@ fn heads() -> u64 {
             n,
             w,
             search,
-            ..
+            measure,
         } = head;
         let sizes = 4..=1024;
         let fits = sizes.contains(&width) && sizes.contains(&height) && n <= width.min(height);
@@ -132,31 +142,39 @@ fn heads() -> u64 {
             4 => [2, 4, 8, 16].contains(&w),
             _ => false,
         };
-        let good = fits && [4, 8, 16].contains(&n) && taken;
-        let log = bytes_of(
-            &Head {
-                n: n.max(1),
-                ..head
-            },
-            &[],
-        );
-        let log = [&log[..5], &[n as u8, w as u8, search as u8]].concat();
+        let good = fits && SIZES.contains(&n) && taken;
+        let of_sizes = [(width as u16).to_be_bytes(), (height as u16).to_be_bytes()].concat();
+        let numbers = [&of_sizes[..], &[n as u8, w as u8, search as u8]].concat();
+        // Command 1 has no measure; command 6 has 2 alone.
         let refusal = if good { 0 } else { 15 };
+        let log = [&[1], &numbers[..]].concat();
         walked(&mut group, &log, Cursor::default(), refusal, 0);
+        let refusal = if good && measure == 2 { 0 } else { 15 };
+        let log = [&[6], &numbers[..], &[measure as u8]].concat();
+        walked(&mut group, &log, Cursor::default(), refusal, 0);
+        let good = good && (measure == 1 || measure == 2);
         let refusal = if good { 0 } else { 34 };
         walked(&mut group, &[3], among(head, 0), refusal, 0);
     };
     for width in sizes {
         for height in sizes {
-            for n in [0, 1, 3, 4, 5, 8, 12, 15, 16, 17, 32, 64, 255] {
-                for (search, w) in [(1, 0), (2, 16), (3, 7), (4, 2), (2, 17), (0, 1)] {
+            for n in [0, 1, 3, 4, 5, 8, 12, 15, 16, 17, 24, 31, 32, 33, 64, 255] {
+                for (search, w, measure) in [
+                    (1, 0, 1),
+                    (2, 16, 2),
+                    (3, 7, 2),
+                    (4, 2, 1),
+                    (2, 17, 2),
+                    (0, 1, 2),
+                    (1, 1, 0),
+                ] {
                     judged(Head {
                         width,
                         height,
                         n,
                         w,
                         search,
-                        measure: 1,
+                        measure,
                     });
                 }
             }
@@ -164,23 +182,34 @@ fn heads() -> u64 {
     }
     for search in [0, 1, 2, 3, 4, 5, 6, 8, 16, 128, 255] {
         for w in 0..=255 {
-            judged(Head {
-                w,
-                search,
-                ..TWO_BLOCKS
-            });
+            for measure in [1, 2] {
+                judged(Head {
+                    w,
+                    search,
+                    measure,
+                    ..TWO_BLOCKS
+                });
+            }
         }
+    }
+    for measure in 0..=255 {
+        judged(Head {
+            measure,
+            ..TWO_BLOCKS
+        });
     }
     group.end()
 }
 
-/// Refusal 16: at places all over a grid every part near the window's ends and every byte, and distortions at their ends.
-fn blocks() -> u64 {
-    let mut group = Group::new("logs, vectors and distortions");
+/// Refusal 16: at places all over a grid every part near the window's ends and every byte, and distortions at their ends, those of commands 2 and
+/// 5 too.
+fn blocks((measure, by): (u32, &str)) -> u64 {
+    let mut group = Group::new(format!("logs, {by}, vectors and distortions"));
     let parts: Vec<i64> = (-18..=18)
         .chain([-128, -127, -65, -33, 33, 64, 126, 127])
         .collect();
-    for n in [4, 8, 16] {
+    for n in SIZES {
+        let most = [255, 65_025][measure as usize - 1] * (n * n) as u32;
         for (w, search) in [(0, 1), (1, 2), (3, 2), (7, 3), (8, 4), (15, 1), (16, 2)] {
             let head = Head {
                 width: 4 * n + 3,
@@ -188,7 +217,7 @@ fn blocks() -> u64 {
                 n,
                 w,
                 search,
-                measure: 1,
+                measure,
             };
             for k in 0..blocks_of(&head) {
                 let (y, x) = ((k / 4 * n) as i64, (k % 4 * n) as i64);
@@ -202,40 +231,41 @@ fn blocks() -> u64 {
                         let log = [2, dy as u8, dx as u8, 0, 1];
                         let refusal = if good { 0 } else { 16 };
                         walked(&mut group, &log, among(head, k), refusal, 0);
+                        let log = [5, dy as u8, dx as u8, 0, 1, 0, 0];
+                        let refusal = if good && most > 65_535 { 0 } else { 16 };
+                        walked(&mut group, &log, among(head, k), refusal, 0);
                     }
                 }
             }
-            let most = 255 * n * n;
-            for distortion in [0, 1, 255, 256, most - 1, most, most + 1, 32_768, 65_535] {
-                let [high, low] = (distortion as u16).to_be_bytes();
-                let refusal = if (1..=most).contains(&distortion) {
-                    0
-                } else {
-                    16
-                };
-                walked(
-                    &mut group,
-                    &[2, 0, 0, high, low],
-                    among(head, 5),
-                    refusal,
-                    0,
-                );
-                if w > 0 {
-                    let refusal = if distortion <= most { 0 } else { 16 };
-                    walked(
-                        &mut group,
-                        &[2, 0, 255, high, low],
-                        among(head, 5),
-                        refusal,
-                        0,
-                    );
-                    walked(
-                        &mut group,
-                        &[2, 1, 0, high, low],
-                        among(head, 5),
-                        refusal,
-                        0,
-                    );
+            // The block in the middle may have any of these vectors, but for w 0.
+            let vectors = if w > 0 {
+                &[(0, 0), (0, 255), (1, 0)][..]
+            } else {
+                &[(0, 0)]
+            };
+            let small = [0, 1, 255, 256, 32_768, 65_280, 65_281, 65_534, 65_535];
+            let large = [
+                65_536,
+                65_537,
+                1 << 24,
+                1 << 31,
+                u32::MAX,
+                u32::MAX - 65_535,
+            ];
+            let ends = [most - 1, most, most + 1, most ^ 1 << 16, most ^ 1 << 24];
+            for distortion in small.into_iter().chain(large).chain(ends) {
+                let bytes = distortion.to_be_bytes();
+                for &(dy, dx) in vectors {
+                    if distortion <= 65_535 {
+                        let still = (dy, dx, distortion) == (0, 0, 0);
+                        let refusal = if distortion <= most && !still { 0 } else { 16 };
+                        let log = [&[2, dy, dx], &bytes[2..]].concat();
+                        walked(&mut group, &log, among(head, 5), refusal, 0);
+                    }
+                    let good = distortion > 65_535 && distortion <= most;
+                    let log = [&[5, dy, dx], &bytes[..]].concat();
+                    let refusal = if good { 0 } else { 16 };
+                    walked(&mut group, &log, among(head, 5), refusal, 0);
                 }
             }
         }
@@ -251,6 +281,8 @@ fn ends() -> u64 {
         (8, 4, 4),
         (1024, 7, 4),
         (1024, 8, 4),
+        (32, 32, 32),
+        (1024, 1024, 32),
         (1024, 1024, 16),
         (1020, 1024, 4),
         (1024, 1024, 4),
@@ -300,7 +332,7 @@ fn reading(at: usize, head: Head, blocks: usize) -> Cursor {
 /// What a head, a block and an end hand out, and where the walk then stands.
 fn head_read(head: Head, next: Cursor) -> Walked {
     Walked {
-        command: 1,
+        command: if head.measure == 2 { 6 } else { 1 },
         head,
         next,
         ..Walked::default()
@@ -311,6 +343,17 @@ fn block_read(dx: i64, next: Cursor) -> Walked {
     Walked {
         command: if dx == 0 { 3 } else { 2 },
         dx,
+        next,
+        ..Walked::default()
+    }
+}
+
+/// One with a distortion above 65,535.
+fn long_read(dx: i64, distortion: i64, next: Cursor) -> Walked {
+    Walked {
+        command: 5,
+        dx,
+        distortion,
         next,
         ..Walked::default()
     }
@@ -332,7 +375,20 @@ fn hands_out(group: &mut Group, log: &[u8], cursor: Cursor, wanted: Walked) {
     group.same(inputs, both, (wanted, wanted));
 }
 
-/// The logs of B and C from the first call to those after the end.
+/// Two blocks of 32 × 32 by squares, the one still, the other with (0,-16) and 66,585,600.
+pub const HEAD_OF_32: Head = Head {
+    width: 64,
+    height: 32,
+    n: 32,
+    w: 16,
+    search: 1,
+    measure: 2,
+};
+pub const LOG_OF_32: &[u8] = &[
+    6, 0, 64, 0, 32, 32, 16, 1, 2, 3, 5, 0, 240, 3, 248, 4, 0, 4, 0, 0, 0, 2,
+];
+
+/// The logs of B and C, and one with commands 5 and 6, from the first call to those after the end.
 fn whole_walks() -> u64 {
     let mut group = Group::new("logs, whole walks");
     let (b, c) = (HEAD_OF_B, HEAD_OF_C);
@@ -349,7 +405,18 @@ fn whole_walks() -> u64 {
         block_read(0, reading(12, c, 4)),
         end_read(4, 17),
     ];
-    for (log, commands) in [(LOG_OF_B, &of_b[..]), (LOG_OF_C, &of_c[..])] {
+    let long = HEAD_OF_32;
+    let of_32 = [
+        head_read(long, reading(9, long, 0)),
+        block_read(0, reading(10, long, 1)),
+        long_read(-16, 66_585_600, reading(17, long, 2)),
+        end_read(2, 22),
+    ];
+    for (log, commands) in [
+        (LOG_OF_B, &of_b[..]),
+        (LOG_OF_C, &of_c[..]),
+        (LOG_OF_32, &of_32[..]),
+    ] {
         let mut cursor = Cursor::default();
         for &wanted in commands {
             hands_out(&mut group, log, cursor, wanted);
@@ -433,45 +500,69 @@ fn cursors() -> u64 {
     group.end()
 }
 
-/// Cursors whose head has any measure walk as one with measure 1 does, and have it in the next cursor.
+/// Cursors whose head has any measure: among the blocks 34 where it is neither 1 nor 2; else a walk goes by it and hands it on. Before the head and
+/// after the end it is not looked at.
 fn measures() -> u64 {
     let mut group = Group::new("logs, measures in cursors built by hand");
     let (b, c) = (HEAD_OF_B, HEAD_OF_C);
     for measure in [1, 2, 7].into_iter().chain(NO_MEASURES) {
         let by = |head: Head| Head { measure, ..head };
-        let wanted = head_read(b, reading(8, b, 0));
         let before = Cursor {
             head: by(b),
             ..Cursor::default()
         };
+        let wanted = head_read(b, reading(8, b, 0));
         hands_out(&mut group, LOG_OF_B, before, wanted);
-        let wanted = block_read(1, reading(13, b, 1));
-        hands_out(&mut group, LOG_OF_B, reading(8, by(b), 0), wanted);
-        let wanted = end_read(1, 18);
-        hands_out(&mut group, LOG_OF_B, reading(13, by(b), 1), wanted);
-        let wanted = block_read(0, reading(9, c, 1));
-        hands_out(&mut group, LOG_OF_C, reading(8, by(c), 0), wanted);
-        // What is refused is refused all the same.
-        for (cursor, refusal, place) in [
-            (reading(8, by(b), 1), 14, 8),
-            (reading(18, by(b), 0), 13, 18),
-            (reading(8, by(c), 3), 16, 8),
-            (reading(13, by(c), 4), 17, 13),
-            (reading(8, by(b), 2), 34, 0),
-            (reading(8, by(Head { w: 17, ..b }), 0), 34, 0),
-        ] {
-            walk_ends(&mut group, LOG_OF_B, cursor, refusal, place);
-        }
+        let wanted = head_read(HEAD_OF_32, reading(9, HEAD_OF_32, 0));
+        hands_out(&mut group, LOG_OF_32, before, wanted);
         let after = Cursor {
             head: by(b),
             ..standing(18, 2)
         };
         walk_ends(&mut group, LOG_OF_B, after, 34, 0);
+        walk_ends(&mut group, LOG_OF_32, after, 18, 18);
+
+        let known = measure == 1 || measure == 2;
+        if known {
+            let wanted = block_read(1, reading(13, by(b), 1));
+            hands_out(&mut group, LOG_OF_B, reading(8, by(b), 0), wanted);
+            hands_out(&mut group, LOG_OF_B, reading(13, by(b), 1), end_read(1, 18));
+            let wanted = block_read(0, reading(9, by(c), 1));
+            hands_out(&mut group, LOG_OF_C, reading(8, by(c), 0), wanted);
+        }
+        // What is refused with a measure is 34 without.
+        for (log, cursor, refusal, place) in [
+            (LOG_OF_B, reading(8, by(b), 1), 14, 8),
+            (LOG_OF_B, reading(18, by(b), 0), 13, 18),
+            (LOG_OF_B, reading(8, by(c), 3), 16, 8),
+            (LOG_OF_B, reading(13, by(c), 4), 17, 13),
+            (LOG_OF_B, reading(8, by(b), 2), 34, 0),
+            (LOG_OF_B, reading(8, by(Head { w: 17, ..b }), 0), 34, 0),
+            // Another head is not due, of either command; nor is one after the last block.
+            (LOG_OF_B, reading(0, by(b), 0), 14, 0),
+            (LOG_OF_32, reading(0, by(b), 0), 14, 0),
+            (LOG_OF_32, reading(0, by(b), 1), 14, 0),
+        ] {
+            let wanted = if known { (refusal, place) } else { (34, 0) };
+            walk_ends(&mut group, log, cursor, wanted.0, wanted.1);
+        }
+        // 66,585,600 is N 32's by squares alone.
+        let cursor = reading(10, by(HEAD_OF_32), 1);
+        match measure {
+            2 => {
+                let wanted = long_read(-16, 66_585_600, reading(17, HEAD_OF_32, 2));
+                hands_out(&mut group, LOG_OF_32, cursor, wanted);
+            }
+            1 => walk_ends(&mut group, LOG_OF_32, cursor, 16, 10),
+            _ => walk_ends(&mut group, LOG_OF_32, cursor, 34, 0),
+        }
     }
     group.end()
 }
 
 /// All edges of the walker; answers with the number of mismatches.
 pub fn run() -> u64 {
-    commands() + heads() + blocks() + ends() + whole_walks() + cursors() + measures()
+    let by_measure = MEASURES.map(|measure| commands(measure) + blocks(measure));
+    let mismatches: u64 = by_measure.into_iter().sum();
+    mismatches + heads() + ends() + whole_walks() + cursors() + measures()
 }

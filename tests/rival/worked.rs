@@ -1,12 +1,13 @@
 //! The worked pairs A to J of docs/REFERENCE.md, with their numbers typed in, against the archive and against the rival: by absolute,
-//! and then by squares with numbers worked out by hand; and what the rules write down of the preference order, against the rival.
+//! and then by squares and with N 32, where the numbers are worked out by hand; and what the rules write down of the preference order, against
+//! the rival.
 
 use crate::archive;
 use crate::group::Group;
 use crate::logs;
 use crate::question::{
-    Answer, FieldAnswer, FieldRequest, Head, Lent, LogRead, Measured, Measuring, Pair, Request,
-    Track, Written,
+    Answer, Counts, FieldAnswer, FieldRequest, Head, Lent, LogRead, Measured, Measuring, Pair,
+    Request, Track, Written,
 };
 use crate::reckoning;
 use crate::rival;
@@ -60,7 +61,7 @@ fn block_of_4(search: u32, w: usize, t: u32, row: usize, column: usize) -> Reque
 }
 
 /// An accepted answer.
-fn found(vector: (i64, i64), distortion: i64, counts: [i64; 5], dropped: i64) -> Answer {
+fn found(vector: (i64, i64), distortion: i64, counts: Counts, dropped: i64) -> Answer {
     Answer {
         refusal: 0,
         dy: vector.0,
@@ -92,11 +93,11 @@ fn at_zero(n: usize) -> Measuring {
     }
 }
 
-/// "A* 4×4, N 4, w 16, newer all 10, older all 12: (0,0), 32; pruned 0,0,1,1,1".
+/// "A* 4×4, N 4, w 16, newer all 10, older all 12: (0,0), 32; pruned 0,0,1,1,1". "The worked counts gain a leading 0", here and below.
 fn pair_a(group: &mut Group) {
     let pair = flat(4, 4, 12, 10);
-    let full = found((0, 0), 32, [0, 0, 0, 0, 1], 0);
-    let pruned = found((0, 0), 32, [0, 0, 1, 1, 1], 0);
+    let full = found((0, 0), 32, [0, 0, 0, 0, 0, 1], 0);
+    let pruned = found((0, 0), 32, [0, 0, 0, 1, 1, 1], 0);
     searched(group, "A", &pair, block_of_4(1, 16, 0, 0, 0), full);
     searched(group, "A", &pair, block_of_4(2, 16, 0, 0, 0), pruned);
     measured(group, "A", &pair, at_zero(4), 32);
@@ -115,8 +116,8 @@ pub fn frames_of_b() -> Pair {
 /// dropped 1".
 fn pair_b(group: &mut Group) {
     let pair = frames_of_b();
-    let full = found((0, 1), 0, [0, 0, 0, 0, 2], 0);
-    let pruned = found((0, 1), 0, [0, 0, 2, 2, 1], 1);
+    let full = found((0, 1), 0, [0, 0, 0, 0, 0, 2], 0);
+    let pruned = found((0, 1), 0, [0, 0, 0, 2, 2, 1], 1);
     searched(group, "B", &pair, block_of_4(1, 1, 0, 0, 0), full);
     searched(group, "B", &pair, block_of_4(2, 1, 0, 0, 0), pruned);
     let right = Measuring {
@@ -139,20 +140,20 @@ fn pair_b(group: &mut Group) {
 /// "C* 8×8, all 7, N 4, w 1: four still blocks, full 4 each; pruned sums 0,0,16,16,16".
 fn pair_c(group: &mut Group) {
     let pair = flat(8, 8, 7, 7);
-    let full = found((0, 0), 0, [0, 0, 0, 0, 4], 0);
-    let mut sums = [0; 5];
+    let full = found((0, 0), 0, [0, 0, 0, 0, 0, 4], 0);
+    let mut sums = [0; 6];
     for (row, column) in [(0, 0), (0, 4), (4, 0), (4, 4)] {
         let request = block_of_4(1, 1, 0, row, column);
         searched(group, "C", &pair, request, full);
         let request = block_of_4(2, 1, 0, row, column);
-        let pruned = found((0, 0), 0, [0, 0, 4, 4, 4], 0);
+        let pruned = found((0, 0), 0, [0, 0, 0, 4, 4, 4], 0);
         searched(group, "C", &pair, request, pruned);
         let counts = archive::search_block(&pair, &request).counts;
         for (sum, count) in sums.iter_mut().zip(counts) {
             *sum += count;
         }
     }
-    group.same("pair C: pruned sums", sums, [0, 0, 16, 16, 16]);
+    group.same("pair C: pruned sums", sums, [0, 0, 0, 16, 16, 16]);
 }
 
 fn frames_of_d() -> Pair {
@@ -167,8 +168,8 @@ fn frames_of_d() -> Pair {
 /// "D* 4×4, newer alternating 0 and 20 along and down, older all 10: distances 0 at 4 and 2, distortion 160".
 fn pair_d(group: &mut Group) {
     let pair = frames_of_d();
-    let full = found((0, 0), 160, [0, 0, 0, 0, 1], 0);
-    let pruned = found((0, 0), 160, [0, 0, 1, 1, 1], 0);
+    let full = found((0, 0), 160, [0, 0, 0, 0, 0, 1], 0);
+    let pruned = found((0, 0), 160, [0, 0, 0, 1, 1, 1], 0);
     for w in [0, 16] {
         searched(group, "D", &pair, block_of_4(1, w, 0, 0, 0), full);
         searched(group, "D", &pair, block_of_4(2, w, 0, 0, 0), pruned);
@@ -181,7 +182,7 @@ fn pair_d(group: &mut Group) {
 fn pairs_e_and_f(group: &mut Group) {
     let pair = flat(8, 8, 7, 7);
     for (what, place, counts) in [("E", 2, [17, 9, 1]), ("F", 0, [7, 4, 1])] {
-        let wanted = counts.map(|count| found((0, 0), 0, [0, 0, 0, 0, count], 0));
+        let wanted = counts.map(|count| found((0, 0), 0, [0, 0, 0, 0, 0, count], 0));
         let four_step = block_of_4(3, 7, 0, place, place);
         searched(group, what, &pair, four_step, wanted[0]);
         let cross = block_of_4(4, 2, 0, place, place);
@@ -220,14 +221,14 @@ fn fields_of_a_to_d(group: &mut Group) {
     let (c, d) = (flat(8, 8, 7, 7), frames_of_d());
     let still = [0, 0, 0].repeat(4);
     for (pair, search, list, vector, voters, counts, dropped) in [
-        (&a, 1, &[0, 0, 32][..], (0, 0), 0, [0, 0, 0, 0, 1], 0),
-        (&a, 2, &[0, 0, 32], (0, 0), 0, [0, 0, 1, 1, 1], 0),
-        (&b, 1, &[0, 1, 0], (0, 1), 1, [0, 0, 0, 0, 2], 0),
-        (&b, 2, &[0, 1, 0], (0, 1), 1, [0, 0, 2, 2, 1], 1),
-        (&c, 1, &still, (0, 0), 0, [0, 0, 0, 0, 16], 0),
-        (&c, 2, &still, (0, 0), 0, [0, 0, 16, 16, 16], 0),
-        (&d, 1, &[0, 0, 160], (0, 0), 1, [0, 0, 0, 0, 1], 0),
-        (&d, 2, &[0, 0, 160], (0, 0), 1, [0, 0, 1, 1, 1], 0),
+        (&a, 1, &[0, 0, 32][..], (0, 0), 0, [0, 0, 0, 0, 0, 1], 0),
+        (&a, 2, &[0, 0, 32], (0, 0), 0, [0, 0, 0, 1, 1, 1], 0),
+        (&b, 1, &[0, 1, 0], (0, 1), 1, [0, 0, 0, 0, 0, 2], 0),
+        (&b, 2, &[0, 1, 0], (0, 1), 1, [0, 0, 0, 2, 2, 1], 1),
+        (&c, 1, &still, (0, 0), 0, [0, 0, 0, 0, 0, 16], 0),
+        (&c, 2, &still, (0, 0), 0, [0, 0, 0, 16, 16, 16], 0),
+        (&d, 1, &[0, 0, 160], (0, 0), 1, [0, 0, 0, 0, 0, 1], 0),
+        (&d, 2, &[0, 0, 160], (0, 0), 1, [0, 0, 0, 1, 1, 1], 0),
     ] {
         let request = field_of_4(search);
         let inputs = format!("field of {pair}, {request}");
@@ -327,6 +328,25 @@ pub const HEAD_OF_C: Head = Head {
 pub const LOG_OF_B: &[u8] = &[1, 0, 5, 0, 4, 4, 1, 2, 2, 0, 1, 0, 0, 4, 0, 0, 0, 1];
 pub const LOG_OF_C: &[u8] = &[1, 0, 8, 0, 8, 4, 1, 2, 3, 3, 3, 3, 4, 0, 0, 0, 4];
 
+/// A log that both sides write from this head and this list, and that reads and prints so.
+fn kept_in_log(group: &mut Group, what: &str, head: Head, list: &[i32], log: &[u8], text: &str) {
+    let read = LogRead {
+        head,
+        ..LogRead::default()
+    };
+    logged(group, what, log, text, read, list);
+    let written = Written {
+        length: log.len() as i64,
+        ..Written::default()
+    };
+    let kept = [log, b"***"].concat();
+    let (mut here, mut there) = (vec![b'*'; kept.len()], vec![b'*'; kept.len()]);
+    let answer = archive::write_log(&head, list, &mut here, kept.len());
+    group.same(what, answer, written);
+    group.same(what, logs::write_log(&head, list, &mut there), written);
+    group.same(what, (&here, &there), (&kept, &kept));
+}
+
 /// "B [...] search 2's log above" with its text, "C [...] log `01 00 08 00 08 04 01 02 03 03 03 03 04 00 00 00 04`" and "I* empty
 /// log: 13 at 0".
 fn logs_of_b_c_and_i(group: &mut Group) {
@@ -337,21 +357,7 @@ fn logs_of_b_c_and_i(group: &mut Group) {
         ("B", HEAD_OF_B, LOG_OF_B, text_of_b, &[0, 1, 0][..]),
         ("C", HEAD_OF_C, LOG_OF_C, text_of_c, &still[..]),
     ] {
-        let read = LogRead {
-            head,
-            ..LogRead::default()
-        };
-        logged(group, what, log, text, read, list);
-        let written = Written {
-            length: log.len() as i64,
-            ..Written::default()
-        };
-        let kept = [log, b"***"].concat();
-        let (mut here, mut there) = (vec![b'*'; kept.len()], vec![b'*'; kept.len()]);
-        let answer = archive::write_log(&head, list, &mut here, kept.len());
-        group.same(what, answer, written);
-        group.same(what, logs::write_log(&head, list, &mut there), written);
-        group.same(what, (&here, &there), (&kept, &kept));
+        kept_in_log(group, what, head, list, log, text);
     }
     let read = LogRead {
         refusal: 13,
@@ -368,30 +374,125 @@ fn logs_of_b_c_and_i(group: &mut Group) {
     group.same("B, written from its field", &log[..], LOG_OF_B);
 }
 
-/// "J 16×16, 0 against 255: 65,280".
+/// "J 16×16, 0 against 255: 65,280"; and 32 × 32, 261,120, which is T's limit. A T of just the distortion does not end the search.
 fn pair_j(group: &mut Group) {
-    for (older, newer) in [(0, 255), (255, 0)] {
-        let pair = flat(16, 16, older, newer);
-        measured(group, "J", &pair, at_zero(16), 65280);
-        for (search, w, t, counts) in [
-            (1, 16, 0, [0, 0, 0, 0, 1]),
-            (2, 16, 0, [1, 1, 1, 1, 1]),
-            (3, 7, 0, [0, 0, 0, 0, 1]),
-            (4, 16, 0, [0, 0, 0, 0, 1]),
-            (4, 16, 65280, [0, 0, 0, 0, 1]),
-        ] {
-            let request = Request {
-                n: 16,
-                search,
-                w,
-                t,
-                measure: 1,
-                row: 0,
-                column: 0,
-            };
-            let wanted = found((0, 0), 65280, counts, 0);
-            searched(group, "J", &pair, request, wanted);
+    for (n, distortion) in [(16, 65_280), (32, 261_120)] {
+        for (older, newer) in [(0, 255), (255, 0)] {
+            let pair = flat(n, n, older, newer);
+            measured(group, "J", &pair, at_zero(n), distortion);
+            let tested = [i64::from(n == 32), 1, 1, 1, 1, 1];
+            for (search, w, t, counts) in [
+                (1, 16, 0, [0, 0, 0, 0, 0, 1]),
+                (2, 16, 0, tested),
+                (3, 7, 0, [0, 0, 0, 0, 0, 1]),
+                (4, 16, 0, [0, 0, 0, 0, 0, 1]),
+                (4, 16, distortion as u32, [0, 0, 0, 0, 0, 1]),
+            ] {
+                let request = Request {
+                    n,
+                    ..block_of_4(search, w, t, 0, 0)
+                };
+                let wanted = found((0, 0), distortion, counts, 0);
+                searched(group, "J", &pair, request, wanted);
+            }
         }
+    }
+}
+
+/// Pairs of one block of 32 × 32, worked out by hand: one like B, whose rows rise by 5, and J's. Their fields, and the logs of these: command 5
+/// above 65,535, command 6 by squares.
+fn blocks_of_32(group: &mut Group) {
+    let older: Vec<u8> = (0..33).map(|c| 5 * c).collect();
+    let newer: Vec<u8> = (1..33).map(|c| 5 * c).chain([99]).collect();
+    let rising = Pair {
+        older: older.repeat(32),
+        newer: newer.repeat(32),
+        width: 33,
+        height: 32,
+    };
+    let j = flat(32, 32, 0, 255);
+    // (0,0) has 1,024 × 5, by squares 1,024 × 5²; its distance at m = 32 does not exceed that, or by squares 32² times that. At m = 16
+    // (0,1) lowers E to 0. J's block has one candidate.
+    let right = found((0, 1), 0, [2, 2, 1, 1, 1, 1], 1);
+    let alone = |distortion| found((0, 0), distortion, [1; 6], 0);
+    for (pair, measure, at_zero, pruned, log, text) in [
+        (
+            &rising,
+            1,
+            5_120,
+            right,
+            &[1, 0, 33, 0, 32, 32, 1, 2, 2, 0, 1, 0, 0, 4, 0, 0, 0, 1][..],
+            "33 32 32 1 2\n0 1 0\nend 1\n",
+        ),
+        (
+            &rising,
+            2,
+            25_600,
+            right,
+            &[6, 0, 33, 0, 32, 32, 1, 2, 2, 2, 0, 1, 0, 0, 4, 0, 0, 0, 1],
+            "33 32 32 1 2 2\n0 1 0\nend 1\n",
+        ),
+        (
+            &j,
+            1,
+            261_120,
+            alone(261_120),
+            &[
+                1, 0, 32, 0, 32, 32, 1, 2, 5, 0, 0, 0, 3, 252, 0, 4, 0, 0, 0, 1,
+            ],
+            "32 32 32 1 2\n0 0 261120\nend 1\n",
+        ),
+        (
+            &j,
+            2,
+            66_585_600,
+            alone(66_585_600),
+            &[
+                6, 0, 32, 0, 32, 32, 1, 2, 2, 5, 0, 0, 3, 248, 4, 0, 4, 0, 0, 0, 1,
+            ],
+            "32 32 32 1 2 2\n0 0 66585600\nend 1\n",
+        ),
+    ] {
+        let what = "a block of 32";
+        let question = Measuring {
+            measure,
+            ..self::at_zero(32)
+        };
+        measured(group, what, pair, question, at_zero);
+        let candidates = pruned.counts[0];
+        let full = Answer {
+            counts: [0, 0, 0, 0, 0, candidates],
+            dropped: 0,
+            ..pruned
+        };
+        let list = [pruned.dy, pruned.dx, pruned.distortion].map(|value| value as i32);
+        for (search, wanted) in [(1, full), (2, pruned)] {
+            let block = Request {
+                n: 32,
+                measure,
+                ..block_of_4(search, 1, 0, 0, 0)
+            };
+            searched(group, what, pair, block, wanted);
+            // J's block is blank.
+            let voters = pruned.dx;
+            let vector = (wanted.dy, wanted.dx);
+            let wanted =
+                FieldAnswer::accepted(vector, (voters, voters), wanted.counts, wanted.dropped);
+            let (mut here, mut there) = (lent(3, 34 * 33), lent(3, 34 * 33));
+            let answer = archive::field(pair, &block.of_field(), &mut here);
+            let own = reckoning::field(pair, &block.of_field(), &mut there);
+            group.same(what, (answer, own), (wanted, wanted));
+            group.same(what, &here, &there);
+            group.same(what, &here.list[..], &list);
+        }
+        let head = Head {
+            width: pair.width,
+            height: 32,
+            n: 32,
+            measure,
+            ..HEAD_OF_B
+        };
+        kept_in_log(group, what, head, &list, log, text);
     }
 }
 
@@ -413,8 +514,8 @@ fn by_squares(group: &mut Group) {
 
     // A: 16 × 2².
     let (what, pair) = ("A by squares", flat(4, 4, 12, 10));
-    let full = found((0, 0), 64, [0, 0, 0, 0, 1], 0);
-    let pruned = found((0, 0), 64, [0, 0, 1, 1, 1], 0);
+    let full = found((0, 0), 64, [0, 0, 0, 0, 0, 1], 0);
+    let pruned = found((0, 0), 64, [0, 0, 0, 1, 1, 1], 0);
     full_and_pruned(group, what, &pair, 16, full, pruned);
     measured(group, what, &pair, at_zero(4), 64);
     distances(group, what, &pair, 2, (0, 0), [32 * 32, 4 * 8 * 8, 64]);
@@ -422,8 +523,8 @@ fn by_squares(group: &mut Group) {
     // B: (0,0) has 16 × 10², which is E at m = 4. Its distance there, 160², is 4² × E and does not exceed it. At m = 2 (0,1) lowers E
     // to 0.
     let (what, pair) = ("B by squares", frames_of_b());
-    let full = found((0, 1), 0, [0, 0, 0, 0, 2], 0);
-    let pruned = found((0, 1), 0, [0, 0, 2, 2, 1], 1);
+    let full = found((0, 1), 0, [0, 0, 0, 0, 0, 2], 0);
+    let pruned = found((0, 1), 0, [0, 0, 0, 2, 2, 1], 1);
     full_and_pruned(group, what, &pair, 1, full, pruned);
     measured(group, what, &pair, at_zero(4), 1600);
     distances(group, what, &pair, 2, (0, 0), [25_600, 6_400, 1_600]);
@@ -435,37 +536,42 @@ fn by_squares(group: &mut Group) {
         let (what, mut pair) = ("a pel more or less, by squares", flat(5, 4, 10, 10));
         pair.newer[0] = 13;
         pair.older[3 * 5 + 4] = pel;
-        let full = found((0, 0), 9, [0, 0, 0, 0, 2], 0);
-        let pruned = found((0, 0), 9, [0, 0, 2, at_2, 1], 1);
+        let full = found((0, 0), 9, [0, 0, 0, 0, 0, 2], 0);
+        let pruned = found((0, 0), 9, [0, 0, 0, 2, at_2, 1], 1);
         full_and_pruned(group, what, &pair, 1, full, pruned);
         distances(group, what, &pair, 2, (0, 0), [9, 9, 9]);
         distances(group, what, &pair, 2, (0, 1), far);
-        let pruned = found((0, 0), 3, [0, 0, 2, 1, 1], 1);
+        let pruned = found((0, 0), 3, [0, 0, 0, 2, 1, 1], 1);
         let request = block_of_4(2, 1, 0, 0, 0);
         searched(group, "a pel more or less", &pair, request, pruned);
     }
 
     // D: 16 × 10².
     let (what, pair) = ("D by squares", frames_of_d());
-    let full = found((0, 0), 1600, [0, 0, 0, 0, 1], 0);
-    let pruned = found((0, 0), 1600, [0, 0, 1, 1, 1], 0);
+    let full = found((0, 0), 1600, [0, 0, 0, 0, 0, 1], 0);
+    let pruned = found((0, 0), 1600, [0, 0, 0, 1, 1, 1], 0);
     full_and_pruned(group, what, &pair, 0, full, pruned);
     full_and_pruned(group, what, &pair, 16, full, pruned);
     measured(group, what, &pair, at_zero(4), 1600);
     distances(group, what, &pair, 2, (0, 0), [0, 0, 1600]);
 
     // J, and smaller blocks in its frames: 65,025 × N². None is dropped, for all have the distance m² × E at each m. The largest T is
-    // larger than what N 4 and 8 can have.
+    // larger than what N 4, 8 and 16 can have.
     for (older, newer) in [(0, 255), (255, 0)] {
-        for (n, candidates, most) in [(4, 169, 1_040_400), (8, 81, 4_161_600), (16, 1, 16_646_400)]
-        {
-            let (what, pair) = ("J by squares", flat(16, 16, older, newer));
+        for (side, n, candidates, most) in [
+            (16, 4, 169, 1_040_400),
+            (16, 8, 81, 4_161_600),
+            (16, 16, 1, 16_646_400),
+            (32, 16, 289, 16_646_400),
+            (32, 32, 1, 66_585_600),
+        ] {
+            let (what, pair) = ("J by squares", flat(side, side, older, newer));
             measured(group, what, &pair, at_zero(n), most);
-            let tested = [16, 8, 4, 2, 1].map(|m| if m <= n { candidates } else { 0 });
+            let tested = [32, 16, 8, 4, 2, 1].map(|m| if m <= n { candidates } else { 0 });
             for (search, t, counts) in [
-                (1, 0, [0, 0, 0, 0, candidates]),
+                (1, 0, [0, 0, 0, 0, 0, candidates]),
                 (2, 0, tested),
-                (4, 16_646_400, [0, 0, 0, 0, 1]),
+                (4, 66_585_600, [0, 0, 0, 0, 0, 1]),
             ] {
                 let request = squares(Request {
                     n,
@@ -513,6 +619,7 @@ pub fn run() -> u64 {
     pairs_g_and_h(&mut group);
     logs_of_b_c_and_i(&mut group);
     pair_j(&mut group);
+    blocks_of_32(&mut group);
     by_squares(&mut group);
     preference_order(&mut group);
     group.end()
