@@ -1,7 +1,8 @@
 /* include/gauge.h and include/gauge_text.c as C sees them: the layout of every struct against what the archive hands over, for every call
  * one that is accepted and one that is refused, in numbers that are all different, and what lent memory holds after each; the two
- * measures, and where the refusal of any other stands among the refusals; which blocks vote, and what a pair without a voter answers; the refusals
- * by name and by text, and the lengths that the macros give. The rules behind the numbers are tested by tests/rival.
+ * measures, and where the refusal of any other stands among the refusals; which blocks vote, and what a pair without a voter answers; blocks of 32,
+ * and logs with every command; the refusals by name and by text, and the lengths that the macros give. The rules behind the numbers are tested by
+ * tests/rival.
  *
  * What differs is printed as FILE:LINE: CALL: MEMBER: got THIS, wanted THAT. */
 #include <stdio.h>
@@ -63,9 +64,9 @@ static void same_place(int line, const char *array, size_t place, int64_t got, i
 
 #define SAME_TRACK(got, homed_, y_, x_, steps_) (SAME(got.homed, homed_), SAME(got.y, y_), SAME(got.x, x_), SAME(got.steps, steps_))
 
-#define SAME_COUNTS(got, at16, at8, at4, at2, at1, dropped_)                                                                            \
-    (SAME(got.counts[0], at16), SAME(got.counts[1], at8), SAME(got.counts[2], at4), SAME(got.counts[3], at2), SAME(got.counts[4], at1), \
-     SAME(got.dropped, dropped_))
+#define SAME_COUNTS(got, at32, at16, at8, at4, at2, at1, dropped_)                                                                       \
+    (SAME(got.counts[0], at32), SAME(got.counts[1], at16), SAME(got.counts[2], at8), SAME(got.counts[3], at4), SAME(got.counts[4], at2), \
+     SAME(got.counts[5], at1), SAME(got.dropped, dropped_))
 
 #define SAME_FOUND(got, refusal_, dy_, dx_, distortion_) \
     (SAME(got.refusal, refusal_), SAME(got.dy, dy_), SAME(got.dx, dx_), SAME(got.distortion, distortion_))
@@ -110,8 +111,8 @@ HAS(gauge_found, dy, int32_t, 4);
 HAS(gauge_found, dx, int32_t, 8);
 HAS(gauge_found, distortion, uint32_t, 12);
 HAS(gauge_found, counts, uint32_t *, 16);
-HAS(gauge_found, dropped, uint32_t, 36);
-SIZE(gauge_found, 40);
+HAS(gauge_found, dropped, uint32_t, 40);
+SIZE(gauge_found, 44);
 
 HAS(gauge_field_answer, refusal, uint32_t, 0);
 HAS(gauge_field_answer, dy, int32_t, 4);
@@ -119,8 +120,8 @@ HAS(gauge_field_answer, dx, int32_t, 8);
 HAS(gauge_field_answer, votes, uint32_t, 12);
 HAS(gauge_field_answer, voters, uint32_t, 16);
 HAS(gauge_field_answer, counts, uint32_t *, 20);
-HAS(gauge_field_answer, dropped, uint32_t, 40);
-SIZE(gauge_field_answer, 44);
+HAS(gauge_field_answer, dropped, uint32_t, 44);
+SIZE(gauge_field_answer, 48);
 
 HAS(gauge_track, homed, bool, 0);
 HAS(gauge_track, y, int32_t, 4);
@@ -133,8 +134,8 @@ HAS(gauge_homed, track, gauge_track, 4);
 SIZE(gauge_homed, 20);
 
 HAS(gauge_stepped, answer, gauge_field_answer, 0);
-HAS(gauge_stepped, track, gauge_track, 44);
-SIZE(gauge_stepped, 60);
+HAS(gauge_stepped, track, gauge_track, 48);
+SIZE(gauge_stepped, 64);
 
 HAS(gauge_head, width, size_t, 0);
 HAS(gauge_head, height, size_t, 8);
@@ -273,25 +274,25 @@ static void searching(void)
     call = "gauge_search_block";
     gauge_found found = gauge_search_block(older, PELS, newer, PELS, pruned, 3, 20);
     SAME_FOUND(found, GAUGE_ACCEPTED, 2, -5, 1600);
-    SAME_COUNTS(found, 247, 139, 133, 132, 122, 125);
+    SAME_COUNTS(found, 0, 247, 139, 133, 132, 122, 125);
 
     found = gauge_search_block(older, PELS, newer, PELS, squares, 3, 20);
     SAME_FOUND(found, GAUGE_ACCEPTED, 2, -5, 13460);
-    SAME_COUNTS(found, 247, 177, 162, 150, 133, 114);
+    SAME_COUNTS(found, 0, 247, 177, 162, 150, 133, 114);
 
     /* The threshold: (0,0) has 2,772, by squares 49,976, and ends the search at once. */
     gauge_request cross = {WIDTH, HEIGHT, N, 4, 8, 2773, 1};
     found = gauge_search_block(older, PELS, newer, PELS, cross, 3, 20);
     SAME_FOUND(found, GAUGE_ACCEPTED, 0, 0, 2772);
-    SAME_COUNTS(found, 0, 0, 0, 0, 1, 0);
+    SAME_COUNTS(found, 0, 0, 0, 0, 0, 1, 0);
     cross = (gauge_request){WIDTH, HEIGHT, N, 4, 8, 49977, 2};
     found = gauge_search_block(older, PELS, newer, PELS, cross, 3, 20);
     SAME_FOUND(found, GAUGE_ACCEPTED, 0, 0, 49976);
-    SAME_COUNTS(found, 0, 0, 0, 0, 1, 0);
+    SAME_COUNTS(found, 0, 0, 0, 0, 0, 1, 0);
 
     found = gauge_search_block(older, PELS, newer, PELS, pruned, 3, 42);
     SAME_FOUND(found, GAUGE_BAD_PLACE, 0, 0, 0);
-    SAME_COUNTS(found, 0, 0, 0, 0, 0, 0);
+    SAME_COUNTS(found, 0, 0, 0, 0, 0, 0, 0);
 }
 
 /* ---- fields and the track */
@@ -302,13 +303,13 @@ static void fields(void)
     lend();
     gauge_field_answer answer = gauge_field(older, PELS, newer, PELS, pruned, list, LIST + MORE, table, TABLE + MORE);
     SAME_READING(answer, GAUGE_ACCEPTED, 2, -5, 4, 6);
-    SAME_COUNTS(answer, 1200, 626, 601, 571, 452, 748);
+    SAME_COUNTS(answer, 0, 1200, 626, 601, 571, 452, 748);
     FIELD_LENT(field_list);
 
     lend();
     answer = gauge_field(older, PELS, newer, PELS, squares, list, LIST + MORE, table, TABLE + MORE);
     SAME_READING(answer, GAUGE_ACCEPTED, 2, -5, 4, 6);
-    SAME_COUNTS(answer, 1200, 806, 767, 692, 518, 682);
+    SAME_COUNTS(answer, 0, 1200, 806, 767, 692, 518, 682);
     FIELD_LENT(squares_list);
 
     /* Search 1 leaves the table alone. */
@@ -316,7 +317,7 @@ static void fields(void)
     gauge_request full = {WIDTH, HEIGHT, N, 1, W, 0, 1};
     answer = gauge_field(older, PELS, newer, PELS, full, list, LIST, table, 0);
     SAME_READING(answer, GAUGE_ACCEPTED, 2, -5, 4, 6);
-    SAME_COUNTS(answer, 0, 0, 0, 0, 1200, 0);
+    SAME_COUNTS(answer, 0, 0, 0, 0, 0, 1200, 0);
     EACH(list, 0, LIST, field_list[i]);
     EACH(list, LIST, LIST + MORE, NUMBER);
     EACH(table, 0, TABLE + MORE, SUM);
@@ -324,11 +325,11 @@ static void fields(void)
     lend();
     answer = gauge_field(older, PELS, newer, PELS, pruned, list, LIST, table, TABLE - 1);
     SAME_READING(answer, GAUGE_SHORT_TABLE, 0, 0, 0, 0);
-    SAME_COUNTS(answer, 0, 0, 0, 0, 0, 0);
+    SAME_COUNTS(answer, 0, 0, 0, 0, 0, 0, 0);
     ALL_KEPT();
     answer = gauge_field(older, PELS, newer, PELS, pruned, list, LIST - 1, table, TABLE);
     SAME_READING(answer, GAUGE_SHORT_LIST, 0, 0, 0, 0);
-    SAME_COUNTS(answer, 0, 0, 0, 0, 0, 0);
+    SAME_COUNTS(answer, 0, 0, 0, 0, 0, 0, 0);
     ALL_KEPT();
 }
 
@@ -362,37 +363,168 @@ static void stepping(void)
     call = "gauge_step";
     gauge_stepped stepped = step(pruned, true, 100, 200, 7);
     SAME_READING(stepped.answer, GAUGE_ACCEPTED, 2, -5, 4, 6);
-    SAME_COUNTS(stepped.answer, 1200, 626, 601, 571, 452, 748);
+    SAME_COUNTS(stepped.answer, 0, 1200, 626, 601, 571, 452, 748);
     SAME_TRACK(stepped.track, true, 98, 205, 8);
     FIELD_LENT(field_list);
     stepped = step(squares, true, 300, 400, 17);
     SAME_READING(stepped.answer, GAUGE_ACCEPTED, 2, -5, 4, 6);
-    SAME_COUNTS(stepped.answer, 1200, 806, 767, 692, 518, 682);
+    SAME_COUNTS(stepped.answer, 0, 1200, 806, 767, 692, 518, 682);
     SAME_TRACK(stepped.track, true, 298, 405, 18);
     FIELD_LENT(squares_list);
 
     stepped = step(pruned, false, 11, 12, 13);
     SAME_READING(stepped.answer, GAUGE_NOT_HOMED, 0, 0, 0, 0);
-    SAME_COUNTS(stepped.answer, 0, 0, 0, 0, 0, 0);
+    SAME_COUNTS(stepped.answer, 0, 0, 0, 0, 0, 0, 0);
     SAME_TRACK(stepped.track, false, 11, 12, 13);
     ALL_KEPT();
     stepped = step(pruned, true, 21, -22, 1000000);
     SAME_READING(stepped.answer, GAUGE_STEPS_OVER, 0, 0, 0, 0);
-    SAME_COUNTS(stepped.answer, 0, 0, 0, 0, 0, 0);
+    SAME_COUNTS(stepped.answer, 0, 0, 0, 0, 0, 0, 0);
     SAME_TRACK(stepped.track, true, 21, -22, 1000000);
     ALL_KEPT();
 
     /* Out of range: the old track, but list and table as after an accepted step. */
     stepped = step(pruned, true, -999999, 32, 33);
     SAME_READING(stepped.answer, GAUGE_OUT_OF_RANGE, 0, 0, 0, 0);
-    SAME_COUNTS(stepped.answer, 0, 0, 0, 0, 0, 0);
+    SAME_COUNTS(stepped.answer, 0, 0, 0, 0, 0, 0, 0);
     SAME_TRACK(stepped.track, true, -999999, 32, 33);
     FIELD_LENT(field_list);
     stepped = step(squares, true, -999998, 999996, 34);
     SAME_READING(stepped.answer, GAUGE_OUT_OF_RANGE, 0, 0, 0, 0);
-    SAME_COUNTS(stepped.answer, 0, 0, 0, 0, 0, 0);
+    SAME_COUNTS(stepped.answer, 0, 0, 0, 0, 0, 0, 0);
     SAME_TRACK(stepped.track, true, -999998, 999996, 34);
     FIELD_LENT(squares_list);
+}
+
+/* ---- blocks of 32 */
+
+/* Six of them and pels left over, moved as above, but the first has not changed and the last is turned into its negative: by absolute it alone has a
+ * distortion above 65,535, by squares the fourth has one too. */
+enum { LARGE_WIDTH = 109, LARGE_HEIGHT = 71, LARGE_N = 32, LARGE_PELS = LARGE_WIDTH * LARGE_HEIGHT, LARGE_TABLE = 110 * 72 };
+static uint8_t large_older[LARGE_PELS], large_newer[LARGE_PELS];
+static uint32_t large_table[LARGE_TABLE + MORE];
+
+static void take_large_pictures(void)
+{
+    for (int r = 0; r < LARGE_HEIGHT; r++)
+        for (int c = 0; c < LARGE_WIDTH; c++) {
+            const int at = r * LARGE_WIDTH + c, block = r / 32 * 3 + c / 32;
+            large_older[at] = (uint8_t)fibres(r, c + 5);
+            const uint8_t pel = (uint8_t)(fibres(r + 2, c) + (r * r + c) % 13);
+            const bool on_grid = r < 64 && c < 96;
+            large_newer[at] = on_grid && block == 0 ? large_older[at] : on_grid && block == 5 ? 255 - pel : pel;
+        }
+}
+
+/* By absolute and by squares. */
+static const int32_t large_lists[2][LIST] = {{0, 0, 0, 2, -5, 6317, 2, -5, 6000, 0, 0, 10893, 2, -5, 6275, 6, -9, 102341},
+                                             {0, 0, 0, 2, -5, 53099, 2, -5, 49820, -7, 0, 181912, 2, -5, 52487, 6, -9, 11779575}};
+
+static gauge_request large_request(uint32_t search, size_t w, uint32_t measure)
+{
+    return (gauge_request){LARGE_WIDTH, LARGE_HEIGHT, LARGE_N, search, w, 0, measure};
+}
+
+static void lend_large(void)
+{
+    lend();
+    for (size_t i = 0; i < LARGE_TABLE + MORE; i++)
+        large_table[i] = SUM;
+}
+
+static void large_block(void)
+{
+    call = "gauge_measure, N 32";
+    gauge_measured measured = gauge_measure(large_older, LARGE_PELS, large_newer, LARGE_PELS, LARGE_WIDTH, LARGE_HEIGHT, LARGE_N, 3, 40, 4, -6, 1);
+    SAME(measured.refusal, GAUGE_ACCEPTED);
+    SAME(measured.distortion, 13867);
+    measured = gauge_measure(large_older, LARGE_PELS, large_newer, LARGE_PELS, LARGE_WIDTH, LARGE_HEIGHT, LARGE_N, 3, 40, 4, -6, 2);
+    SAME(measured.refusal, GAUGE_ACCEPTED);
+    SAME(measured.distortion, 323813);
+    measured = gauge_measure(large_older, LARGE_PELS, large_newer, LARGE_PELS, LARGE_WIDTH, LARGE_HEIGHT, LARGE_N, 3, 40, -4, 6, 1);
+    SAME(measured.refusal, GAUGE_NO_CANDIDATE);
+    SAME(measured.distortion, 0);
+
+    call = "gauge_row_view, N 32";
+    gauge_row row = gauge_row_view(large_older, LARGE_PELS, large_newer, LARGE_PELS, LARGE_WIDTH, LARGE_HEIGHT, LARGE_N, 1, 70, 77);
+    SAME_PART(row, GAUGE_ACCEPTED, 70 * LARGE_WIDTH + 77, LARGE_N);
+    row = gauge_row_view(large_older, LARGE_PELS, large_newer, LARGE_PELS, LARGE_WIDTH, LARGE_HEIGHT, LARGE_N, 0, 70, 78);
+    SAME_PART(row, GAUGE_BAD_PLACE, 0, 0);
+
+    call = "gauge_search_block, N 32";
+    gauge_found found = gauge_search_block(large_older, LARGE_PELS, large_newer, LARGE_PELS, large_request(1, W, 1), 3, 40);
+    SAME_FOUND(found, GAUGE_ACCEPTED, 2, -5, 7265);
+    SAME_COUNTS(found, 0, 0, 0, 0, 0, 247, 0);
+    found = gauge_search_block(large_older, LARGE_PELS, large_newer, LARGE_PELS, large_request(2, W, 1), 3, 40);
+    SAME_FOUND(found, GAUGE_ACCEPTED, 2, -5, 7265);
+    SAME_COUNTS(found, 247, 169, 169, 155, 128, 107, 140);
+    found = gauge_search_block(large_older, LARGE_PELS, large_newer, LARGE_PELS, large_request(2, W, 2), 3, 40);
+    SAME_FOUND(found, GAUGE_ACCEPTED, 2, -5, 142839);
+    SAME_COUNTS(found, 247, 208, 195, 194, 168, 20, 227);
+    found = gauge_search_block(large_older, LARGE_PELS, large_newer, LARGE_PELS, large_request(3, 7, 1), 3, 40);
+    SAME_FOUND(found, GAUGE_ACCEPTED, 2, -5, 7265);
+    SAME_COUNTS(found, 0, 0, 0, 0, 0, 25, 0);
+    found = gauge_search_block(large_older, LARGE_PELS, large_newer, LARGE_PELS, large_request(4, 8, 2), 3, 40);
+    SAME_FOUND(found, GAUGE_ACCEPTED, 2, -3, 248242);
+    SAME_COUNTS(found, 0, 0, 0, 0, 0, 15, 0);
+    found = gauge_search_block(large_older, LARGE_PELS, large_newer, LARGE_PELS, large_request(2, W, 1), 40, 3);
+    SAME_FOUND(found, GAUGE_BAD_PLACE, 0, 0, 0);
+    SAME_COUNTS(found, 0, 0, 0, 0, 0, 0, 0);
+
+    /* 4, 8, 16 and 32 alone. */
+    for (size_t n = 0; n <= 71; n++) {
+        call_of("N", (uint32_t)n);
+        gauge_request request = {LARGE_WIDTH, LARGE_HEIGHT, n, 1, 0, 0, 1};
+        const bool taken = n == 4 || n == 8 || n == 16 || n == 32;
+        SAME(gauge_search_block(large_older, LARGE_PELS, large_newer, LARGE_PELS, request, 0, 0).refusal, taken ? GAUGE_ACCEPTED : GAUGE_BAD_N);
+    }
+}
+
+static void large_field(void)
+{
+    for (uint32_t measure = 1; measure <= 2; measure++) {
+        const int32_t *const numbers = large_lists[measure - 1];
+        const gauge_request request = large_request(2, W, measure);
+        call_of("gauge_field, N 32, measure", measure);
+        lend_large();
+        gauge_field_answer answer =
+            gauge_field(large_older, LARGE_PELS, large_newer, LARGE_PELS, request, list, LIST + MORE, large_table, LARGE_TABLE + MORE);
+        SAME_READING(answer, GAUGE_ACCEPTED, 2, -5, 3, 6);
+        if (measure == 1)
+            SAME_COUNTS(answer, 1296, 644, 436, 427, 426, 372, 924);
+        else
+            SAME_COUNTS(answer, 1296, 784, 601, 556, 520, 329, 967);
+        EACH(list, 0, LIST, numbers[i]);
+        EACH(list, LIST, LIST + MORE, NUMBER);
+        EACH(large_table, LARGE_TABLE, LARGE_TABLE + MORE, SUM);
+
+        call_of("gauge_step, N 32, measure", measure);
+        lend_large();
+        gauge_stepped stepped = gauge_step((gauge_track){true, 100, 200, 7}, large_older, LARGE_PELS, large_newer, LARGE_PELS, request, list,
+                                           LIST + MORE, large_table, LARGE_TABLE + MORE);
+        SAME_READING(stepped.answer, GAUGE_ACCEPTED, 2, -5, 3, 6);
+        SAME(memcmp(&stepped.answer, &answer, sizeof answer), 0);
+        SAME_TRACK(stepped.track, true, 98, 205, 8);
+        EACH(list, 0, LIST, numbers[i]);
+        EACH(list, LIST, LIST + MORE, NUMBER);
+
+        call_of("gauge_field, N 32, a list and a table one short, measure", measure);
+        lend_large();
+        answer = gauge_field(large_older, LARGE_PELS, large_newer, LARGE_PELS, request, list, LIST - 1, large_table, LARGE_TABLE);
+        SAME_READING(answer, GAUGE_SHORT_LIST, 0, 0, 0, 0);
+        SAME_COUNTS(answer, 0, 0, 0, 0, 0, 0, 0);
+        answer = gauge_field(large_older, LARGE_PELS, large_newer, LARGE_PELS, request, list, LIST, large_table, LARGE_TABLE - 1);
+        SAME_READING(answer, GAUGE_SHORT_TABLE, 0, 0, 0, 0);
+        EACH(large_table, 0, LARGE_TABLE + MORE, SUM);
+        ALL_KEPT();
+
+        /* Search 1 has the same list, and leaves the table alone. */
+        answer = gauge_field(large_older, LARGE_PELS, large_newer, LARGE_PELS, large_request(1, W, measure), list, LIST, large_table, LARGE_TABLE);
+        SAME_READING(answer, GAUGE_ACCEPTED, 2, -5, 3, 6);
+        SAME_COUNTS(answer, 0, 0, 0, 0, 0, 1296, 0);
+        EACH(list, 0, LIST, numbers[i]);
+        EACH(large_table, 0, LARGE_TABLE + MORE, SUM);
+    }
 }
 
 /* ---- who votes */
@@ -453,7 +585,7 @@ static void none_votes(const small_pair *pair, uint32_t search, uint32_t measure
     for (size_t i = 0; i < sizeof tracks / sizeof *tracks; i++) {
         gauge_stepped stepped = small_step(pair, search, measure, tracks[i]);
         SAME_READING(stepped.answer, GAUGE_NO_VOTER, 0, 0, 0, 0);
-        SAME_COUNTS(stepped.answer, 0, 0, 0, 0, 0, 0);
+        SAME_COUNTS(stepped.answer, 0, 0, 0, 0, 0, 0, 0);
         SAME_TRACK(stepped.track, tracks[i].homed, tracks[i].y, tracks[i].x, tracks[i].steps);
         small_lent(pair, search, numbers, count);
     }
@@ -491,11 +623,11 @@ static void no_voters(void)
         }
     call = "counts of a field without a voter";
     gauge_field_answer answer = small_field(&a, 2, 1);
-    SAME_COUNTS(answer, 0, 0, 1, 1, 1, 0);
+    SAME_COUNTS(answer, 0, 0, 0, 1, 1, 1, 0);
     answer = small_field(&c, 2, 1);
-    SAME_COUNTS(answer, 0, 0, 16, 16, 16, 0);
+    SAME_COUNTS(answer, 0, 0, 0, 16, 16, 16, 0);
     answer = small_field(&faint, 2, 1);
-    SAME_COUNTS(answer, 0, 0, 2, 2, 1, 1);
+    SAME_COUNTS(answer, 0, 0, 0, 2, 2, 1, 1);
 }
 
 /* Two blank blocks and B's one: the two have (0,0) and no vote. */
@@ -550,27 +682,29 @@ static void one_pel_votes(void)
 static const uint32_t no_measures[] = {0, 3, 7, 255, 256, 257, 258, 65537, 65538, 1u << 31, UINT32_MAX};
 enum { NO_MEASURES = sizeof no_measures / sizeof *no_measures };
 
-/* All 0 against all 255, by squares 65,025 a pel: measured, searched and in a field's list. */
+/* All 0 against all 255, 255 a pel and by squares 65,025: measured, searched and in a field's list. */
 static void largest_distortions(void)
 {
-    static uint8_t dark[16 * 16], light[16 * 16];
-    static int32_t numbers[GAUGE_LIST_LENGTH(16, 16, 4)];
+    enum { SIDE = 32, ALL = SIDE * SIDE };
+    static uint8_t dark[ALL], light[ALL];
+    static int32_t numbers[GAUGE_LIST_LENGTH(SIDE, SIDE, 4)];
     memset(light, 255, sizeof light);
-    for (size_t n = 4; n <= 16; n *= 2) {
+    for (size_t n = 4; n <= 32; n *= 2) {
         call_of("0 against 255, N", (uint32_t)n);
-        SAME(gauge_measure(dark, 256, light, 256, 16, 16, n, 0, 0, 0, 0, 1).distortion, 255 * n * n);
-        SAME(gauge_measure(light, 256, dark, 256, 16, 16, n, 0, 0, 0, 0, 1).distortion, 255 * n * n);
-        SAME(gauge_measure(dark, 256, light, 256, 16, 16, n, 0, 0, 0, 0, 2).distortion, 65025 * n * n);
-        SAME(gauge_measure(light, 256, dark, 256, 16, 16, n, 0, 0, 0, 0, 2).distortion, 65025 * n * n);
-        for (uint32_t search = 1; search <= 4; search++) {
-            gauge_request request = {16, 16, n, search, search == 3 ? 7 : 16, 0, 2};
-            gauge_found found = gauge_search_block(dark, 256, light, 256, request, 0, 0);
-            SAME_FOUND(found, GAUGE_ACCEPTED, 0, 0, 65025 * n * n);
-            const size_t blocks = (16 / n) * (16 / n);
-            memset(numbers, 255, sizeof numbers);
-            gauge_field_answer answer = gauge_field(light, 256, dark, 256, request, numbers, 3 * blocks, table, TABLE);
-            SAME_READING(answer, GAUGE_ACCEPTED, 0, 0, 0, 0);
-            EACH(numbers, 0, 3 * blocks, i % 3 == 2 ? 65025 * n * n : 0);
+        for (uint32_t measure = 1; measure <= 2; measure++) {
+            const size_t most = (measure == 1 ? 255 : 65025) * n * n;
+            SAME(gauge_measure(dark, ALL, light, ALL, SIDE, SIDE, n, 0, 0, 0, 0, measure).distortion, most);
+            SAME(gauge_measure(light, ALL, dark, ALL, SIDE, SIDE, n, 0, 0, 0, 0, measure).distortion, most);
+            for (uint32_t search = 1; search <= 4; search++) {
+                gauge_request request = {SIDE, SIDE, n, search, search == 3 ? 7 : 16, 0, measure};
+                gauge_found found = gauge_search_block(dark, ALL, light, ALL, request, 0, 0);
+                SAME_FOUND(found, GAUGE_ACCEPTED, 0, 0, most);
+                const size_t blocks = (SIDE / n) * (SIDE / n);
+                memset(numbers, 255, sizeof numbers);
+                gauge_field_answer answer = gauge_field(light, ALL, dark, ALL, request, numbers, 3 * blocks, table, TABLE);
+                SAME_READING(answer, GAUGE_ACCEPTED, 0, 0, 0, 0);
+                EACH(numbers, 0, 3 * blocks, i % 3 == 2 ? most : 0);
+            }
         }
     }
 }
@@ -595,15 +729,15 @@ static void all_refuse(gauge_request request, uint32_t refusal)
 {
     gauge_found found = gauge_search_block(older, PELS, newer, PELS, request, 3, 42);
     SAME_FOUND(found, refusal, 0, 0, 0);
-    SAME_COUNTS(found, 0, 0, 0, 0, 0, 0);
+    SAME_COUNTS(found, 0, 0, 0, 0, 0, 0, 0);
     lend();
     gauge_field_answer answer = gauge_field(older, PELS, newer, PELS, request, list, LIST - 1, table, TABLE - 1);
     SAME_READING(answer, refusal, 0, 0, 0, 0);
-    SAME_COUNTS(answer, 0, 0, 0, 0, 0, 0);
+    SAME_COUNTS(answer, 0, 0, 0, 0, 0, 0, 0);
     ALL_KEPT();
     gauge_stepped stepped = step(request, false, 41, -42, 43);
     SAME_READING(stepped.answer, refusal, 0, 0, 0, 0);
-    SAME_COUNTS(stepped.answer, 0, 0, 0, 0, 0, 0);
+    SAME_COUNTS(stepped.answer, 0, 0, 0, 0, 0, 0, 0);
     SAME_TRACK(stepped.track, false, 41, -42, 43);
     ALL_KEPT();
 }
@@ -646,10 +780,10 @@ static void thresholds(void)
     static const struct {
         uint32_t measure, t, refusal;
     } limits[] = {
-        {1, 65280, GAUGE_ACCEPTED},    {1, 65281, GAUGE_BAD_THRESHOLD},    {1, 16646400, GAUGE_BAD_THRESHOLD},   {2, 65281, GAUGE_ACCEPTED},
-        {2, 16646400, GAUGE_ACCEPTED}, {2, 16646401, GAUGE_BAD_THRESHOLD}, {2, 4294901760, GAUGE_BAD_THRESHOLD}, {2, UINT32_MAX, GAUGE_BAD_THRESHOLD},
+        {1, 261120, GAUGE_ACCEPTED},   {1, 261121, GAUGE_BAD_THRESHOLD},   {1, 66585600, GAUGE_BAD_THRESHOLD},   {2, 261121, GAUGE_ACCEPTED},
+        {2, 66585600, GAUGE_ACCEPTED}, {2, 66585601, GAUGE_BAD_THRESHOLD}, {2, 4294901760, GAUGE_BAD_THRESHOLD}, {2, UINT32_MAX, GAUGE_BAD_THRESHOLD},
     };
-    for (size_t n = 4; n <= 16; n *= 2)
+    for (size_t n = 4; n <= 32; n *= 2)
         for (size_t i = 0; i < sizeof limits / sizeof *limits; i++) {
             call_of("the threshold", limits[i].t);
             gauge_request cross = {WIDTH, HEIGHT, n, 4, 8, limits[i].t, limits[i].measure};
@@ -694,9 +828,9 @@ static void writing(void)
     SAME_PART(written, GAUGE_LOG_BLOCK, 4, 0);
     ALL_KEPT();
 
-    /* No log has any measure but 1: 2 and all that are none are refused after the search, before w, list, blocks and buffer. */
-    for (size_t i = 0; i <= NO_MEASURES; i++) {
-        const uint32_t measure = i < NO_MEASURES ? no_measures[i] : 2;
+    /* What is no measure is refused after the search, before w, list, blocks and buffer. */
+    for (size_t i = 0; i < NO_MEASURES; i++) {
+        const uint32_t measure = no_measures[i];
         call_of("gauge_write_log, measure", measure);
         written = gauge_write_log((gauge_head){WIDTH, HEIGHT, N, W, 2, measure}, field_list, LIST, buffer, sizeof buffer);
         SAME_PART(written, GAUGE_BAD_MEASURE, 0, 0);
@@ -760,8 +894,9 @@ static void printing(void)
 }
 
 /* A cursor among the field's blocks, and one that has a place alone. */
-#define SAME_AMONG(got, at_, blocks_) \
-    (SAME(got.at, at_), SAME(got.phase, 1), SAME_HEAD(got.head, WIDTH, HEIGHT, N, W, 2, 1), SAME(got.blocks, blocks_))
+#define SAME_AMONG_BY(got, at_, blocks_, measure_) \
+    (SAME(got.at, at_), SAME(got.phase, 1), SAME_HEAD(got.head, WIDTH, HEIGHT, N, W, 2, measure_), SAME(got.blocks, blocks_))
+#define SAME_AMONG(got, at_, blocks_) SAME_AMONG_BY(got, at_, blocks_, 1)
 #define SAME_PLACE(got, at_, phase_) (SAME(got.at, at_), SAME(got.phase, phase_), SAME_HEAD(got.head, 0, 0, 0, 0, 0, 0), SAME(got.blocks, 0))
 
 static void walking(void)
@@ -803,14 +938,19 @@ static void walking(void)
     SAME_HEAD(walked.head, 0, 0, 0, 0, 0, 0);
     SAME_AMONG(walked.next, 4, 5);
 
-    /* The measure in a cursor is not looked at: it walks as one with 1, and goes on with 1. */
-    for (size_t i = 0; i <= NO_MEASURES; i++) {
-        const uint32_t measure = i < NO_MEASURES ? no_measures[i] : 2;
+    /* A cursor of measure 2 goes on with it; one of a number that is none is 34 among the blocks, and only there. */
+    call = "gauge_walk, a cursor of measure 2";
+    walked = gauge_walk(field_log, LOG, (gauge_cursor){13, 1, {WIDTH, HEIGHT, N, W, 2, 2}, 1});
+    SAME_WALKED(walked, GAUGE_ACCEPTED, 0, 2, 2, -5, 1481, 0);
+    SAME_HEAD(walked.head, 0, 0, 0, 0, 0, 0);
+    SAME_AMONG_BY(walked.next, 18, 2, 2);
+    for (size_t i = 0; i < NO_MEASURES; i++) {
+        const uint32_t measure = no_measures[i];
         call_of("gauge_walk, a cursor of measure", measure);
         walked = gauge_walk(field_log, LOG, (gauge_cursor){13, 1, {WIDTH, HEIGHT, N, W, 2, measure}, 1});
-        SAME_WALKED(walked, GAUGE_ACCEPTED, 0, 2, 2, -5, 1481, 0);
+        SAME_WALKED(walked, GAUGE_WALK_OVER, 0, 0, 0, 0, 0, 0);
         SAME_HEAD(walked.head, 0, 0, 0, 0, 0, 0);
-        SAME_AMONG(walked.next, 18, 2);
+        SAME_PLACE(walked.next, 13, 3);
         walked = gauge_walk(field_log, LOG, (gauge_cursor){0, 0, {0, 0, 0, 0, 0, measure}, 0});
         SAME_WALKED(walked, GAUGE_ACCEPTED, 0, 1, 0, 0, 0, 0);
         SAME_HEAD(walked.head, WIDTH, HEIGHT, N, W, 2, 1);
@@ -818,10 +958,197 @@ static void walking(void)
         walked = gauge_walk(field_log, LOG, (gauge_cursor){LOG, 2, {0, 0, 0, 0, 0, measure}, 0});
         SAME_WALKED(walked, GAUGE_WALK_OVER, 0, 0, 0, 0, 0, 0);
         SAME_PLACE(walked.next, LOG, 3);
-        walked = gauge_walk(field_log, LOG, (gauge_cursor){13, 1, {WIDTH, HEIGHT, N, 17, 2, measure}, 1});
-        SAME_WALKED(walked, GAUGE_WALK_OVER, 0, 0, 0, 0, 0, 0);
-        SAME_PLACE(walked.next, 13, 3);
     }
+}
+
+/* ---- logs with every command: the fields of blocks of 32 */
+
+static const uint8_t large_log[] = {
+    1, 0, 109, 0,   71,  32,  9,   2,                  /* head, at 0 */
+    3, 2, 2,   251, 24,  173, 2,   2,   251, 23,  112, /* still block at 8, blocks at 9, 14 */
+    2, 0, 0,   42,  141, 2,   2,   251, 24,  131,      /* at 19, 24 */
+    5, 6, 247, 0,   1,   143, 197,                     /* block of four bytes' distortion, at 29 */
+    4, 0, 0,   0,   6,                                 /* end, at 36 */
+};
+static const uint8_t squares_log[] = {
+    6, 0,   109, 0,   71,  32,  9,   2, 2,             /* head with its measure, at 0 */
+    3, 2,   2,   251, 207, 107, 2,   2, 251, 194, 156, /* still block at 9, blocks at 10, 15 */
+    5, 249, 0,   0,   2,   198, 152,                   /* block of four bytes' distortion, at 20 */
+    2, 2,   251, 205, 7,                               /* at 27 */
+    5, 6,   247, 0,   179, 189, 247,                   /* at 32 */
+    4, 0,   0,   0,   6,                               /* end, at 39 */
+};
+static const char large_text[] = "109 71 32 9 2\n0 0 0\n2 -5 6317\n2 -5 6000\n0 0 10893\n2 -5 6275\n6 -9 102341\nend 6\n";
+static const char squares_text[] = "109 71 32 9 2 2\n0 0 0\n2 -5 53099\n2 -5 49820\n-7 0 181912\n2 -5 52487\n6 -9 11779575\nend 6\n";
+
+/* By absolute and by squares: the log, its text, its commands and where each ends. */
+static const struct {
+    const uint8_t *log;
+    size_t length;
+    const char *text;
+    uint32_t commands[8];
+    size_t ends[8];
+} large_logs[2] = {
+    {large_log, sizeof large_log, large_text, {1, 3, 2, 2, 2, 2, 5, 4}, {8, 9, 14, 19, 24, 29, 36, 41}},
+    {squares_log, sizeof squares_log, squares_text, {6, 3, 2, 2, 5, 2, 5, 4}, {9, 10, 15, 20, 27, 32, 39, 44}},
+};
+
+static void every_command(void)
+{
+    for (uint32_t measure = 1; measure <= 2; measure++) {
+        const int32_t *const numbers = large_lists[measure - 1];
+        const gauge_head large_head = {LARGE_WIDTH, LARGE_HEIGHT, LARGE_N, W, 2, measure};
+        const uint8_t *const log = large_logs[measure - 1].log;
+        const size_t length = large_logs[measure - 1].length;
+
+        call_of("gauge_write_log, N 32, measure", measure);
+        lend();
+        gauge_written written = gauge_write_log(large_head, numbers, LIST, buffer, sizeof buffer);
+        SAME_PART(written, GAUGE_ACCEPTED, 0, length);
+        EACH(buffer, 0, length, log[i]);
+        EACH(buffer, length, sizeof buffer, BYTE);
+        lend();
+        written = gauge_write_log(large_head, numbers, LIST, buffer, length - 1);
+        SAME_PART(written, GAUGE_SHORT_BUFFER, 0, 0);
+        ALL_KEPT();
+
+        call_of("gauge_read_log, N 32, measure", measure);
+        gauge_log_read read = gauge_read_log(log, length, list, LIST + MORE);
+        SAME(read.refusal, GAUGE_ACCEPTED);
+        SAME(read.place, 0);
+        SAME_HEAD(read.head, LARGE_WIDTH, LARGE_HEIGHT, LARGE_N, W, 2, measure);
+        EACH(list, 0, LIST, numbers[i]);
+        EACH(list, LIST, LIST + MORE, NUMBER);
+        lend();
+        read = gauge_read_log(log, length, list, LIST - 1);
+        SAME(read.refusal, GAUGE_SHORT_LIST);
+        SAME(read.place, measure == 1 ? 8 : 9);
+        SAME_HEAD(read.head, 0, 0, 0, 0, 0, 0);
+        ALL_KEPT();
+
+        call_of("gauge_print_log, N 32, measure", measure);
+        const char *const text = large_logs[measure - 1].text;
+        SAME(gauge_print_log(log, length, buffer, sizeof buffer), strlen(text));
+        EACH(buffer, 0, strlen(text), text[i]);
+        EACH(buffer, strlen(text), sizeof buffer, BYTE);
+
+        gauge_cursor cursor = {0};
+        for (uint32_t k = 0; k < 8; k++) {
+            call_of("gauge_walk, command", k);
+            gauge_walked walked = gauge_walk(log, length, cursor);
+            const uint32_t command = large_logs[measure - 1].commands[k];
+            const bool is_head = k == 0, is_end = k == 7;
+            const int32_t *const block = numbers + 3 * (is_head || is_end ? 0 : k - 1);
+            SAME_WALKED(walked, GAUGE_ACCEPTED, 0, command, block[0], block[1], block[2], is_end ? 6 : 0);
+            if (is_head)
+                SAME_HEAD(walked.head, LARGE_WIDTH, LARGE_HEIGHT, LARGE_N, W, 2, measure);
+            else
+                SAME_HEAD(walked.head, 0, 0, 0, 0, 0, 0);
+            cursor = walked.next;
+            SAME(cursor.at, large_logs[measure - 1].ends[k]);
+            SAME(cursor.phase, is_end ? 2 : 1);
+            SAME(cursor.blocks, is_end ? 0 : k);
+            if (is_end)
+                SAME_HEAD(cursor.head, 0, 0, 0, 0, 0, 0);
+            else
+                SAME_HEAD(cursor.head, LARGE_WIDTH, LARGE_HEIGHT, LARGE_N, W, 2, measure);
+        }
+        SAME(gauge_walk(log, length, cursor).refusal, GAUGE_WALK_OVER);
+    }
+
+    /* A list that squares may have, but absolute differences may not: the last block. */
+    call = "gauge_write_log, a distortion by N and measure";
+    lend();
+    gauge_written written = gauge_write_log((gauge_head){LARGE_WIDTH, LARGE_HEIGHT, LARGE_N, W, 2, 1}, large_lists[1], LIST, buffer, sizeof buffer);
+    SAME_PART(written, GAUGE_LOG_BLOCK, 5, 0);
+    ALL_KEPT();
+}
+
+/* A log that is refused so: by reading, which leaves the list alone, by a walk, and in the last line of its text. */
+static void log_refused(const uint8_t *log, size_t length, uint32_t refusal, size_t place)
+{
+    lend();
+    gauge_log_read read = gauge_read_log(log, length, list, LIST);
+    SAME(read.refusal, refusal);
+    SAME(read.place, place);
+    SAME_HEAD(read.head, 0, 0, 0, 0, 0, 0);
+    ALL_KEPT();
+    gauge_walked walked = gauge_walk(log, length, (gauge_cursor){0});
+    for (int k = 0; k < 8 && walked.refusal == GAUGE_ACCEPTED; k++)
+        walked = gauge_walk(log, length, walked.next);
+    SAME_WALKED(walked, refusal, place, 0, 0, 0, 0, 0);
+    SAME_PLACE(walked.next, place, 3);
+    char line[50];
+    const size_t size = (size_t)snprintf(line, sizeof line, "refused %u at %zu\n", (unsigned)refusal, place);
+    const size_t all = gauge_print_log(log, length, buffer, sizeof buffer);
+    SAME(all >= size && memcmp(buffer + all - size, line, size) == 0, true);
+}
+
+/* The log by squares with these bytes from a place on. */
+static void changed_refused(size_t at, const uint8_t *bytes, size_t count, uint32_t refusal, size_t place)
+{
+    uint8_t log[sizeof squares_log];
+    memcpy(log, squares_log, sizeof log);
+    memcpy(log + at, bytes, count);
+    log_refused(log, sizeof log, refusal, place);
+}
+
+static void commands_5_and_6_refused(void)
+{
+    /* Cut off at each byte: at the command that is not complete. */
+    for (size_t length = 0; length < sizeof squares_log; length++) {
+        call_of("a log cut off at", (uint32_t)length);
+        size_t place = 0;
+        for (size_t k = 0; k < 8; k++)
+            if (large_logs[1].ends[k] <= length)
+                place = large_logs[1].ends[k];
+        log_refused(squares_log, length, GAUGE_LOG_CUT, place);
+    }
+    for (uint32_t measure = 0; measure <= 255; measure++)
+        if (measure != 2) {
+            call_of("command 6 with measure", measure);
+            changed_refused(8, (uint8_t[]){(uint8_t)measure}, 1, GAUGE_LOG_HEAD, 0);
+        }
+    for (uint32_t command = 0; command <= 255; command++) {
+        call_of("command", command);
+        const uint8_t byte = (uint8_t)command;
+        if (command != 1 && command != 6)
+            changed_refused(0, &byte, 1, GAUGE_LOG_COMMAND, 0);
+        if (command != 2 && command != 3 && command != 5)
+            changed_refused(20, &byte, 1, GAUGE_LOG_COMMAND, 20);
+        if (command != 4)
+            changed_refused(39, &byte, 1, GAUGE_LOG_COMMAND, 39);
+    }
+    call = "command 5, a distortion of 0, 65,535 and 65,025 x 32 x 32 + 1, and one that a sign would make negative";
+    changed_refused(23, (uint8_t[]){0, 0, 0, 0}, 4, GAUGE_LOG_BLOCK, 20);
+    changed_refused(23, (uint8_t[]){0, 0, 255, 255}, 4, GAUGE_LOG_BLOCK, 20);
+    changed_refused(23, (uint8_t[]){3, 248, 4, 1}, 4, GAUGE_LOG_BLOCK, 20);
+    changed_refused(23, (uint8_t[]){128, 0, 0, 0}, 4, GAUGE_LOG_BLOCK, 20);
+    call = "command 5, (0,0) with distortion 0, and a vector";
+    changed_refused(21, (uint8_t[]){0, 0, 0, 0, 0, 0}, 6, GAUGE_LOG_BLOCK, 20);
+    changed_refused(21, (uint8_t[]){10}, 1, GAUGE_LOG_BLOCK, 20);
+
+    call = "command 5, just above 65,535 and just the largest";
+    static const uint8_t ends[2][4] = {{0, 1, 0, 0}, {3, 248, 4, 0}};
+    for (size_t k = 0; k < 2; k++) {
+        uint8_t log[sizeof squares_log];
+        memcpy(log, squares_log, sizeof log);
+        memcpy(log + 23, ends[k], 4);
+        lend();
+        SAME(gauge_read_log(log, sizeof log, list, LIST).refusal, GAUGE_ACCEPTED);
+        SAME(list[11], k == 0 ? 65536 : 66585600);
+    }
+
+    /* A head of command 6 in the place of one of command 1 has the still block's byte for its measure; the other way round the measure, 2, begins a
+     * block of five bytes. */
+    call = "the other head";
+    uint8_t log[sizeof squares_log];
+    memcpy(log, large_log, sizeof large_log);
+    log[0] = 6;
+    log_refused(log, sizeof large_log, GAUGE_LOG_HEAD, 0);
+    memcpy(log, squares_log, sizeof log);
+    log[0] = 1;
+    log_refused(log, sizeof log, GAUGE_LOG_COMMAND, 13);
 }
 
 /* ---- what the header has besides calls */
@@ -832,12 +1159,14 @@ static void lengths(void)
     SAME(GAUGE_LIST_LENGTH(WIDTH, HEIGHT, N), LIST);
     SAME(GAUGE_LIST_LENGTH(50 + 7, 30 + 7, 8 + 8), LIST);
     SAME(GAUGE_LIST_LENGTH(1024, 1024, 4), 196608);
+    SAME(GAUGE_LIST_LENGTH(1024, 1024, 32), 3072);
     SAME(GAUGE_TABLE_LENGTH(WIDTH, HEIGHT), TABLE);
     SAME(GAUGE_TABLE_LENGTH(50 + 7, 30 + 7), TABLE);
     SAME(GAUGE_TABLE_LENGTH(1024, 1024), 1050625);
-    SAME(GAUGE_LOG_MOST(WIDTH, HEIGHT, N), LOG);
-    SAME(GAUGE_LOG_MOST(50 + 7, 30 + 7, 8 + 8), LOG);
-    SAME(GAUGE_LOG_MOST(1024, 1024, 4), 327693);
+    SAME(GAUGE_LOG_MOST(WIDTH, HEIGHT, N), 56);
+    SAME(GAUGE_LOG_MOST(50 + 7, 30 + 7, 8 + 8), 56);
+    SAME(GAUGE_LOG_MOST(1024, 1024, 4), 458766);
+    SAME(GAUGE_LOG_MOST(1024, 1024, 32), 7182);
     SAME(GAUGE_TEXT_MOST, 393236);
 }
 
@@ -881,6 +1210,7 @@ static void texts(void)
 int main(void)
 {
     take_pictures();
+    take_large_pictures();
     memcpy(wrong_log, field_log, LOG);
     wrong_log[LOG - 1] = 5;
     measuring();
@@ -889,6 +1219,8 @@ int main(void)
     fields();
     homing();
     stepping();
+    large_block();
+    large_field();
     no_voters();
     blank_blocks();
     one_pel_votes();
@@ -900,6 +1232,8 @@ int main(void)
     reading();
     printing();
     walking();
+    every_command();
+    commands_5_and_6_refused();
     lengths();
     texts();
     printf("gauge.h: %d checks, %d failed\n", checks, failures);
