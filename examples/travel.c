@@ -191,8 +191,8 @@ static void by_each_search(void)
     printf("\nThe first pair by each search         ---- candidates tested at m = 16, 8, 4, 2 ---    measured    dropped\n");
     for (size_t i = 0; i < sizeof searches / sizeof *searches; i++) {
         gauge_field_answer f = field(searches[i].search, searches[i].w, searches[i].measure);
-        printf("%-15s vector (%2d,%2d) %3u %% %10u %10u %10u %10u %11u %10u\n", searches[i].name, f.dy, f.dx, share(f), f.counts[0], f.counts[1],
-               f.counts[2], f.counts[3], f.counts[4], f.dropped);
+        printf("%-15s vector (%2d,%2d) %3u %% %10u %10u %10u %10u %11u %10u\n", searches[i].name, f.dy, f.dx, share(f), f.counts[1], f.counts[2],
+               f.counts[3], f.counts[4], f.counts[5], f.dropped);
     }
 }
 
