@@ -1,12 +1,12 @@
-/* Fields of vectors, N 16, by all four searches: full, pruned and cross with w 16, four-step with w 7, T 0; and the pruned search of the same blocks
- * one by one. Another field by cross has T 65,280 and so ends at each block's first probe: what it takes of the pruned field's time is one
- * distortion, the voters' pass and the storing of a block together, and more than the pass alone. Beside the gauge run two full searches in C over the same grid: plain scalar code that leaves a candidate as soon as it
- * cannot win, and SSE2 (psadbw). All these are by absolute; a second table has full and pruned by squares beside SSE2 code for squares (pmaddwd):
- * one search that measures every candidate to its last row, as the one by psadbw does, and one that looks after every fourth row whether the
- * candidate can still win. All take turns, plain C, by far the slowest, every fourth time; the best of the turns counts, in processor time.
- * Prints speeds as multiples of plain C's, by absolute, in both tables: the larger, the faster. By each measure the C searches, search 1 and search 2
- * must agree on every block, and each field's reading must be what C makes of its list. With the word `check` it looks at that alone, in small
- * pictures, and prints no speed.
+/* Fields of vectors, N 16 and then N 32, by all four searches: full, pruned and cross with w 16, four-step with w 7, T 0; and the pruned search of
+ * the same blocks one by one. Another field by cross has T 261,120 and so ends at each block's first probe: what it takes of the pruned field's time
+ * is one distortion, the voters' pass and the storing of a block together, and more than the pass alone. Beside the gauge run two full searches in C
+ * over the same grid: plain scalar code that leaves a candidate as soon as it cannot win, and SSE2 (psadbw). All these are by absolute; a second
+ * table has full and pruned by squares beside SSE2 code for squares (pmaddwd): one search that measures every candidate to its last row, as the one
+ * by psadbw does, and one that looks after every fourth row whether the candidate can still win. All take turns, plain C, by far the slowest, every
+ * fourth time; the best of the turns counts, in processor time. Prints speeds as multiples of plain C's with the same N, by absolute, in both tables:
+ * the larger, the faster. By each measure the C searches, search 1 and search 2 must agree on every block, and each field's reading must be what C
+ * makes of its list. With the word `check` it looks at that alone, in small pictures, and prints no speed.
  *
  * Paper is made here: smoothed noise with fibres. The newer picture is the older one moved by a known vector, and each has sensor noise of its own:
  * noise of 2 grey levels is noise whose standard deviation is 2. Noise raises the least distortion, so search 2's coarse tests drop fewer candidates,
@@ -25,7 +25,7 @@
 #include <stdlib.h>
 #include <string.h>
 
-enum { N = 16, W = 16, SIDE = 1024, MARGIN = 32, SHEET = SIDE + 2 * MARGIN, BLOCKS = (SIDE / N) * (SIDE / N) };
+enum { W = 16, SIDE = 1024, MARGIN = 32, SHEET = SIDE + 2 * MARGIN, BLOCKS = (SIDE / 16) * (SIDE / 16) };
 
 /* ---- paper */
 
@@ -115,11 +115,14 @@ static int before(int dy, int dx, const struct best *b)
     return s != t ? s < t : dy != b->dy ? dy < b->dy : dx < b->dx;
 }
 
-static int plain_distortion(const uint8_t *a, const uint8_t *b, int width, int limit)
+/* Distortions of blocks of N 16 or 32. Each is inlined where N is written out. */
+#define DISTORTION __attribute__((always_inline)) static inline int
+
+DISTORTION plain_distortion(const uint8_t *a, const uint8_t *b, int width, int n, int limit)
 {
     int sum = 0;
-    for (int i = 0; i < N; i++, a += width, b += width) {
-        for (int j = 0; j < N; j++)
+    for (int i = 0; i < n; i++, a += width, b += width) {
+        for (int j = 0; j < n; j++)
             sum += abs(a[j] - b[j]);
         if (sum > limit)
             break;
@@ -127,17 +130,18 @@ static int plain_distortion(const uint8_t *a, const uint8_t *b, int width, int l
     return sum;
 }
 
-static int sse2_distortion(const uint8_t *a, const uint8_t *b, int width, int limit)
+DISTORTION sse2_distortion(const uint8_t *a, const uint8_t *b, int width, int n, int limit)
 {
     (void)limit;
     __m128i sum = _mm_setzero_si128();
-    for (int i = 0; i < N; i++, a += width, b += width)
-        sum = _mm_add_epi64(sum, _mm_sad_epu8(_mm_loadu_si128((const void *)a), _mm_loadu_si128((const void *)b)));
+    for (int i = 0; i < n; i++, a += width, b += width)
+        for (int j = 0; j < n; j += 16)
+            sum = _mm_add_epi64(sum, _mm_sad_epu8(_mm_loadu_si128((const void *)(a + j)), _mm_loadu_si128((const void *)(b + j))));
     return _mm_cvtsi128_si32(sum) + _mm_cvtsi128_si32(_mm_srli_si128(sum, 8));
 }
 
-/* The squared differences of two rows of pels, in four sums. */
-static __m128i row_of_squares(const uint8_t *a, const uint8_t *b)
+/* The squared differences of 16 pels of a row, in four sums. */
+static __m128i sixteen_squares(const uint8_t *a, const uint8_t *b)
 {
     const __m128i zero = _mm_setzero_si128(), p = _mm_loadu_si128((const void *)a), q = _mm_loadu_si128((const void *)b);
     __m128i left = _mm_sub_epi16(_mm_unpacklo_epi8(p, zero), _mm_unpacklo_epi8(q, zero));
@@ -151,48 +155,54 @@ static int sum_of_four(__m128i sums)
     return _mm_cvtsi128_si32(_mm_add_epi32(sums, _mm_srli_si128(sums, 4)));
 }
 
-static int pmaddwd_distortion(const uint8_t *a, const uint8_t *b, int width, int limit)
+DISTORTION pmaddwd_distortion(const uint8_t *a, const uint8_t *b, int width, int n, int limit)
 {
     (void)limit;
     __m128i sums = _mm_setzero_si128();
-    for (int i = 0; i < N; i++, a += width, b += width)
-        sums = _mm_add_epi32(sums, row_of_squares(a, b));
+    for (int i = 0; i < n; i++, a += width, b += width)
+        for (int j = 0; j < n; j += 16)
+            sums = _mm_add_epi32(sums, sixteen_squares(a + j, b + j));
     return sum_of_four(sums);
 }
 
-static int stopping_distortion(const uint8_t *a, const uint8_t *b, int width, int limit)
+DISTORTION stopping_distortion(const uint8_t *a, const uint8_t *b, int width, int n, int limit)
 {
     __m128i sums = _mm_setzero_si128();
     int sum = 0;
-    for (int i = 0; i < N && sum <= limit; i += 4) {
-        for (int j = 0; j < 4; j++, a += width, b += width)
-            sums = _mm_add_epi32(sums, row_of_squares(a, b));
+    for (int i = 0; i < n && sum <= limit; i += 4) {
+        for (int row = 0; row < 4; row++, a += width, b += width)
+            for (int j = 0; j < n; j += 16)
+                sums = _mm_add_epi32(sums, sixteen_squares(a + j, b + j));
         sum = sum_of_four(sums);
     }
     return sum;
 }
 
-#define FULL_SEARCH(name, distortion_of)                                                                                                 \
-    __attribute__((noipa)) static struct best name(const uint8_t *o, const uint8_t *a, int width, int height, int w, int y, int x)       \
-    {                                                                                                                                    \
-        o += y * width + x;                                                                                                              \
-        a += y * width + x;                                                                                                              \
-        struct best b = {0, 0, distortion_of(a, o, width, INT32_MAX)};                                                                   \
-        int top = y < w ? -y : -w, bottom = height - N - y < w ? height - N - y : w;                                                     \
-        int left = x < w ? -x : -w, right = width - N - x < w ? width - N - x : w;                                                       \
-        for (int dy = top; dy <= bottom; dy++)                                                                                           \
-            for (int dx = left; dx <= right; dx++) {                                                                                     \
-                int d = distortion_of(a, o + dy * width + dx, width, b.distortion);                                                      \
-                if (d < b.distortion || (d == b.distortion && before(dy, dx, &b)))                                                       \
-                    b = (struct best){dy, dx, d};                                                                                        \
-            }                                                                                                                            \
-        return b;                                                                                                                        \
+#define FULL_SEARCH(name, distortion_of, n)                                                                                        \
+    __attribute__((noipa)) static struct best name(const uint8_t *o, const uint8_t *a, int width, int height, int w, int y, int x) \
+    {                                                                                                                              \
+        o += y * width + x;                                                                                                        \
+        a += y * width + x;                                                                                                        \
+        struct best b = {0, 0, distortion_of(a, o, width, n, INT32_MAX)};                                                          \
+        int top = y < w ? -y : -w, bottom = height - n - y < w ? height - n - y : w;                                               \
+        int left = x < w ? -x : -w, right = width - n - x < w ? width - n - x : w;                                                 \
+        for (int dy = top; dy <= bottom; dy++)                                                                                     \
+            for (int dx = left; dx <= right; dx++) {                                                                               \
+                int d = distortion_of(a, o + dy * width + dx, width, n, b.distortion);                                             \
+                if (d < b.distortion || (d == b.distortion && before(dy, dx, &b)))                                                 \
+                    b = (struct best){dy, dx, d};                                                                                  \
+            }                                                                                                                      \
+        return b;                                                                                                                  \
     }
 
-FULL_SEARCH(plain_search, plain_distortion)
-FULL_SEARCH(sse2_search, sse2_distortion)
-FULL_SEARCH(pmaddwd_search, pmaddwd_distortion)
-FULL_SEARCH(stopping_search, stopping_distortion)
+FULL_SEARCH(plain_16, plain_distortion, 16)
+FULL_SEARCH(plain_32, plain_distortion, 32)
+FULL_SEARCH(sse2_16, sse2_distortion, 16)
+FULL_SEARCH(sse2_32, sse2_distortion, 32)
+FULL_SEARCH(pmaddwd_16, pmaddwd_distortion, 16)
+FULL_SEARCH(pmaddwd_32, pmaddwd_distortion, 32)
+FULL_SEARCH(stopping_16, stopping_distortion, 16)
+FULL_SEARCH(stopping_32, stopping_distortion, 32)
 
 /* ---- the turns */
 
@@ -203,38 +213,23 @@ static const struct {
     uint32_t search;
     size_t w;
     uint32_t t, measure;
-} fields[] = {{1, W, 0, 1}, {2, W, 0, 1}, {3, 7, 0, 1}, {4, W, 0, 1}, {4, W, 65280, 1}, {1, W, 0, 2}, {2, W, 0, 2}};
+} fields[] = {{1, W, 0, 1}, {2, W, 0, 1}, {3, 7, 0, 1}, {4, W, 0, 1}, {4, W, 261120, 1}, {1, W, 0, 2}, {2, W, 0, 2}};
 
 static bool checking;
-static int width, height;
+static int width, height, n;
 static uint8_t older[SIDE * SIDE], newer[SIDE * SIDE];
 static struct best list[RUNS][BLOCKS];
 static uint32_t table[(SIDE + 1) * (SIDE + 1)];
 static gauge_field_answer answer[RUNS];
 
-static struct best plain(int y, int x)
+/* A search of one block, in C or search 2. */
+static struct best search_block(int r, int y, int x)
 {
-    return plain_search(older, newer, width, height, W, y, x);
-}
-
-static struct best sse2(int y, int x)
-{
-    return sse2_search(older, newer, width, height, W, y, x);
-}
-
-static struct best pmaddwd(int y, int x)
-{
-    return pmaddwd_search(older, newer, width, height, W, y, x);
-}
-
-static struct best stopping(int y, int x)
-{
-    return stopping_search(older, newer, width, height, W, y, x);
-}
-
-static struct best single(int y, int x)
-{
-    gauge_request request = {(size_t)width, (size_t)height, N, 2, W, 0, 1};
+    static struct best (*const searches[][2])(const uint8_t *, const uint8_t *, int, int, int, int, int) = {
+        [PLAIN] = {plain_16, plain_32}, [SSE2] = {sse2_16, sse2_32}, [PMADDWD] = {pmaddwd_16, pmaddwd_32}, [STOPPING] = {stopping_16, stopping_32}};
+    if (r != SINGLE)
+        return searches[r][n == 32](older, newer, width, height, W, y, x);
+    gauge_request request = {(size_t)width, (size_t)height, (size_t)n, 2, W, 0, 1};
     size_t length = (size_t)(width * height);
     gauge_found f = gauge_search_block(older, length, newer, length, request, (size_t)y, (size_t)x);
     return (struct best){f.dy, f.dx, (int32_t)f.distortion};
@@ -243,16 +238,15 @@ static struct best single(int y, int x)
 /* The searches of single blocks go over the grid here, those of fields by themselves. */
 static void run(int r)
 {
-    static struct best (*const searches[])(int, int) = {plain, sse2, pmaddwd, stopping, single};
     if (r < FULL) {
         int k = 0;
-        for (int y = 0; y + N <= height; y += N)
-            for (int x = 0; x + N <= width; x += N)
-                list[r][k++] = searches[r](y, x);
+        for (int y = 0; y + n <= height; y += n)
+            for (int x = 0; x + n <= width; x += n)
+                list[r][k++] = search_block(r, y, x);
         return;
     }
     int f = r - FULL;
-    gauge_request request = {(size_t)width, (size_t)height, N, fields[f].search, fields[f].w, fields[f].t, fields[f].measure};
+    gauge_request request = {(size_t)width, (size_t)height, (size_t)n, fields[f].search, fields[f].w, fields[f].t, fields[f].measure};
     size_t length = (size_t)(width * height);
     answer[r] = gauge_field(older, length, newer, length, request, &list[r][0].dy, 3 * BLOCKS, table, sizeof table / sizeof table[0]);
 }
@@ -261,23 +255,23 @@ static void run(int r)
 static double basic_operations(int r)
 {
     double sum = 0;
-    for (int i = 0, squares = 1; i < 5; i++, squares *= 4)
-        sum += (double)squares * answer[r].counts[i];
-    return sum / (N * N * (double)answer[FULL].counts[4]);
+    for (int i = 0, m = 32; i < 6; i++, m /= 2)
+        sum += (double)((n / m) * (n / m)) * answer[r].counts[i];
+    return sum / (n * n * (double)answer[FULL].counts[5]);
 }
 
 /* Whether a run has the list of another. */
 static bool agree(int r, int other)
 {
-    return memcmp(list[r], list[other], (size_t)((width / N) * (height / N)) * sizeof list[r][0]) == 0;
+    return memcmp(list[r], list[other], (size_t)((width / n) * (height / n)) * sizeof list[r][0]) == 0;
 }
 
 /* Whether the largest newer pel of a block exceeds its smallest by 8 or more. */
 static bool is_voter(int y, int x)
 {
     int least = 255, most = 0;
-    for (int i = 0; i < N; i++)
-        for (int j = 0; j < N; j++) {
+    for (int i = 0; i < n; i++)
+        for (int j = 0; j < n; j++) {
             int pel = newer[(y + i) * width + x + j];
             least = pel < least ? pel : least;
             most = pel > most ? pel : most;
@@ -293,8 +287,8 @@ static bool reads_its_list(int r)
     struct best reading = {0, 0, 0};
     uint32_t votes = 0, voters = 0;
     int k = 0;
-    for (int y = 0; y + N <= height; y += N)
-        for (int x = 0; x + N <= width; x += N, k++)
+    for (int y = 0; y + n <= height; y += n)
+        for (int x = 0; x + n <= width; x += n, k++)
             if (is_voter(y, x)) {
                 voters++;
                 having[list[r][k].dy + W][list[r][k].dx + W]++;
@@ -318,11 +312,11 @@ static struct {
 static int line_count;
 
 /* A pair in which the paper has moved by (dy, dx): one line of each table, or none when checking. */
-static int pair(const char *name, const int *sheet, struct noise n, int dy, int dx, int blank, int turns)
+static int pair(const char *name, const int *sheet, struct noise noise, int dy, int dx, int blank, int turns)
 {
     double *seconds = lines[line_count].seconds;
-    photograph(sheet, n, MARGIN, MARGIN, width, height, blank, older);
-    photograph(sheet, n, MARGIN - dy, MARGIN - dx, width, height, blank, newer);
+    photograph(sheet, noise, MARGIN, MARGIN, width, height, blank, older);
+    photograph(sheet, noise, MARGIN - dy, MARGIN - dx, width, height, blank, newer);
     for (int turn = 0; turn < turns; turn++)
         for (int r = turn % 4 == 0 ? PLAIN : SSE2; r < RUNS; r++) {
             double begun = now();
@@ -353,16 +347,17 @@ static int pair(const char *name, const int *sheet, struct noise n, int dy, int 
         return 0;
     lines[line_count].name = name;
     lines[line_count++].operations = basic_operations(PRUNED_SQUARES);
-    printf("%-27s %6.1f %6.1f %6.1f %6.1f %6.0f %6.0f %8.2f %8.2f %9.4f %9.2f\n", name, seconds[PLAIN] / seconds[SSE2], seconds[PLAIN] / seconds[FULL],
-           seconds[PLAIN] / seconds[PRUNED], seconds[PLAIN] / seconds[SINGLE], seconds[PLAIN] / seconds[FOUR_STEP], seconds[PLAIN] / seconds[CROSS],
-           seconds[SSE2] / seconds[FULL], seconds[FULL] / seconds[PRUNED], basic_operations(PRUNED), 100 * seconds[FIRST_PROBE] / seconds[PRUNED]);
+    printf("%-27s %6.1f %6.1f %6.1f %6.1f %6.0f %6.0f %8.2f %8.2f %9.4f %9.2f\n", name, seconds[PLAIN] / seconds[SSE2],
+           seconds[PLAIN] / seconds[FULL], seconds[PLAIN] / seconds[PRUNED], seconds[PLAIN] / seconds[SINGLE], seconds[PLAIN] / seconds[FOUR_STEP],
+           seconds[PLAIN] / seconds[CROSS], seconds[SSE2] / seconds[FULL], seconds[FULL] / seconds[PRUNED], basic_operations(PRUNED),
+           100 * seconds[FIRST_PROBE] / seconds[PRUNED]);
     return 0;
 }
 
 static void squares_table(void)
 {
     printf("\n%4d x %-4d by squares      pmaddwd  C that      1      2     1 to     1 to     2 to     basic\n", width, height);
-    printf("                                  C   stops   full pruned  pmaddwd    stops        1       ops\n");
+    printf("N %-2d                              C   stops   full pruned  pmaddwd    stops        1       ops\n", n);
     for (int i = 0; i < line_count; i++) {
         const double *seconds = lines[i].seconds;
         printf("%-27s %7.1f %7.1f %6.1f %6.1f %8.2f %8.2f %8.2f %9.4f\n", lines[i].name, seconds[PLAIN] / seconds[PMADDWD],
@@ -373,8 +368,8 @@ static void squares_table(void)
     line_count = 0;
 }
 
-/* All papers in pictures of one size. Plain paper is made last, so that the pictures before it do not hang on it. */
-static int papers(int w, int h, int turns)
+/* All papers in pictures of one size, by one N. Plain paper is made last, so that the pictures before it do not hang on it. */
+static int papers(int w, int h, int block_size, int turns)
 {
     static int fibres[SHEET * SHEET], tracing[SHEET * SHEET], plain_paper[SHEET * SHEET];
     static bool made;
@@ -384,9 +379,10 @@ static int papers(int w, int h, int turns)
     }
     width = w;
     height = h;
+    n = block_size;
     if (!checking) {
         printf("\n%4d x %-4d                 psadbw      1      2  2 one      3      4     1 to     2 to     basic   1 probe\n", width, height);
-        printf("                                 C   full pruned by one 4-step  cross   psadbw        1       ops   to 2, %%\n");
+        printf("N %-2d                             C   full pruned by one 4-step  cross   psadbw        1       ops   to 2, %%\n", n);
     }
     if (pair("moved fibres (3,-4)", fibres, EVEN_2, 3, -4, width, turns) || pair("moved fibres (9,-11)", fibres, EVEN_2, 9, -11, width, turns) ||
         pair("still fibres", fibres, EVEN_2, 0, 0, width, turns) || pair("tracing paper (3,-4)", tracing, EVEN_2, 3, -4, width, turns) ||
@@ -409,12 +405,12 @@ int main(int argc, char **argv)
 {
     checking = argc > 1 && strcmp(argv[1], "check") == 0;
     if (checking) {
-        if (papers(168, 130, 1))
+        if (papers(168, 130, 16, 1) || papers(168, 130, 32, 1))
             return 1;
         printf("benches/field: the searches agree\n");
         return 0;
     }
-    printf("Speed of fields, N 16, plain C full search by absolute = 1; basic operations of search 2, exhaustive search = 1\n");
+    printf("Speed of fields, plain C full search by absolute = 1; basic operations of search 2, exhaustive search = 1\n");
     printf("(0.0275 in Gharavi-Alkhansari's paper, for a video)\n");
-    return papers(640, 480, 21) || papers(1024, 1024, 9);
+    return papers(640, 480, 16, 21) || papers(1024, 1024, 16, 9) || papers(640, 480, 32, 13);
 }
