@@ -1,9 +1,9 @@
 /* Logs of 65,536 bytes, walked and printed: gauge_print_log against plain C for the same rules and the same text, one pass over the bytes. The two
- * take turns; of the turns' ratios of processor time the median counts. Prints it as time, plain C = 1: the smaller, the faster. The texts must be the
- * same. With the word `check` it compares the texts alone and prints no time.
+ * take turns; of the turns' ratios of processor time the median counts. Prints it as time, plain C = 1: the smaller, the faster. The texts must be
+ * the same. With the word `check` it compares the texts alone and prints no time.
  *
  * Logs are made here, of a frame so large that the bytes end before its blocks do, so each ends in refusal 13: mixed as moved fibres with blank paper
- * between them would give them, of still blocks alone, and of blocks alone. */
+ * between them would give them, of still blocks alone, of blocks alone, and by squares of blocks with four bytes of distortion alone. */
 #include "common.h"
 #include "gauge.h"
 #include <stdbool.h>
@@ -27,22 +27,28 @@ static int part(int moved, int place)
     return within(within(value, -W, W), -place, SIDE - N - place);
 }
 
-/* A log of which so many of a hundred blocks are still. */
-static void make_log(int still, uint8_t *log)
+/* A log of which so many of a hundred blocks are still; by squares the others have distortions above 65,535. */
+static void make_log(int still, bool squares, uint8_t *log)
 {
-    static const uint8_t head[8] = {1, SIDE / 256, SIDE % 256, SIDE / 256, SIDE % 256, N, W, 2};
-    uint8_t bytes[LENGTH + 5];
-    size_t at = sizeof head;
-    memcpy(bytes, head, sizeof head);
+    const uint8_t head[9] = {squares ? 6 : 1, SIDE / 256, SIDE % 256, SIDE / 256, SIDE % 256, N, W, 2, 2};
+    uint8_t bytes[LENGTH + 7];
+    size_t at = squares ? 9 : 8;
+    memcpy(bytes, head, at);
     for (int k = 0; at < LENGTH; k++) {
         int y = k / (SIDE / N) * N, x = k % (SIDE / N) * N, dy = part(3, y), dx = part(-4, x);
         int distortion = 1 + random_below(10) + random_below(20) * random_below(20) * (random_below(10) == 0);
         if (random_below(100) < still)
             bytes[at++] = 3;
         else {
-            const uint8_t block[5] = {2, (uint8_t)dy, (uint8_t)dx, (uint8_t)(distortion / 256), (uint8_t)(distortion % 256)};
-            memcpy(bytes + at, block, sizeof block);
-            at += sizeof block;
+            bytes[at++] = squares ? 5 : 2;
+            bytes[at++] = (uint8_t)dy;
+            bytes[at++] = (uint8_t)dx;
+            if (squares) {
+                bytes[at++] = 0;
+                bytes[at++] = (uint8_t)(1 + random_below(14));
+            }
+            bytes[at++] = (uint8_t)(distortion / 256);
+            bytes[at++] = (uint8_t)(distortion % 256);
         }
     }
     memcpy(log, bytes, LENGTH);
@@ -85,8 +91,8 @@ struct walk {
     const uint8_t *log;
     size_t length, at;
     enum { BEFORE, AMONG, AFTER } phase;
-    int width, height, n, w, most;
-    uint32_t grid, blocks;
+    int width, height, n, w;
+    uint32_t most, grid, blocks;
     int y, x;
 };
 
@@ -105,24 +111,24 @@ static bool window_taken(int search, int w)
     }
 }
 
-/* The commands that are due, each of a length that is there. They put a line, or answer with a refusal. */
-static int put_head(struct walk *s, const uint8_t *p, uint8_t **to)
+/* The commands that are due, each of a length that is there. They put a line, or answer with a refusal. A head of command 6 has a measure. */
+static int put_head(struct walk *s, const uint8_t *p, bool has_measure, uint8_t **to)
 {
     s->width = p[1] << 8 | p[2];
     s->height = p[3] << 8 | p[4];
     s->n = p[5];
     s->w = p[6];
-    if (s->width < 4 || s->width > 1024 || s->height < 4 || s->height > 1024 || (s->n != 4 && s->n != 8 && s->n != 16) || s->n > s->width ||
-        s->n > s->height || !window_taken(p[7], s->w))
+    if (s->width < 4 || s->width > 1024 || s->height < 4 || s->height > 1024 || (s->n != 4 && s->n != 8 && s->n != 16 && s->n != 32) ||
+        s->n > s->width || s->n > s->height || !window_taken(p[7], s->w) || (has_measure && p[8] != 2))
         return 15;
     s->grid = (uint32_t)((s->width / s->n) * (s->height / s->n));
-    s->most = 255 * s->n * s->n;
+    s->most = (uint32_t)((has_measure ? 65025 : 255) * s->n * s->n);
     s->phase = AMONG;
-    s->at += 8;
-    const int numbers[5] = {s->width, s->height, s->n, s->w, p[7]};
-    for (int i = 0; i < 5; i++) {
+    s->at += has_measure ? 9 : 8;
+    const int numbers[6] = {s->width, s->height, s->n, s->w, p[7], 2}, last = has_measure ? 5 : 4;
+    for (int i = 0; i <= last; i++) {
         *to = put_number(*to, (uint32_t)numbers[i]);
-        *(*to)++ = i < 4 ? ' ' : '\n';
+        *(*to)++ = i < last ? ' ' : '\n';
     }
     return 0;
 }
@@ -137,26 +143,33 @@ static void next_block(struct walk *s)
     }
 }
 
-static int put_block(struct walk *s, const uint8_t *p, uint8_t **to)
+static uint32_t four_bytes(const uint8_t *p)
 {
-    int dy = (int8_t)p[1], dx = (int8_t)p[2], distortion = p[3] << 8 | p[4], top = s->y + dy, left = s->x + dx;
+    return (uint32_t)p[0] << 24 | (uint32_t)p[1] << 16 | (uint32_t)p[2] << 8 | p[3];
+}
+
+/* A block of command 5 has four bytes of distortion. Either command has code of its own. */
+__attribute__((always_inline)) static inline int put_block(struct walk *s, const uint8_t *p, bool has_four, uint8_t **to)
+{
+    int dy = (int8_t)p[1], dx = (int8_t)p[2], top = s->y + dy, left = s->x + dx;
+    uint32_t distortion = has_four ? four_bytes(p + 3) : (uint32_t)(p[3] << 8 | p[4]);
     if (abs(dy) > s->w || abs(dx) > s->w || top < 0 || top + s->n > s->height || left < 0 || left + s->n > s->width || distortion > s->most ||
-        (dy == 0 && dx == 0 && distortion == 0))
+        (has_four ? distortion <= 65535 : dy == 0 && dx == 0 && distortion == 0))
         return 16;
     next_block(s);
-    s->at += 5;
+    s->at += has_four ? 7 : 5;
     *to = put_signed(*to, dy);
     *(*to)++ = ' ';
     *to = put_signed(*to, dx);
     *(*to)++ = ' ';
-    *to = put_number(*to, (uint32_t)distortion);
+    *to = put_number(*to, distortion);
     *(*to)++ = '\n';
     return 0;
 }
 
 static int put_end(struct walk *s, const uint8_t *p, uint8_t **to)
 {
-    if (((uint32_t)p[1] << 24 | (uint32_t)p[2] << 16 | (uint32_t)p[3] << 8 | p[4]) != s->grid)
+    if (four_bytes(p + 1) != s->grid)
         return 17;
     s->phase = AFTER;
     s->at += 5;
@@ -176,9 +189,9 @@ static int put_command(struct walk *s, uint8_t **to)
         return 13;
     switch (p[0]) {
     case 1:
-        return s->phase != BEFORE ? 14 : left < 8 ? 13 : put_head(s, p, to);
+        return s->phase != BEFORE ? 14 : left < 8 ? 13 : put_head(s, p, false, to);
     case 2:
-        return s->phase != AMONG || s->blocks == s->grid ? 14 : left < 5 ? 13 : put_block(s, p, to);
+        return s->phase != AMONG || s->blocks == s->grid ? 14 : left < 5 ? 13 : put_block(s, p, false, to);
     case 3:
         if (s->phase != AMONG || s->blocks == s->grid)
             return 14;
@@ -188,6 +201,10 @@ static int put_command(struct walk *s, uint8_t **to)
         return 0;
     case 4:
         return s->phase != AMONG || s->blocks < s->grid ? 14 : left < 5 ? 13 : put_end(s, p, to);
+    case 5:
+        return s->phase != AMONG || s->blocks == s->grid ? 14 : left < 7 ? 13 : put_block(s, p, true, to);
+    case 6:
+        return s->phase != BEFORE ? 14 : left < 9 ? 13 : put_head(s, p, true, to);
     default:
         return 14;
     }
@@ -235,11 +252,11 @@ static int ascending(const void *a, const void *b)
 }
 
 /* One kind of log: one line of the table, or none when checking. */
-static int kind(const char *name, int still, int turns)
+static int kind(const char *name, int still, bool squares, int turns)
 {
     double ratios[TURNS];
     size_t plain_length = 0, length = 0;
-    make_log(still, made);
+    make_log(still, squares, made);
     for (int turn = 0; turn < turns; turn++) {
         double begun = now();
         for (int i = 0; i < REPEATS; i++)
@@ -265,7 +282,8 @@ int main(int argc, char **argv)
     int turns = checking ? 1 : TURNS;
     if (!checking)
         printf("Time of printing logs of 65,536 bytes, plain C = 1\n");
-    if (kind("mixed", 50, turns) + kind("still blocks", 100, turns) + kind("blocks", 0, turns) != 0)
+    if (kind("mixed", 50, false, turns) || kind("still blocks", 100, false, turns) || kind("blocks", 0, false, turns) ||
+        kind("long blocks", 0, true, turns))
         return 1;
     if (checking)
         printf("benches/log: the texts agree\n");

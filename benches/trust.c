@@ -58,7 +58,7 @@ static int line(int down, int right, struct view v, bool checking)
     photograph(newer, down, right, v);
     if (!checking)
         printf("(%3d,%3d)          ", down, right);
-    for (size_t n = 4; n <= 16; n *= 2) {
+    for (size_t n = 4; n <= 32; n *= 2) {
         gauge_request request = {WIDTH, HEIGHT, n, 2, W, 0, 1};
         gauge_field_answer f =
             gauge_field(older, sizeof older, newer, sizeof newer, request, list, sizeof list / sizeof *list, table, sizeof table / sizeof *table);
@@ -82,7 +82,7 @@ int main(int argc, char **argv)
         printf("The reading as a travel, and its votes as a share of the voters and of all blocks: made-up paper, search 2, w 16\n");
     for (size_t k = 0; k < sizeof views / sizeof *views; k++) {
         if (!checking)
-            printf("%-21s              N 4                     N 8                    N 16\n", views[k].name);
+            printf("%-21s              N 4                     N 8                    N 16                    N 32\n", views[k].name);
         for (size_t i = 0; i < sizeof travels / sizeof *travels; i++) {
             int down = travels[i][0], right = travels[i][1];
             if (checking && !(within(down) && within(right)))
