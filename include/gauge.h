@@ -11,7 +11,7 @@
  * A frame is lent as a pointer and its length in bytes, and only read; a list and a table are lent as a pointer and their length in
  * numbers, and filled; a log and a buffer as a pointer and their length in bytes. A pointer must lead to as much memory as is said, must
  * not be null, not even where the length is 0, and memory that is filled shares no byte with any other that is lent; the two frames may be the
- * same memory. A search, a field and a step need about 37 kB of stack, any other call less than 2 kB; nothing is taken from the heap.
+ * same memory. A search, a field and a step need about 50 kB of stack, any other call less than 2 kB; nothing is taken from the heap.
  *
  * An answer is a struct by value whose first number is `refusal` (in gauge_stepped: answer.refusal): 0 where the call is accepted, else
  * the number of the first rule that the input, the track or the cursor breaks, in the order given at the call as "Tests ..".
