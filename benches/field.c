@@ -118,12 +118,14 @@ static int before(int dy, int dx, const struct best *b)
 /* Distortions of blocks of N 16 or 32. Each is inlined where N is written out. */
 #define DISTORTION __attribute__((always_inline)) static inline int
 
+/* A row by sixteen pels: with 32 in one loop the compiler would make vector code of it. */
 DISTORTION plain_distortion(const uint8_t *a, const uint8_t *b, int width, int n, int limit)
 {
     int sum = 0;
     for (int i = 0; i < n; i++, a += width, b += width) {
-        for (int j = 0; j < n; j++)
-            sum += abs(a[j] - b[j]);
+        for (int j = 0; j < n; j += 16)
+            for (int k = j; k < j + 16; k++)
+                sum += abs(a[k] - b[k]);
         if (sum > limit)
             break;
     }
