@@ -964,22 +964,22 @@ static void walking(void)
 /* ---- logs with every command: the fields of blocks of 32 */
 
 static const uint8_t large_log[] = {
-    1, 0, 109, 0,   71,  32,  9,   2,                  /* head, at 0 */
+    1, 0, 109, 0,   71,  32,  9,   1,                  /* head, at 0 */
     3, 2, 2,   251, 24,  173, 2,   2,   251, 23,  112, /* still block at 8, blocks at 9, 14 */
     2, 0, 0,   42,  141, 2,   2,   251, 24,  131,      /* at 19, 24 */
     5, 6, 247, 0,   1,   143, 197,                     /* block of four bytes' distortion, at 29 */
     4, 0, 0,   0,   6,                                 /* end, at 36 */
 };
 static const uint8_t squares_log[] = {
-    6, 0,   109, 0,   71,  32,  9,   2, 2,             /* head with its measure, at 0 */
+    6, 0,   109, 0,   71,  32,  9,   1, 2,             /* head with its measure, at 0 */
     3, 2,   2,   251, 207, 107, 2,   2, 251, 194, 156, /* still block at 9, blocks at 10, 15 */
     5, 249, 0,   0,   2,   198, 152,                   /* block of four bytes' distortion, at 20 */
     2, 2,   251, 205, 7,                               /* at 27 */
     5, 6,   247, 0,   179, 189, 247,                   /* at 32 */
     4, 0,   0,   0,   6,                               /* end, at 39 */
 };
-static const char large_text[] = "109 71 32 9 2\n0 0 0\n2 -5 6317\n2 -5 6000\n0 0 10893\n2 -5 6275\n6 -9 102341\nend 6\n";
-static const char squares_text[] = "109 71 32 9 2 2\n0 0 0\n2 -5 53099\n2 -5 49820\n-7 0 181912\n2 -5 52487\n6 -9 11779575\nend 6\n";
+static const char large_text[] = "109 71 32 9 1\n0 0 0\n2 -5 6317\n2 -5 6000\n0 0 10893\n2 -5 6275\n6 -9 102341\nend 6\n";
+static const char squares_text[] = "109 71 32 9 1 2\n0 0 0\n2 -5 53099\n2 -5 49820\n-7 0 181912\n2 -5 52487\n6 -9 11779575\nend 6\n";
 
 /* By absolute and by squares: the log, its text, its commands and where each ends. */
 static const struct {
@@ -997,7 +997,7 @@ static void every_command(void)
 {
     for (uint32_t measure = 1; measure <= 2; measure++) {
         const int32_t *const numbers = large_lists[measure - 1];
-        const gauge_head large_head = {LARGE_WIDTH, LARGE_HEIGHT, LARGE_N, W, 2, measure};
+        const gauge_head large_head = {LARGE_WIDTH, LARGE_HEIGHT, LARGE_N, W, 1, measure};
         const uint8_t *const log = large_logs[measure - 1].log;
         const size_t length = large_logs[measure - 1].length;
 
@@ -1016,7 +1016,7 @@ static void every_command(void)
         gauge_log_read read = gauge_read_log(log, length, list, LIST + MORE);
         SAME(read.refusal, GAUGE_ACCEPTED);
         SAME(read.place, 0);
-        SAME_HEAD(read.head, LARGE_WIDTH, LARGE_HEIGHT, LARGE_N, W, 2, measure);
+        SAME_HEAD(read.head, LARGE_WIDTH, LARGE_HEIGHT, LARGE_N, W, 1, measure);
         EACH(list, 0, LIST, numbers[i]);
         EACH(list, LIST, LIST + MORE, NUMBER);
         lend();
@@ -1041,7 +1041,7 @@ static void every_command(void)
             const int32_t *const block = numbers + 3 * (is_head || is_end ? 0 : k - 1);
             SAME_WALKED(walked, GAUGE_ACCEPTED, 0, command, block[0], block[1], block[2], is_end ? 6 : 0);
             if (is_head)
-                SAME_HEAD(walked.head, LARGE_WIDTH, LARGE_HEIGHT, LARGE_N, W, 2, measure);
+                SAME_HEAD(walked.head, LARGE_WIDTH, LARGE_HEIGHT, LARGE_N, W, 1, measure);
             else
                 SAME_HEAD(walked.head, 0, 0, 0, 0, 0, 0);
             cursor = walked.next;
@@ -1051,7 +1051,7 @@ static void every_command(void)
             if (is_end)
                 SAME_HEAD(cursor.head, 0, 0, 0, 0, 0, 0);
             else
-                SAME_HEAD(cursor.head, LARGE_WIDTH, LARGE_HEIGHT, LARGE_N, W, 2, measure);
+                SAME_HEAD(cursor.head, LARGE_WIDTH, LARGE_HEIGHT, LARGE_N, W, 1, measure);
         }
         SAME(gauge_walk(log, length, cursor).refusal, GAUGE_WALK_OVER);
     }
@@ -1059,7 +1059,7 @@ static void every_command(void)
     /* A list that squares may have, but absolute differences may not: the last block. */
     call = "gauge_write_log, a distortion by N and measure";
     lend();
-    gauge_written written = gauge_write_log((gauge_head){LARGE_WIDTH, LARGE_HEIGHT, LARGE_N, W, 2, 1}, large_lists[1], LIST, buffer, sizeof buffer);
+    gauge_written written = gauge_write_log((gauge_head){LARGE_WIDTH, LARGE_HEIGHT, LARGE_N, W, 1, 1}, large_lists[1], LIST, buffer, sizeof buffer);
     SAME_PART(written, GAUGE_LOG_BLOCK, 5, 0);
     ALL_KEPT();
 }
@@ -1128,15 +1128,18 @@ static void commands_5_and_6_refused(void)
     changed_refused(21, (uint8_t[]){0, 0, 0, 0, 0, 0}, 6, GAUGE_LOG_BLOCK, 20);
     changed_refused(21, (uint8_t[]){10}, 1, GAUGE_LOG_BLOCK, 20);
 
-    call = "command 5, just above 65,535 and just the largest";
+    call = "command 5, just above 65,535 and just the largest, read and written back";
     static const uint8_t ends[2][4] = {{0, 1, 0, 0}, {3, 248, 4, 0}};
     for (size_t k = 0; k < 2; k++) {
         uint8_t log[sizeof squares_log];
         memcpy(log, squares_log, sizeof log);
         memcpy(log + 23, ends[k], 4);
         lend();
-        SAME(gauge_read_log(log, sizeof log, list, LIST).refusal, GAUGE_ACCEPTED);
+        gauge_log_read read = gauge_read_log(log, sizeof log, list, LIST);
+        SAME(read.refusal, GAUGE_ACCEPTED);
         SAME(list[11], k == 0 ? 65536 : 66585600);
+        SAME(gauge_write_log(read.head, list, LIST, buffer, sizeof log).length, sizeof log);
+        EACH(buffer, 0, sizeof log, log[i]);
     }
 
     /* A head of command 6 in the place of one of command 1 has the still block's byte for its measure; the other way round the measure, 2, begins a
