@@ -13,13 +13,14 @@
 --   startCursor  where a walk begins; bodyCursor: a place among the blocks
 use Prim.Native.Nat.{ℕ, _+_, _≤_, _<_}
 use mathlib.Core.Path.{_≡_, refl, ap, sym, _∙_}
+use mathlib.Core.Logic.{_⊎_, inl, inr, ⊎-elim}
 use mathlib.Core.List.{List}
 use mathlib.Core.Bool.{Bool, true, false, cond, not, _&&_, _||_}
 use native.Mathlib.Omega.{arith}
 use lib.ListN.{length, getD}
 use lib.Dec.{leb, ltb, eqb, leb→le, eqb→eq}
 use borrow.Author.Tests.{le-leb, lt-leb, leb-true, eqb-true, eq-eqb, ne-eqb}
-use Rattle.base.specs.Tests.{and-left, and-right, true-T}
+use Rattle.base.specs.Tests.{and-left, and-right, or-true, true-T}
 use lib.IntN.{ℤ, pos}
 use Rattle.log_head.specs.declared.Head.{Head}
 use Rattle.log_head.specs.Heads.{headRefusal, headOk, headBlocks, entryOk, isStill}
@@ -138,6 +139,13 @@ abbrev pub bodyCursor : Head → ℕ → ℕ → Cursor
 bodyCursor h at k = record { at = at; phase = Body h k }
 
 -- ---- laws
+
+-- a byte that is one of two, and one that is neither
+pub one-of : (b m n : ℕ) → (b ≡ m) ⊎ (b ≡ n) → (eqb b m || eqb b n) ≡ true
+one-of b m n = ⊎-elim (λ e. rw (eq-eqb b m e)) (λ e. rw (eq-eqb b n e) (or-true (eqb b m)))
+
+pub none-of : (b m n : ℕ) → ((b ≡ m) ⊎ (b ≡ n) → ⊥) → (eqb b m || eqb b n) ≡ false
+none-of b m n neither = rw (ne-eqb b m (λ e. neither (inl e)), ne-eqb b n (λ e. neither (inr e)))
 
 module _ (size : ℕ) (log : List ℕ) (at : ℕ) (rest : Command) where
   pub judged-no : (due : Bool) → due ≡ false → judged due size log at rest ≡ Cmd.Refused 14 at

@@ -55,12 +55,12 @@ fn taken(passes: bool, command: Command, refusal: u32, log: &[u8], at: usize) ->
     command
 }
 
-// A head of so many bytes: due at the start.
-fn head_due(log: &[u8], at: usize, size: usize) -> Command
-    requires { ⌜ (at ≤ length (now log)) × (size ≡ sizeBy (getD (now log) at 0)) × (8 ≤ size) ⌝ }
+// A head as command 1 or 6: due at the start.
+fn head_due(log: &[u8], at: usize) -> Command
+    requires { ⌜ (at < length (now log)) × (8 ≤ sizeBy (getD (now log) at 0)) ⌝ }
     ensures { λ r. ⌜ r ≡ headDue (now (log .entry)) at ⌝ }
 {
-    if log.len() - at < size {
+    if log.len() - at < log_command::size_by(log[at]) {
         return refused(13, at);
     }
     let head = log_command::head_in(log, at);
@@ -97,16 +97,15 @@ fn block_taken(log: &[u8], at: usize, head: Head, blocks: usize) -> Command
     taken(passes, block, 16, log, at)
 }
 
-// A block of so many bytes: due until the grid is full.
-fn block_due(log: &[u8], at: usize, head: Head, all: usize, blocks: usize, size: usize) -> Command
-    requires { ⌜ (at ≤ length (now log)) × (headRefusal head ≡ 0) × (all ≡ headBlocks head) ⌝ }
-    requires { ⌜ (size ≡ sizeBy (getD (now log) at 0)) × (5 ≤ size) ⌝ }
+// A block as command 2 or 5: due until the grid is full.
+fn block_due(log: &[u8], at: usize, head: Head, all: usize, blocks: usize) -> Command
+    requires { ⌜ (at < length (now log)) × (headRefusal head ≡ 0) × (all ≡ headBlocks head) × (5 ≤ sizeBy (getD (now log) at 0)) ⌝ }
     ensures { λ r. ⌜ r ≡ blockDue (now (log .entry)) at head blocks ⌝ }
 {
     if blocks >= all {
         return refused(14, at);
     }
-    if log.len() - at < size {
+    if log.len() - at < log_command::size_by(log[at]) {
         return refused(13, at);
     }
     block_taken(log, at, head, blocks)
@@ -154,9 +153,8 @@ fn start_command(log: &[u8], at: usize) -> Command
     let command = log[at];
     match command {
         0 => refused(14, at),
-        1 => head_due(log, at, log_command::HEAD_SIZE),
+        1 | 6 => head_due(log, at),
         2..=5 => refused(14, at),
-        6 => head_due(log, at, log_command::MEASURED_HEAD_SIZE),
         7..=255 => refused(14, at),
     }
 }
@@ -172,10 +170,9 @@ pub fn body_command(log: &[u8], at: usize, head: Head, all: usize, blocks: usize
     let command = log[at];
     match command {
         0 | 1 => refused(14, at),
-        2 => block_due(log, at, head, all, blocks, log_command::BLOCK_SIZE),
+        2 | 5 => block_due(log, at, head, all, blocks),
         3 => still_due(log, at, head, all, blocks),
         4 => end_due(log, at, head, all, blocks),
-        5 => block_due(log, at, head, all, blocks, log_command::LONG_BLOCK_SIZE),
         6 => refused(14, at),
         7..=255 => refused(14, at), // unknown
     }

@@ -18,7 +18,7 @@ pub enum Command {
     Refused { number: u32, place: usize },
 }
 
-// The command bytes, and how many bytes each command takes with its operands.
+// The command bytes.
 pub const HEAD: u8 = 1;
 
 pub const BLOCK: u8 = 2;
@@ -31,17 +31,26 @@ pub const LONG_BLOCK: u8 = 5; // with a distortion of four bytes
 
 pub const MEASURED_HEAD: u8 = 6; // with the measure
 
-pub const HEAD_SIZE: usize = 8;
-
-pub const BLOCK_SIZE: usize = 5;
-
+// How many bytes a still block and the end take.
 pub const STILL_SIZE: usize = 1;
 
 pub const END_SIZE: usize = 5;
 
-pub const LONG_BLOCK_SIZE: usize = 7;
-
-pub const MEASURED_HEAD_SIZE: usize = 9;
+// How many bytes a command of this number takes.
+pub fn size_by(number: u8) -> usize
+    ensures { λ r. ⌜ r ≡ sizeBy number ⌝ }
+{
+    match number {
+        0 => 0,
+        1 => 8,
+        2 => 5,
+        3 => STILL_SIZE,
+        4 => END_SIZE,
+        5 => 7,
+        6 => 9,
+        7..=255 => 0,
+    }
+}
 
 // The head carries its measure: it is command 6.
 pub fn carries(head: Head) -> bool
@@ -57,7 +66,7 @@ pub fn is_long(distortion: u32) -> bool
     distortion > 65535
 }
 
-// The command byte of a head, and how many bytes it takes.
+// The command byte of a head.
 pub fn head_number(head: Head) -> u8
     ensures { λ r. ⌜ r ≡ headNumber head ⌝ }
 {
@@ -67,16 +76,7 @@ pub fn head_number(head: Head) -> u8
     HEAD
 }
 
-pub fn head_size(head: Head) -> usize
-    ensures { λ r. ⌜ r ≡ sizeBy (headNumber head) ⌝ }
-{
-    if carries(head) {
-        return MEASURED_HEAD_SIZE;
-    }
-    HEAD_SIZE
-}
-
-// The command byte of a block that is not still, and how many bytes it takes.
+// The command byte of a block that is not still.
 pub fn block_number(distortion: u32) -> u8
     ensures { λ r. ⌜ r ≡ blockNumber distortion ⌝ }
 {
@@ -84,15 +84,6 @@ pub fn block_number(distortion: u32) -> u8
         return LONG_BLOCK;
     }
     BLOCK
-}
-
-pub fn block_size(distortion: u32) -> usize
-    ensures { λ r. ⌜ r ≡ sizeBy (blockNumber distortion) ⌝ }
-{
-    if is_long(distortion) {
-        return LONG_BLOCK_SIZE;
-    }
-    BLOCK_SIZE
 }
 
 // A command's number: its byte, or the refusal's.
@@ -154,12 +145,12 @@ pub fn command_size(command: Command) -> usize
     ensures { λ r. ⌜ r ≡ commandSize command ⌝ }
 {
     match command {
-        Command::Head(head) => head_size(head),
+        Command::Head(head) => size_by(head_number(head)),
         Command::Block {
             dy: _,
             dx: _,
             distortion,
-        } => block_size(distortion),
+        } => size_by(block_number(distortion)),
         Command::Still => STILL_SIZE,
         Command::End(_) => END_SIZE,
         Command::Refused {

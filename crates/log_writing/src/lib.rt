@@ -52,10 +52,12 @@ fn block_size(list: &[i32], k: usize) -> usize
     requires { ⌜ Entry (valueOf (now list) k 0) (valueOf (now list) k 1) (valueOf (now list) k 2) ⌝ }
     ensures { λ r. ⌜ (r ≡ length (blockBytes (now (list .entry)) k)) × (r ≤ 7) ⌝ }
 {
+    let distortion = signed::magnitude(log_list::value(list, k, 2));
+    let size = log_command::size_by(log_command::block_number(distortion));
     if still_at(list, k) {
         return log_command::STILL_SIZE;
     }
-    log_command::block_size(signed::magnitude(log_list::value(list, k, 2)))
+    size
 }
 
 // How many bytes the log takes.
@@ -64,7 +66,7 @@ fn log_size(head: Head, list: &[i32]) -> usize
     ensures { λ r. ⌜ r ≡ length (logOf head (now (list .entry))) ⌝ }
 {
     let n = log_head::head_blocks(head);
-    let mut size = log_command::head_size(head) + log_command::END_SIZE;
+    let mut size = log_command::size_by(log_command::head_number(head)) + log_command::END_SIZE;
     let mut k: usize = 0;
     while k < n {
         size += block_size(list, k);

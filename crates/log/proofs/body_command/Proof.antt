@@ -1,24 +1,11 @@
 -- `body_command`: the match is the definition's chain of tests.
-use Prim.Native.Nat.{ℕ}
-use mathlib.Core.Path.{_≡_}
-use mathlib.Core.Bool.{true, false, _||_}
-use lib.Dec.{eqb}
+use mathlib.Core.Logic.{⊎-elim}
 use native.Mathlib.Omega.{arith}
 use borrow.Author.Needs.{needs}
 use borrow.Author.Tests.{lt-leb, le-leb, ne-eqb}
-use Rattle.log.specs.Step.{bodyCommand}
+use Rattle.log.specs.Step.{bodyCommand, one-of, none-of}
 use Rattle.log.proofs.body_command.Statement.{statement}
 use Rattle.log.proofs.body_command.Tie as tie
-
--- whether a byte is one of the two that begin a block
-two : (b : ℕ) → b ≡ 2 → (eqb b 2 || eqb b 5) ≡ true
-two b e = rw e
-
-five : (b : ℕ) → b ≡ 5 → (eqb b 2 || eqb b 5) ≡ true
-five b e = rw e
-
-neither : (b : ℕ) → (b ≡ 2 → ⊥) → (b ≡ 5 → ⊥) → (eqb b 2 || eqb b 5) ≡ false
-neither b m n = rw (ne-eqb b 2 m, ne-eqb b 5 n)
 
 refused-requires : tie.Need-refused-requires
 refused-requires c κs = search needs
@@ -31,16 +18,16 @@ shared-slice-read-command : tie.Need-shared-slice-read-command
 shared-slice-read-command c = search needs
 
 block-due-requires : tie.Need-block-due-requires
-block-due-requires c κs = let s = c .before .before .before .before in (s .pre, (rw (c .match .keys1), omega arith))
+block-due-requires c κs =
+    let e = c .before .before in
+    let s = e .before .before in
+    (omega (arith, e .if1 .left), s .pre .1, s .pre .2, ⊎-elim (λ e. rw e (omega arith)) (λ e. rw e (omega arith)) (c .match .keys1))
 
 still-due-requires : tie.Need-still-due-requires
 still-due-requires c κs = search needs
 
 end-due-requires : tie.Need-end-due-requires
 end-due-requires c κs = search needs
-
-block-due-requires-2 : tie.Need-block-due-requires-2
-block-due-requires-2 c κs = let s = c .before .before .before .before in (s .pre, (rw (c .match .keys4), omega arith))
 
 refused-requires-2 : tie.Need-refused-requires-2
 refused-requires-2 c κs = search needs
@@ -53,7 +40,7 @@ refused-requires-4 c κs = search needs
 
 returns-2 : tie.Need-returns-2
 unfolding bodyCommand
-returns-2 c = simp (lt-leb _ _ (c .before .before .before .if1 .left), two _ (c .before .match .keys1)) (c .block-due .ensures)
+returns-2 c = simp (lt-leb _ _ (c .before .before .before .if1 .left), one-of _ 2 5 (c .before .match .keys1)) (c .block-due .ensures)
 
 returns-3 : tie.Need-returns-3
 unfolding bodyCommand
@@ -65,29 +52,21 @@ returns-4 c = simp (lt-leb _ _ (c .before .before .before .if1 .left), c .before
 
 returns-5 : tie.Need-returns-5
 unfolding bodyCommand
-returns-5 c = simp (lt-leb _ _ (c .before .before .before .if1 .left), five _ (c .before .match .keys4)) (c .block-due2 .ensures)
+returns-5 c = simp (lt-leb _ _ (c .before .before .before .if1 .left), c .before .match .keys4) (c .refused2 .ensures)
 
 returns-6 : tie.Need-returns-6
 unfolding bodyCommand
-returns-6 c = simp (lt-leb _ _ (c .before .before .before .if1 .left), c .before .match .keys5) (c .refused2 .ensures)
+returns-6 c =
+    let m = c .before .before in
+    let no = m .match .rest .0 in
+    simp (lt-leb _ _ (m .before .before .if1 .left), none-of _ 2 5 (no .0 .0 .1), ne-eqb _ 3 (no .0 .1), ne-eqb _ 4 (no .1)) (c .refused3 .ensures)
 
 returns-7 : tie.Need-returns-7
 unfolding bodyCommand
 returns-7 c =
     let m = c .before .before in
     let no = m .match .rest .0 in
-    simp
-    (lt-leb _ _ (m .before .before .if1 .left), neither _ (no .0 .0 .0 .1) (no .1), ne-eqb _ 3 (no .0 .0 .1), ne-eqb _ 4 (no .0 .1))
-    (c .refused3 .ensures)
-
-returns-8 : tie.Need-returns-8
-unfolding bodyCommand
-returns-8 c =
-    let m = c .before .before in
-    let no = m .match .rest .0 in
-    simp
-    (lt-leb _ _ (m .before .before .if1 .left), neither _ (no .0 .0 .0 .1) (no .1), ne-eqb _ 3 (no .0 .0 .1), ne-eqb _ 4 (no .0 .1))
-    (c .refused4 .ensures)
+    simp (lt-leb _ _ (m .before .before .if1 .left), none-of _ 2 5 (no .0 .0 .1), ne-eqb _ 3 (no .0 .1), ne-eqb _ 4 (no .1)) (c .refused4 .ensures)
 
 pub body-command-spec : {M : Type 1} → statement M
 body-command-spec =
@@ -99,7 +78,6 @@ body-command-spec =
     block-due-requires
     still-due-requires
     end-due-requires
-    block-due-requires-2
     refused-requires-2
     refused-requires-3
     refused-requires-4
@@ -108,5 +86,4 @@ body-command-spec =
     returns-4
     returns-5
     returns-6
-    returns-7
-    returns-8)
+    returns-7)

@@ -1,6 +1,6 @@
 -- `log_size`: the bytes of head and end, and those of each block.
 use Prim.Native.Nat.{_+_, _-_, _*_, _≤_, _<_}
-use mathlib.Core.Path.{_≡_}
+use mathlib.Core.Path.{_≡_, ap, _∙_}
 use native.Mathlib.Omega.{arith}
 use borrow.Author.Needs.{needs}
 use Rattle.base.specs.Lists.{concatTo}
@@ -8,7 +8,7 @@ use Rattle.log_head.specs.Heads.{headBlocks, entry}
 use Rattle.log_writing.specs.Parts.{headBytes, blockBytes}
 use Rattle.log_writing.proofs.Bytes.{head-few, sized-first, sized-more, sized-all}
 use lib.ListN.{length}
-use Rattle.log_command.specs.Commands.{head-size}
+use Rattle.log_command.specs.Commands.{headNumber, sizeBy, head-size}
 use Rattle.log_writing.proofs.log_size.Statement.{statement}
 use Rattle.log_writing.proofs.log_size.Tie as tie
 
@@ -21,24 +21,30 @@ abbrev μ-loop : tie.MeasureT-loop
 head-blocks-requires : tie.Need-head-blocks-requires Inv-loop μ-loop
 head-blocks-requires c κs = c .pre .listed .fine
 
-head-size-requires : tie.Need-head-size-requires Inv-loop μ-loop
-head-size-requires c κs = search needs
+head-number-requires : tie.Need-head-number-requires Inv-loop μ-loop
+head-number-requires c κs = search needs
+
+size-by-requires : tie.Need-size-by-requires Inv-loop μ-loop
+size-by-requires c κs = search needs
+
+-- how many bytes the head takes
+first : (c : tie.After-size-by Inv-loop μ-loop) → c .size-by .result ≡ sizeBy (headNumber (c .before .before .before .args .head))
+first c = c .size-by .ensures ∙ ap sizeBy (c .before .head-number .ensures)
 
 add-size : tie.Need-add-size Inv-loop μ-loop
 unfolding headBytes
-add-size c = let h = c .before .before .args .head in
-    omega (arith, c .head-size .ensures, head-size h, head-few h)
+add-size c = let h = c .before .before .before .args .head in omega (arith, first c, head-size h, head-few h)
 
 loop-holds : tie.Need-loop-holds Inv-loop μ-loop
 unfolding headBytes
 loop-holds c =
-    let h = c .before .before .args .head in
-    (omega arith, omega (arith, c .head-size .ensures, head-size h, head-few h), sized-first _ _)
+    let h = c .before .before .before .args .head in
+    (omega arith, omega (arith, first c, head-size h, head-few h), sized-first _ _)
 
 block-size-requires : tie.Need-block-size-requires Inv-loop μ-loop
 block-size-requires c κs =
     let l = c .before .loop in
-    let b = c .before .before .before in
+    let b = c .before .before .before .before in
     let p = b .before .pre in
     let t : l .k < headBlocks (b .before .args .head) = omega (arith, b .head-blocks .ensures) in
     ((omega (arith, p .listed .room), omega (arith, p .listed .few)), entry _ (p .listed .fine) _ _ _ _ (p .each _ t))
@@ -61,9 +67,9 @@ returns : tie.Need-returns Inv-loop μ-loop
 returns c =
     let l = c .before .loop in
     let z = c .before .before in
-    let b = z .before in
+    let b = z .before .before in
     let e : l .k ≡ headBlocks (b .before .args .head) = omega (arith, b .head-blocks .ensures) in
-    sized-all _ _ _ (rw (e, z .head-size .ensures) at (l .inv .2))
+    sized-all _ _ _ (rw (e, first z) at (l .inv .2))
 
 pub log-size-spec : {M : Type 1} → statement M
 log-size-spec =
@@ -72,7 +78,8 @@ log-size-spec =
     Inv-loop
     μ-loop
     head-blocks-requires
-    head-size-requires
+    head-number-requires
+    size-by-requires
     add-size
     loop-holds
     block-size-requires
