@@ -16,7 +16,7 @@ use Rattle.measures.specs.Measures.{measureOf}
 use Rattle.frame.specs.declared.SearchBlock.{SearchBlock}
 use Rattle.frame.specs.Pictures.{pairOf}
 use Rattle.frame.specs.Candidates.{olderRow, olderColumn}
-use Rattle.distortion.specs.Blocks.{distortion, rowsUpTo}
+use Rattle.distortion.specs.Blocks.{distortion, blockUpTo}
 use Rattle.search.specs.Target.{Past}
 use Rattle.candidates.specs.declared.Chosen.{Chosen}
 
@@ -35,7 +35,7 @@ distortionOf older newer b k = distortion (pairOf older newer (b .setting)) (b .
 abbrev pub distortionUpTo : List ℕ → List ℕ → SearchBlock → ℕ → ℕ → ℕ
 distortionUpTo older newer b k ceiling =
     let s = b .setting in
-    rowsUpTo (measureOf (s .measure)) ceiling older newer (s .width) (b .y * s .width + b .x) (beginsAt b k) (s .n) (s .n / 4)
+    blockUpTo (measureOf (s .measure)) ceiling older newer (s .width) (b .y * s .width + b .x) (beginsAt b k) (s .n)
 
 unfoldable pub improved : Chosen → ℕ → ℕ → Chosen
 improved best k d = cond (ltb d (best .distortion)) (record { place = k; distortion = d }) best

@@ -70,9 +70,25 @@ sumUpTo ceiling f (suc n) =
     let s = sumUpTo ceiling f n in
     cond (leb ceiling s) s (s + f n)
 
--- 4 × groups rows, four at a time, as far as the ceiling goes
+-- pieces of four rows of n pels, piece g beginning at place `at g` of both blocks, as far as the ceiling goes
+abbrev pub piecesUpTo : Measure → ℕ → List ℕ → List ℕ → ℕ → ℕ → ℕ → ℕ → (ℕ → ℕ) → ℕ → ℕ
+piecesUpTo μ ceiling older newer width a b n at pieces = sumUpTo ceiling (λ g. rowsFrom μ older newer width (a + at g) (b + at g) n 4) pieces
+
+-- 4 × groups rows, four at a time
 abbrev pub rowsUpTo : Measure → ℕ → List ℕ → List ℕ → ℕ → ℕ → ℕ → ℕ → ℕ → ℕ
-rowsUpTo μ ceiling older newer width a b n groups = sumUpTo ceiling (λ g. rowsFrom μ older newer width (a + 4 * g * width) (b + 4 * g * width) n 4) groups
+rowsUpTo μ ceiling older newer width a b n groups = piecesUpTo μ ceiling older newer width a b n (λ g. 4 * g * width) groups
+
+-- the rows of a block of 32, four at a time, the left half of them and then the right one
+abbrev pub half : ℕ → ℕ → ℕ
+half width g = 4 * (g / 2) * width + 16 * (g % 2)
+
+abbrev pub halvesUpTo : Measure → ℕ → List ℕ → List ℕ → ℕ → ℕ → ℕ → ℕ → ℕ
+halvesUpTo μ ceiling older newer width a b pieces = piecesUpTo μ ceiling older newer width a b 16 (half width) pieces
+
+-- a block of N
+abbrev pub blockUpTo : Measure → ℕ → List ℕ → List ℕ → ℕ → ℕ → ℕ → ℕ → ℕ
+blockUpTo μ ceiling older newer width a b n =
+    cond (leb n 16) (rowsUpTo μ ceiling older newer width a b n (n / 4)) (halvesUpTo μ ceiling older newer width a b 16)
 
 pub row-first : (μ : Measure) (older newer : List ℕ) (a b : ℕ) → rowFrom μ older newer a b 0 ≡ 0
 unfolding rowFrom
@@ -118,11 +134,11 @@ pub record UpTo (ceiling all d : ℕ) : Type 0 where
   pub below : d < ceiling → d ≡ all
   pub beyond : ceiling ≤ d → ceiling ≤ all
 
--- d is the distortion by a measure of the blocks that begin at places a and b as far as the ceiling goes: its rows four at a time
+-- d is the distortion by a measure of the blocks that begin at places a and b as far as the ceiling goes: its rows four at a time, of N 32 by halves
 pub record BlockSum (measure ceiling : ℕ) (older newer : List ℕ) (width n a b d : ℕ) : Type 0 where
   pub up-to : UpTo ceiling (rowsFrom (measureOf measure) older newer width a b n n) d
   pub most : d ≤ n * (n * measureOf measure .most)
-  pub is : d ≡ rowsUpTo (measureOf measure) ceiling older newer width a b n (n / 4)
+  pub is : d ≡ blockUpTo (measureOf measure) ceiling older newer width a b n
 
 -- which code measures a block: N for absolute differences, N + 64 for squares; and back
 unfoldable pub kernelOf : ℕ → ℕ → ℕ

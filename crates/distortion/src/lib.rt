@@ -4,7 +4,7 @@ ghost use mathlib.Core.Path.{_≡_};
 ghost use Prim.Native.Nat.{_+_, _*_, _≤_, _<_};
 ghost use lib.ListN.{length};
 ghost use Rattle.measures.specs.Measures.{measureOf};
-ghost use Rattle.distortion.specs.Blocks.{blockAt, distortionBy, rowsApart, rowsUpTo, Rows, BlockRows, BlockSum, kernelOf, sizeBy, measureBy, Comparable};
+ghost use Rattle.distortion.specs.Blocks.{blockAt, distortionBy, rowsApart, rowsUpTo, halvesUpTo, Rows, BlockRows, BlockSum, kernelOf, sizeBy, measureBy, Comparable};
 use frame::Setting;
 
 // Four rows of n pels, the first at places a and b: the newer ones begin `across` pels apart, the older ones `width` pels. p and q are the places of
@@ -70,6 +70,31 @@ fn rows_by_four(
     sum
 }
 
+// The rows of a block of 32, four at a time, the left half of them and then the right one, as far as the ceiling goes: for 16 pels the compiler has
+// better code than for 32. p is the place of this half and q that of the next.
+fn rows_by_halves(older: &[u8], newer: &[u8], measure: u32, width: usize, ceiling: u32) -> u32
+    requires { ⌜ Rows (now older) (now newer) width 32 8 ⌝ }
+    ensures { λ d. ⌜ (d ≡ halvesUpTo (measureOf measure) ceiling (now (older .entry)) (now (newer .entry)) width 0 0 16)
+        × (d ≤ 16 * (4 * (16 * measureOf measure .most))) ⌝ }
+{
+    let down = 4 * width;
+    let mut total: u32 = 0;
+    let mut p: usize = 0;
+    let mut q: usize = 16;
+    let mut g: usize = 0;
+    while g < 16 {
+        if ceiling <= total {
+            return total;
+        }
+        total += four_rows(older, newer, measure, width, width, p, p, 16);
+        let below = p + down;
+        p = q;
+        q = below;
+        g += 1;
+    }
+    total
+}
+
 // Which code measures a block: N for absolute differences, N + 64 for squares. For each the compiler makes code of its own; one number says both, so that
 // a call has no more numbers than registers take.
 pub fn kernel(measure: u32, n: usize) -> usize
@@ -99,14 +124,17 @@ pub fn distortion_from(
 {
     let here = &newer[a..];
     let there = &older[b..];
-    if kernel == 16 {
-        return rows_by_four(there, here, measures::ABSOLUTE, width, 16, 4, ceiling);
-    }
-    if kernel == 8 {
-        return rows_by_four(there, here, measures::ABSOLUTE, width, 8, 2, ceiling);
-    }
-    if kernel == 4 {
-        return rows_by_four(there, here, measures::ABSOLUTE, width, 4, 1, ceiling);
+    if kernel < 64 {
+        if kernel == 16 {
+            return rows_by_four(there, here, measures::ABSOLUTE, width, 16, 4, ceiling);
+        }
+        if kernel == 8 {
+            return rows_by_four(there, here, measures::ABSOLUTE, width, 8, 2, ceiling);
+        }
+        if kernel == 4 {
+            return rows_by_four(there, here, measures::ABSOLUTE, width, 4, 1, ceiling);
+        }
+        return rows_by_halves(there, here, measures::ABSOLUTE, width, ceiling);
     }
     if kernel == 80 {
         return rows_by_four(there, here, measures::SQUARES, width, 16, 4, ceiling);
@@ -117,10 +145,7 @@ pub fn distortion_from(
     if kernel == 68 {
         return rows_by_four(there, here, measures::SQUARES, width, 4, 1, ceiling);
     }
-    if kernel == 96 {
-        return rows_by_four(there, here, measures::SQUARES, width, 32, 8, ceiling);
-    }
-    rows_by_four(there, here, measures::ABSOLUTE, width, 32, 8, ceiling)
+    rows_by_halves(there, here, measures::SQUARES, width, ceiling)
 }
 
 // The distortion of the newer block at row y, column x against the older block at row r, column c.
