@@ -1,7 +1,8 @@
 -- 01, "Log": "Another call reads a whole log into a list and answers with the head's numbers." "10 list shorter than three a block; log reading tests it right
--- after an accepted head, with place 8": the place behind it. Nothing is stored before the whole log is accepted.
+-- after an accepted head, with place 8": the place behind it, after command 6 "10 has place 9" (02, request 4). Nothing is stored before the whole log is
+-- accepted. "reading a log answers the measure too, 1 after command 1".
 --   fieldOf      the list that a walk's blocks make, three numbers each, in order
---   logRead      what the call answers: the head's refusal; 10; the refusal of the rest; or the head's numbers, with measure 1. The list comes in by its length
+--   logRead      what the call answers: the head's refusal; 10; the refusal of the rest; or the head's numbers. The list comes in by its length
 --   ReadResult   that, with what the list then holds: readLog
 use Prim.Native.Nat.{ℕ, _*_}
 use mathlib.Core.List.{List, _++_, flatMap}

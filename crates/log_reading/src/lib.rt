@@ -14,7 +14,7 @@ ghost use Rattle.log_reading.specs.Storing.{storedDistortion};
 use log_command::Command;
 use log_head::Head;
 
-// What reading answers: the head's numbers, with measure 1, or a refusal with its place.
+// What reading answers: the head's numbers, its measure too, or a refusal with its place.
 #[repr(C)]
 pub struct LogRead {
     pub refusal: u32,
