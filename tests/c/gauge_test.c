@@ -68,6 +68,8 @@ static void same_place(int line, const char *array, size_t place, int64_t got, i
     (SAME(got.counts[0], at32), SAME(got.counts[1], at16), SAME(got.counts[2], at8), SAME(got.counts[3], at4), SAME(got.counts[4], at2), \
      SAME(got.counts[5], at1), SAME(got.dropped, dropped_))
 
+#define SAME_MEASURED(got, refusal_, distortion_) (SAME(got.refusal, refusal_), SAME(got.distortion, distortion_))
+
 #define SAME_FOUND(got, refusal_, dy_, dx_, distortion_) \
     (SAME(got.refusal, refusal_), SAME(got.dy, dy_), SAME(got.dx, dx_), SAME(got.distortion, distortion_))
 
@@ -248,14 +250,11 @@ static void measuring(void)
 {
     call = "gauge_measure";
     gauge_measured measured = gauge_measure(older, PELS, newer, PELS, WIDTH, HEIGHT, N, 3, 20, 4, -6, 1);
-    SAME(measured.refusal, GAUGE_ACCEPTED);
-    SAME(measured.distortion, 3124);
+    SAME_MEASURED(measured, GAUGE_ACCEPTED, 3124);
     measured = gauge_measure(older, PELS, newer, PELS, WIDTH, HEIGHT, N, 3, 20, 4, -6, 2);
-    SAME(measured.refusal, GAUGE_ACCEPTED);
-    SAME(measured.distortion, 59092);
+    SAME_MEASURED(measured, GAUGE_ACCEPTED, 59092);
     measured = gauge_measure(older, PELS, newer, PELS, WIDTH, HEIGHT, N, 3, 20, -4, 6, 1);
-    SAME(measured.refusal, GAUGE_NO_CANDIDATE);
-    SAME(measured.distortion, 0);
+    SAME_MEASURED(measured, GAUGE_NO_CANDIDATE, 0);
 }
 
 static void row_view(void)
@@ -436,14 +435,11 @@ static void large_block(void)
 {
     call = "gauge_measure, N 32";
     gauge_measured measured = gauge_measure(large_older, LARGE_PELS, large_newer, LARGE_PELS, LARGE_WIDTH, LARGE_HEIGHT, LARGE_N, 3, 40, 4, -6, 1);
-    SAME(measured.refusal, GAUGE_ACCEPTED);
-    SAME(measured.distortion, 13867);
+    SAME_MEASURED(measured, GAUGE_ACCEPTED, 13867);
     measured = gauge_measure(large_older, LARGE_PELS, large_newer, LARGE_PELS, LARGE_WIDTH, LARGE_HEIGHT, LARGE_N, 3, 40, 4, -6, 2);
-    SAME(measured.refusal, GAUGE_ACCEPTED);
-    SAME(measured.distortion, 323813);
+    SAME_MEASURED(measured, GAUGE_ACCEPTED, 323813);
     measured = gauge_measure(large_older, LARGE_PELS, large_newer, LARGE_PELS, LARGE_WIDTH, LARGE_HEIGHT, LARGE_N, 3, 40, -4, 6, 1);
-    SAME(measured.refusal, GAUGE_NO_CANDIDATE);
-    SAME(measured.distortion, 0);
+    SAME_MEASURED(measured, GAUGE_NO_CANDIDATE, 0);
 
     call = "gauge_row_view, N 32";
     gauge_row row = gauge_row_view(large_older, LARGE_PELS, large_newer, LARGE_PELS, LARGE_WIDTH, LARGE_HEIGHT, LARGE_N, 1, 70, 77);

@@ -58,6 +58,7 @@ distortion e k = valueOf (e .field) k 2
 
 -- ---- 15: "head that 1, 3, 4 or 5 would turn away"; 16: "block vector no candidate, distortion below 0 or over 255 × N²"
 
+-- (dn and up: how far an integer lies below and above 0)
 pub record Allowed (e : Earlier) : Type 0 where
   pub wide : (4 ≤ e .width) × (e .width ≤ 1024)
   pub high : (4 ≤ e .height) × (e .height ≤ 1024)
