@@ -3,7 +3,7 @@
 --   distortionOf   the distortion of that vector, distortionUpTo: as far as a ceiling goes
 --   improved       the better of the best so far and a later candidate
 --   Choice         r is the first of least distortion among the first i of a list, with its distortion
-use Prim.Native.Nat.{ℕ, _+_, _*_, _/_, _≤_, _<_}
+use Prim.Native.Nat.{ℕ, _+_, _*_, _≤_, _<_}
 use mathlib.Core.Path.{_≡_}
 use mathlib.Core.Bool.{cond}
 use mathlib.Core.List.{List}

@@ -1,5 +1,4 @@
 -- `cursor_of`: the match is the definition's chain of tests.
-use borrow.Author.Needs.{needs}
 use borrow.Author.Tests.{ne-eqb}
 use Rattle.log_plain.specs.Plain.{phaseOf}
 use Rattle.log_plain.proofs.cursor_of.Statement.{statement}
