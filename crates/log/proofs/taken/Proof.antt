@@ -1,4 +1,5 @@
 -- `taken`: the rules, then the number.
+use native.Mathlib.Omega.{arith}
 use mathlib.Core.Path.{_≡_, sym, _∙_}
 use borrow.Author.Needs.{needs}
 use denote.Ref.{now}
@@ -32,14 +33,14 @@ returns-2 c =
     let n = c .before .before in
     let w = n .before in
     let a = w .before .before .before .before .args in
-    let other : getD (now (a .log)) (a .at) 0 ≡ commandNumber (a .command) → ⊥ = λ e. c .before .if2 .taken (w .wide-u8 .ensures .0 ∙ e ∙ sym (n .command-number .ensures)) in
+    let other : getD (now (a .log)) (a .at) 0 ≡ commandNumber (a .command) → ⊥ = λ e. omega (arith, c .before .if2 .taken, w .wide-u8 .ensures .0, e, n .command-number .ensures) in
     c .refused2 .ensures ∙ sym (taken-other _ _ _ _ _ (not-false _ (w .before .before .if1 .left)) other)
 
 returns-3 : tie.Need-returns-3
 returns-3 c =
     let n = c .before in
     let w = n .before in
-    sym (taken-yes _ _ _ _ _ (not-false _ (w .before .before .if1 .left)) (sym (w .wide-u8 .ensures .0) ∙ c .if2 .left ∙ n .command-number .ensures))
+    sym (taken-yes _ _ _ _ _ (not-false _ (w .before .before .if1 .left)) (omega (arith, w .wide-u8 .ensures .0, c .if2 .left, n .command-number .ensures)))
 
 pub taken-spec : {M : Type 1} → statement M
 taken-spec =
