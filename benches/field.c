@@ -35,8 +35,9 @@ static int clip(int a)
 }
 
 /* A kind of paper: the grey of the ground, its contrast in 1/16, the number of fibres and how much they darken or lighten it. The ground's standard
- * deviation is 14 grey levels at contrast 16. Plain paper has 11, and few, faint fibres: it is made so that search 2 takes about as long beside
- * search 1 as it was seen to take on real papers, 1.2 times search 1's time with noise of 2 grey levels and 2.3 times with noise of 5. */
+ * deviation is 14 grey levels at contrast 16. Plain paper has 11, and few, faint fibres: it was made so that search 2 took about as long beside
+ * search 1 as it was seen to take on real papers, 1.2 times search 1's time with noise of 2 grey levels and 2.3 times with noise of 5, when search 1
+ * measured every block to its end. */
 struct paper {
     int ground, contrast, fibres, shade;
 };

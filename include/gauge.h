@@ -74,15 +74,18 @@ const char *gauge_refusal_text(uint32_t refusal);
 #define GAUGE_LIST_LENGTH(width, height, n) ((size_t)3 * ((size_t)(height) / (n)) * ((size_t)(width) / (n)))
 #define GAUGE_TABLE_LENGTH(width, height) (((size_t)(width) + 1) * ((size_t)(height) + 1))
 
-/* What measuring one vector answers. */
+/* What measuring one vector answers. A refused call has zeros behind the number. */
 typedef struct {
     uint32_t refusal;
-    uint32_t distortion; /* by the measure asked for: at most 255 x N x N, by squares 65,025 x N x N */
+    uint32_t distortion; /* by the measure asked for, at most 255 x N x N, by squares 65,025 x N x N; 0 where it is over the ceiling */
+    uint32_t over;       /* 1 where it is over the ceiling, else 0 */
+    uint32_t rows;       /* the first row, counted from 1, at whose end the sum is over the ceiling, else N */
 } gauge_measured;
 
-/* Measures one vector (dy, dx) at the newer block that stands at (row, column), by measure 1 absolute or 2 squares. Tests 1 2 3 51 7 8. */
+/* Measures one vector (dy, dx) at the newer block that stands at (row, column), by measure 1 absolute or 2 squares, as far as a ceiling. Any
+ * ceiling is taken: a distortion equal to it is not over. UINT32_MAX, or the largest distortion, gives every distortion. Tests 1 2 3 51 7 8. */
 gauge_measured gauge_measure(const uint8_t *older, size_t older_length, const uint8_t *newer, size_t newer_length, size_t width,
-                             size_t height, size_t n, size_t row, size_t column, int32_t dy, int32_t dx, uint32_t measure);
+                             size_t height, size_t n, size_t row, size_t column, int32_t dy, int32_t dx, uint32_t measure, uint32_t ceiling);
 
 /* Where a row view stands in its frame. */
 typedef struct {

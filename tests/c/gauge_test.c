@@ -1,8 +1,8 @@
 /* include/gauge.h and include/gauge_text.c as C sees them: the layout of every struct against what the archive hands over, for every call
  * one that is accepted and one that is refused, in numbers that are all different, and what lent memory holds after each; the two
- * measures, and where the refusal of any other stands among the refusals; which blocks vote, and what a pair without a voter answers; blocks of 32,
- * and logs with every command; the refusals by name and by text, and the lengths that the macros give. The rules behind the numbers are tested by
- * tests/rival.
+ * measures, and where the refusal of any other stands among the refusals; the ceiling around the sum at every row's end; which blocks vote, and
+ * what a pair without a voter answers; blocks of 32, and logs with every command; the refusals by name and by text, and the lengths that the
+ * macros give. The rules behind the numbers are tested by tests/rival.
  *
  * What differs is printed as FILE:LINE: CALL: MEMBER: got THIS, wanted THAT. */
 #include <stdio.h>
@@ -68,7 +68,8 @@ static void same_place(int line, const char *array, size_t place, int64_t got, i
     (SAME(got.counts[0], at32), SAME(got.counts[1], at16), SAME(got.counts[2], at8), SAME(got.counts[3], at4), SAME(got.counts[4], at2), \
      SAME(got.counts[5], at1), SAME(got.dropped, dropped_))
 
-#define SAME_MEASURED(got, refusal_, distortion_) (SAME(got.refusal, refusal_), SAME(got.distortion, distortion_))
+#define SAME_MEASURED(got, refusal_, distortion_, over_, rows_) \
+    (SAME(got.refusal, refusal_), SAME(got.distortion, distortion_), SAME(got.over, over_), SAME(got.rows, rows_))
 
 #define SAME_FOUND(got, refusal_, dy_, dx_, distortion_) \
     (SAME(got.refusal, refusal_), SAME(got.dy, dy_), SAME(got.dx, dx_), SAME(got.distortion, distortion_))
@@ -92,7 +93,9 @@ static void same_place(int line, const char *array, size_t place, int64_t got, i
 
 HAS(gauge_measured, refusal, uint32_t, 0);
 HAS(gauge_measured, distortion, uint32_t, 4);
-SIZE(gauge_measured, 8);
+HAS(gauge_measured, over, uint32_t, 8);
+HAS(gauge_measured, rows, uint32_t, 12);
+SIZE(gauge_measured, 16);
 
 HAS(gauge_row, refusal, uint32_t, 0);
 HAS(gauge_row, place, size_t, 8);
@@ -246,15 +249,33 @@ static uint32_t sum_at(size_t i)
 
 /* ---- one block */
 
+/* Ceilings at the ends of their range, and one that a sign would make negative. */
+static const uint32_t far_ceilings[] = {0, 1, 1u << 31, UINT32_MAX};
+enum { FAR_CEILINGS = sizeof far_ceilings / sizeof *far_ceilings };
+
+/* Measuring that is refused so, whatever the ceiling: zeros behind the number. */
+#define MEASURING_REFUSED(refusal_, ...)                                          \
+    do {                                                                          \
+        for (size_t k = 0; k < FAR_CEILINGS; k++) {                               \
+            gauge_measured refused = gauge_measure(__VA_ARGS__, far_ceilings[k]); \
+            SAME_MEASURED(refused, refusal_, 0, 0, 0);                            \
+        }                                                                         \
+    } while (0)
+
 static void measuring(void)
 {
     call = "gauge_measure";
-    gauge_measured measured = gauge_measure(older, PELS, newer, PELS, WIDTH, HEIGHT, N, 3, 20, 4, -6, 1);
-    SAME_MEASURED(measured, GAUGE_ACCEPTED, 3124);
-    measured = gauge_measure(older, PELS, newer, PELS, WIDTH, HEIGHT, N, 3, 20, 4, -6, 2);
-    SAME_MEASURED(measured, GAUGE_ACCEPTED, 59092);
-    measured = gauge_measure(older, PELS, newer, PELS, WIDTH, HEIGHT, N, 3, 20, -4, 6, 1);
-    SAME_MEASURED(measured, GAUGE_NO_CANDIDATE, 0);
+    gauge_measured measured = gauge_measure(older, PELS, newer, PELS, WIDTH, HEIGHT, N, 3, 20, 4, -6, 1, UINT32_MAX);
+    SAME_MEASURED(measured, GAUGE_ACCEPTED, 3124, 0, N);
+    measured = gauge_measure(older, PELS, newer, PELS, WIDTH, HEIGHT, N, 3, 20, 4, -6, 2, UINT32_MAX);
+    SAME_MEASURED(measured, GAUGE_ACCEPTED, 59092, 0, N);
+
+    /* The first five rows have 1,003; by squares the first eight have 30,395. */
+    measured = gauge_measure(older, PELS, newer, PELS, WIDTH, HEIGHT, N, 3, 20, 4, -6, 1, 1002);
+    SAME_MEASURED(measured, GAUGE_ACCEPTED, 0, 1, 5);
+    measured = gauge_measure(older, PELS, newer, PELS, WIDTH, HEIGHT, N, 3, 20, 4, -6, 2, 30395);
+    SAME_MEASURED(measured, GAUGE_ACCEPTED, 0, 1, 9);
+    MEASURING_REFUSED(GAUGE_NO_CANDIDATE, older, PELS, newer, PELS, WIDTH, HEIGHT, N, 3, 20, -4, 6, 1);
 }
 
 static void row_view(void)
@@ -434,12 +455,14 @@ static void lend_large(void)
 static void large_block(void)
 {
     call = "gauge_measure, N 32";
-    gauge_measured measured = gauge_measure(large_older, LARGE_PELS, large_newer, LARGE_PELS, LARGE_WIDTH, LARGE_HEIGHT, LARGE_N, 3, 40, 4, -6, 1);
-    SAME_MEASURED(measured, GAUGE_ACCEPTED, 13867);
-    measured = gauge_measure(large_older, LARGE_PELS, large_newer, LARGE_PELS, LARGE_WIDTH, LARGE_HEIGHT, LARGE_N, 3, 40, 4, -6, 2);
-    SAME_MEASURED(measured, GAUGE_ACCEPTED, 323813);
-    measured = gauge_measure(large_older, LARGE_PELS, large_newer, LARGE_PELS, LARGE_WIDTH, LARGE_HEIGHT, LARGE_N, 3, 40, -4, 6, 1);
-    SAME_MEASURED(measured, GAUGE_NO_CANDIDATE, 0);
+    gauge_measured measured =
+        gauge_measure(large_older, LARGE_PELS, large_newer, LARGE_PELS, LARGE_WIDTH, LARGE_HEIGHT, LARGE_N, 3, 40, 4, -6, 1, UINT32_MAX);
+    SAME_MEASURED(measured, GAUGE_ACCEPTED, 13867, 0, LARGE_N);
+    measured = gauge_measure(large_older, LARGE_PELS, large_newer, LARGE_PELS, LARGE_WIDTH, LARGE_HEIGHT, LARGE_N, 3, 40, 4, -6, 2, UINT32_MAX);
+    SAME_MEASURED(measured, GAUGE_ACCEPTED, 323813, 0, LARGE_N);
+    measured = gauge_measure(large_older, LARGE_PELS, large_newer, LARGE_PELS, LARGE_WIDTH, LARGE_HEIGHT, LARGE_N, 3, 40, 4, -6, 2, 323812);
+    SAME_MEASURED(measured, GAUGE_ACCEPTED, 0, 1, LARGE_N);
+    MEASURING_REFUSED(GAUGE_NO_CANDIDATE, large_older, LARGE_PELS, large_newer, LARGE_PELS, LARGE_WIDTH, LARGE_HEIGHT, LARGE_N, 3, 40, -4, 6, 1);
 
     call = "gauge_row_view, N 32";
     gauge_row row = gauge_row_view(large_older, LARGE_PELS, large_newer, LARGE_PELS, LARGE_WIDTH, LARGE_HEIGHT, LARGE_N, 1, 70, 77);
@@ -678,7 +701,8 @@ static void one_pel_votes(void)
 static const uint32_t no_measures[] = {0, 3, 7, 255, 256, 257, 258, 65537, 65538, 1u << 31, UINT32_MAX};
 enum { NO_MEASURES = sizeof no_measures / sizeof *no_measures };
 
-/* All 0 against all 255, 255 a pel and by squares 65,025: measured, searched and in a field's list. */
+/* All 0 against all 255, 255 a pel and by squares 65,025: measured up to just that ceiling and over one less, in the last row; searched and in
+ * a field's list. */
 static void largest_distortions(void)
 {
     enum { SIDE = 32, ALL = SIDE * SIDE };
@@ -689,8 +713,12 @@ static void largest_distortions(void)
         call_of("0 against 255, N", (uint32_t)n);
         for (uint32_t measure = 1; measure <= 2; measure++) {
             const size_t most = (measure == 1 ? 255 : 65025) * n * n;
-            SAME(gauge_measure(dark, ALL, light, ALL, SIDE, SIDE, n, 0, 0, 0, 0, measure).distortion, most);
-            SAME(gauge_measure(light, ALL, dark, ALL, SIDE, SIDE, n, 0, 0, 0, 0, measure).distortion, most);
+            gauge_measured measured = gauge_measure(dark, ALL, light, ALL, SIDE, SIDE, n, 0, 0, 0, 0, measure, (uint32_t)most);
+            SAME_MEASURED(measured, GAUGE_ACCEPTED, most, 0, n);
+            measured = gauge_measure(light, ALL, dark, ALL, SIDE, SIDE, n, 0, 0, 0, 0, measure, (uint32_t)most);
+            SAME_MEASURED(measured, GAUGE_ACCEPTED, most, 0, n);
+            measured = gauge_measure(light, ALL, dark, ALL, SIDE, SIDE, n, 0, 0, 0, 0, measure, (uint32_t)most - 1);
+            SAME_MEASURED(measured, GAUGE_ACCEPTED, 0, 1, n);
             for (uint32_t search = 1; search <= 4; search++) {
                 gauge_request request = {SIDE, SIDE, n, search, search == 3 ? 7 : 16, 0, measure};
                 gauge_found found = gauge_search_block(dark, ALL, light, ALL, request, 0, 0);
@@ -705,17 +733,104 @@ static void largest_distortions(void)
     }
 }
 
-/* One pel that differs by 1 to 255, and the square of that. */
+/* One pel that differs by 1 to 255, and the square of that: up to just that ceiling, and over one less in the pel's row, wherever it stands. */
 static void one_pel(void)
 {
     static uint8_t dark[4 * 4], light[4 * 4];
-    for (uint32_t grey = 1; grey <= 255; grey++) {
-        call_of("one pel off by", grey);
-        light[5] = (uint8_t)grey;
-        SAME(gauge_measure(dark, 16, light, 16, 4, 4, 4, 0, 0, 0, 0, 1).distortion, grey);
-        SAME(gauge_measure(light, 16, dark, 16, 4, 4, 4, 0, 0, 0, 0, 1).distortion, grey);
-        SAME(gauge_measure(dark, 16, light, 16, 4, 4, 4, 0, 0, 0, 0, 2).distortion, grey * grey);
-        SAME(gauge_measure(light, 16, dark, 16, 4, 4, 4, 0, 0, 0, 0, 2).distortion, grey * grey);
+    for (uint32_t grey = 1; grey <= 255; grey++)
+        for (uint32_t measure = 1; measure <= 2; measure++) {
+            call_of("one pel off by", grey);
+            const size_t at = (grey + 5 * measure) % 16;
+            const uint32_t all = measure == 1 ? grey : grey * grey;
+            memset(light, 0, sizeof light);
+            light[at] = (uint8_t)grey;
+            gauge_measured measured = gauge_measure(dark, 16, light, 16, 4, 4, 4, 0, 0, 0, 0, measure, all);
+            SAME_MEASURED(measured, GAUGE_ACCEPTED, all, 0, 4);
+            measured = gauge_measure(light, 16, dark, 16, 4, 4, 4, 0, 0, 0, 0, measure, all);
+            SAME_MEASURED(measured, GAUGE_ACCEPTED, all, 0, 4);
+            measured = gauge_measure(dark, 16, light, 16, 4, 4, 4, 0, 0, 0, 0, measure, all - 1);
+            SAME_MEASURED(measured, GAUGE_ACCEPTED, 0, 1, at / 4 + 1);
+        }
+}
+
+/* ---- the ceiling */
+
+/* A block of a pair, and the vector by which it is measured. */
+typedef struct {
+    const uint8_t *older, *newer;
+    int width, height, n, row, column, dy, dx;
+} one_block;
+
+/* One ceiling against the sums at the ends of the block's rows. */
+static void by_ceiling(const one_block *b, uint32_t measure, const uint32_t *sums, uint32_t ceiling)
+{
+    int rows = 1;
+    while (rows < b->n && sums[rows - 1] <= ceiling)
+        rows++;
+    const bool over = sums[rows - 1] > ceiling;
+    const int pels = b->width * b->height;
+    gauge_measured measured =
+        gauge_measure(b->older, pels, b->newer, pels, b->width, b->height, b->n, b->row, b->column, b->dy, b->dx, measure, ceiling);
+    SAME_MEASURED(measured, GAUGE_ACCEPTED, over ? 0 : sums[rows - 1], over, rows);
+}
+
+/* Ceilings around the sum at the end of every row, and far ones. */
+static void by_every_row(const one_block *b, uint32_t measure)
+{
+    uint32_t sums[32], sum = 0;
+    for (int r = 0; r < b->n; r++) {
+        for (int c = 0; c < b->n; c++) {
+            const int was = b->older[(b->row + r + b->dy) * b->width + b->column + c + b->dx];
+            const int off = b->newer[(b->row + r) * b->width + b->column + c] - was;
+            sum += (uint32_t)(measure == 2 ? off * off : off < 0 ? -off : off);
+        }
+        sums[r] = sum;
+    }
+    for (int r = 0; r < b->n; r++) {
+        call_of("a ceiling around the sum up to row", (uint32_t)r + 1);
+        if (sums[r] > 0)
+            by_ceiling(b, measure, sums, sums[r] - 1);
+        by_ceiling(b, measure, sums, sums[r]);
+        by_ceiling(b, measure, sums, sums[r] + 1);
+    }
+    for (size_t k = 0; k < FAR_CEILINGS; k++) {
+        call_of("ceiling", far_ceilings[k]);
+        by_ceiling(b, measure, sums, far_ceilings[k]);
+    }
+}
+
+static void ceilings(void)
+{
+    const one_block blocks[] = {
+        {older, newer, WIDTH, HEIGHT, 4, 3, 20, 4, -6},
+        {older, newer, WIDTH, HEIGHT, 8, 29, 49, -16, 0},
+        {older, newer, WIDTH, HEIGHT, N, 3, 20, 4, -6},
+        {large_older, large_newer, LARGE_WIDTH, LARGE_HEIGHT, LARGE_N, 3, 40, 4, -6},
+        {large_older, large_newer, LARGE_WIDTH, LARGE_HEIGHT, LARGE_N, 32, 64, 6, -9},
+        {large_older, large_newer, LARGE_WIDTH, LARGE_HEIGHT, LARGE_N, 0, 0, 0, 0},
+    };
+    for (size_t i = 0; i < sizeof blocks / sizeof *blocks; i++)
+        for (uint32_t measure = 1; measure <= 2; measure++)
+            by_every_row(&blocks[i], measure);
+
+    /* The worked pair A has 8 a row, by squares 16. Blocks that are alike are over no ceiling. */
+    static uint8_t tens[16], twelves[16];
+    memset(tens, 10, sizeof tens);
+    memset(twelves, 12, sizeof twelves);
+    static const struct {
+        uint32_t ceiling, distortion, over, rows;
+    } wanted[] = {
+        {0, 0, 1, 1},  {7, 0, 1, 1},  {8, 0, 1, 2},  {15, 0, 1, 2},  {16, 0, 1, 3},
+        {23, 0, 1, 3}, {24, 0, 1, 4}, {31, 0, 1, 4}, {32, 32, 0, 4}, {33, 32, 0, 4},
+    };
+    for (size_t i = 0; i < sizeof wanted / sizeof *wanted; i++) {
+        call_of("pair A, ceiling", wanted[i].ceiling);
+        gauge_measured measured = gauge_measure(twelves, 16, tens, 16, 4, 4, 4, 0, 0, 0, 0, 1, wanted[i].ceiling);
+        SAME_MEASURED(measured, GAUGE_ACCEPTED, wanted[i].distortion, wanted[i].over, wanted[i].rows);
+        measured = gauge_measure(tens, 16, twelves, 16, 4, 4, 4, 0, 0, 0, 0, 2, 2 * wanted[i].ceiling);
+        SAME_MEASURED(measured, GAUGE_ACCEPTED, 2 * wanted[i].distortion, wanted[i].over, wanted[i].rows);
+        measured = gauge_measure(tens, 16, tens, 16, 4, 4, 4, 0, 0, 0, 0, 1, wanted[i].ceiling);
+        SAME_MEASURED(measured, GAUGE_ACCEPTED, 0, 0, 4);
     }
 }
 
@@ -755,19 +870,18 @@ static void measures_refused(void)
         all_refuse((gauge_request){WIDTH, HEIGHT, N, 0, W, 0, measure}, GAUGE_BAD_SEARCH);
 
         /* Measuring: after N, before place and vector. */
-        SAME(gauge_measure(older, PELS, newer, PELS, WIDTH, HEIGHT, N, 3, 20, 4, -6, measure).refusal, GAUGE_BAD_MEASURE);
-        SAME(gauge_measure(older, PELS, newer, PELS, WIDTH, HEIGHT, N, 3, 20, 4, -6, measure).distortion, 0);
-        SAME(gauge_measure(older, PELS, newer, PELS, WIDTH, HEIGHT, N, 3, 20, -4, 6, measure).refusal, GAUGE_BAD_MEASURE);
-        SAME(gauge_measure(older, PELS, newer, PELS, WIDTH, HEIGHT, N, 3, 42, 4, -6, measure).refusal, GAUGE_BAD_MEASURE);
-        SAME(gauge_measure(older, PELS, newer, PELS, WIDTH, HEIGHT, 5, 3, 20, 4, -6, measure).refusal, GAUGE_BAD_N);
-        SAME(gauge_measure(older, PELS, newer, PELS - 1, WIDTH, HEIGHT, N, 3, 20, 4, -6, measure).refusal, GAUGE_BAD_FRAME);
-        SAME(gauge_measure(older, PELS, newer, PELS, 3, HEIGHT, N, 3, 20, 4, -6, measure).refusal, GAUGE_BAD_SIZE);
+        MEASURING_REFUSED(GAUGE_BAD_MEASURE, older, PELS, newer, PELS, WIDTH, HEIGHT, N, 3, 20, 4, -6, measure);
+        MEASURING_REFUSED(GAUGE_BAD_MEASURE, older, PELS, newer, PELS, WIDTH, HEIGHT, N, 3, 20, -4, 6, measure);
+        MEASURING_REFUSED(GAUGE_BAD_MEASURE, older, PELS, newer, PELS, WIDTH, HEIGHT, N, 3, 42, 4, -6, measure);
+        MEASURING_REFUSED(GAUGE_BAD_N, older, PELS, newer, PELS, WIDTH, HEIGHT, 5, 3, 20, 4, -6, measure);
+        MEASURING_REFUSED(GAUGE_BAD_FRAME, older, PELS, newer, PELS - 1, WIDTH, HEIGHT, N, 3, 20, 4, -6, measure);
+        MEASURING_REFUSED(GAUGE_BAD_SIZE, older, PELS, newer, PELS, 3, HEIGHT, N, 3, 20, 4, -6, measure);
     }
     call = "refusals by squares";
     all_refuse((gauge_request){WIDTH, HEIGHT, N, 2, 17, 0, 2}, GAUGE_BAD_WINDOW);
     all_refuse((gauge_request){WIDTH, HEIGHT, N, 2, W, 1, 2}, GAUGE_BAD_THRESHOLD);
-    SAME(gauge_measure(older, PELS, newer, PELS, WIDTH, HEIGHT, N, 3, 42, 4, -6, 2).refusal, GAUGE_BAD_PLACE);
-    SAME(gauge_measure(older, PELS, newer, PELS, WIDTH, HEIGHT, N, 3, 20, -4, 6, 2).refusal, GAUGE_NO_CANDIDATE);
+    MEASURING_REFUSED(GAUGE_BAD_PLACE, older, PELS, newer, PELS, WIDTH, HEIGHT, N, 3, 42, 4, -6, 2);
+    MEASURING_REFUSED(GAUGE_NO_CANDIDATE, older, PELS, newer, PELS, WIDTH, HEIGHT, N, 3, 20, -4, 6, 2);
 }
 
 /* The threshold's limit goes by the measure alone. */
@@ -1225,6 +1339,7 @@ int main(void)
     one_pel_votes();
     largest_distortions();
     one_pel();
+    ceilings();
     measures_refused();
     thresholds();
     writing();

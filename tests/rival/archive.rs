@@ -9,6 +9,8 @@ use crate::question::{
 struct GaugeMeasured {
     refusal: u32,
     distortion: u32,
+    over: u32,
+    rows: u32,
 }
 
 #[repr(C)]
@@ -103,6 +105,7 @@ extern "C" {
         dy: i32,
         dx: i32,
         measure: u32,
+        ceiling: u32,
     ) -> GaugeMeasured;
 
     fn gauge_row_view(
@@ -242,11 +245,14 @@ pub fn measure(pair: &Pair, question: &Measuring) -> Measured {
             question.dy,
             question.dx,
             question.measure,
+            question.ceiling,
         )
     };
     Measured {
         refusal: measured.refusal as i64,
         distortion: measured.distortion as i64,
+        over: measured.over as i64,
+        rows: measured.rows as i64,
     }
 }
 

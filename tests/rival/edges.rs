@@ -4,7 +4,7 @@
 
 use crate::archive;
 use crate::group::Group;
-use crate::question::{Measuring, Pair, Request, Viewing, NO_MEASURES, SIZES};
+use crate::question::{Measuring, Pair, Request, Viewing, FAR_CEILINGS, NO_MEASURES, SIZES};
 use crate::rival;
 
 /// Bits above the lower 32, which a careless narrowing would lose.
@@ -36,12 +36,18 @@ fn searched(group: &mut Group, pair: &Pair, request: Request, refusal: i64) {
     group.same(format_args!("{pair}, {request}"), answer, wanted);
 }
 
-/// Likewise for the measuring call.
+/// Likewise for the measuring call, by each of the far ceilings in place of the question's own.
 fn measured(group: &mut Group, pair: &Pair, question: Measuring, refusal: i64) {
-    let answer = archive::measure(pair, &question);
-    let wanted = rival::measure(pair, &question);
-    group.same(format_args!("{pair}, {question}"), answer.refusal, refusal);
-    group.same(format_args!("{pair}, {question}"), answer, wanted);
+    for ceiling in FAR_CEILINGS {
+        let question = Measuring {
+            ceiling,
+            ..question
+        };
+        let answer = archive::measure(pair, &question);
+        let wanted = rival::measure(pair, &question);
+        group.same(format_args!("{pair}, {question}"), answer.refusal, refusal);
+        group.same(format_args!("{pair}, {question}"), answer, wanted);
+    }
 }
 
 /// Likewise for the row view.
@@ -74,6 +80,7 @@ fn all_calls(group: &mut Group, pair: &Pair, n: usize, row: usize, column: usize
             dy: 0,
             dx: 0,
             measure,
+            ceiling: 0,
         };
         measured(group, pair, question, refusal);
     }
@@ -243,6 +250,7 @@ fn measures() -> u64 {
                     dy,
                     dx,
                     measure,
+                    ceiling: 0,
                 };
                 measured(&mut group, &pair, question, refusal);
             }
@@ -329,6 +337,7 @@ fn block_places() -> u64 {
                             dy: 0,
                             dx: 0,
                             measure,
+                            ceiling: 0,
                         };
                         measured(&mut group, &pair, question, refusal);
                     }
@@ -386,6 +395,7 @@ fn vectors_and_sides() -> u64 {
                         dy,
                         dx,
                         measure,
+                        ceiling: 0,
                     };
                     measured(&mut group, &pair, question, if allowed { 0 } else { 8 });
                 }
@@ -471,6 +481,7 @@ fn order() -> u64 {
                 dy: if broken(8) { far } else { -4 },
                 dx: 0,
                 measure: if broken(51) { none } else { measure },
+                ceiling: 0,
             };
             measured(&mut group, &pair, question, first);
         }
@@ -568,17 +579,20 @@ fn table() -> u64 {
                 }
                 for (dy, dx) in [(0, 0), (-1, 0), (0, 1), (17, 0), (0, -17), (i32::MIN, 0)] {
                     for measure in [1, 2, 3] {
-                        let question = Measuring {
-                            n,
-                            row,
-                            column,
-                            dy,
-                            dx,
-                            measure,
-                        };
-                        let answer = archive::measure(&pair, &question);
-                        let wanted = rival::measure(&pair, &question);
-                        others.same(format_args!("{pair}, {question}"), answer, wanted);
+                        for ceiling in FAR_CEILINGS {
+                            let question = Measuring {
+                                n,
+                                row,
+                                column,
+                                dy,
+                                dx,
+                                measure,
+                                ceiling,
+                            };
+                            let answer = archive::measure(&pair, &question);
+                            let wanted = rival::measure(&pair, &question);
+                            others.same(format_args!("{pair}, {question}"), answer, wanted);
+                        }
                     }
                 }
                 for side in [0, 1, 2] {

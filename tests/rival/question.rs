@@ -10,6 +10,10 @@ pub const MEASURES: [(u32, &str); 2] = [(1, "absolute"), (2, "squares")];
 /// Numbers that are none, some of which a careless narrowing would turn into one.
 pub const NO_MEASURES: [u32; 10] = [0, 3, 4, 255, 256, 257, 258, 65_537, 1 << 31, u32::MAX];
 
+/// Ceilings of measuring, "any unsigned 32-bit number": the ends of their range, and one that a careless change of sign would turn
+/// into a negative number.
+pub const FAR_CEILINGS: [u32; 4] = [0, 1, 1 << 31, u32::MAX];
+
 /// "Block size N is 4, 8 or 16", and "N may be 32".
 pub const SIZES: [usize; 4] = [4, 8, 16, 32];
 
@@ -80,6 +84,7 @@ pub struct Measuring {
     pub dy: i32,
     pub dx: i32,
     pub measure: u32,
+    pub ceiling: u32,
 }
 
 /// What a row view is asked, the pair apart.
@@ -200,11 +205,14 @@ pub struct Walked {
     pub next: Cursor,
 }
 
-/// "The measuring call [...] answers with the distortion."
+/// "Up to [the ceiling], the distortion comes back; beyond it, only 'over'. [...] With either comes the number of rows measured".
+/// Over is 0 or 1, and with it the distortion is 0.
 #[derive(Clone, Copy, PartialEq, Eq, Debug, Default)]
 pub struct Measured {
     pub refusal: i64,
     pub distortion: i64,
+    pub over: i64,
+    pub rows: i64,
 }
 
 /// "The call hands back N pels as the very part of that frame": where the part begins and how long it is.
@@ -262,8 +270,8 @@ impl fmt::Display for Measuring {
     fn fmt(&self, out: &mut fmt::Formatter) -> fmt::Result {
         write!(
             out,
-            "measuring: N {}, row {}, column {}, vector ({},{}), measure {}",
-            self.n, self.row, self.column, self.dy, self.dx, self.measure
+            "measuring: N {}, row {}, column {}, vector ({},{}), measure {}, ceiling {}",
+            self.n, self.row, self.column, self.dy, self.dx, self.measure, self.ceiling
         )
     }
 }

@@ -72,14 +72,33 @@ impl<'a> Block<'a> {
     }
 
     /// "Distortion is the sum of absolute pel differences"; by squares "the sum of squared differences".
-    pub fn distortion(&self, (dy, dx): Vector) -> i64 {
+    pub fn distortion(&self, v: Vector) -> i64 {
+        self.sum_of_rows(self.n, v)
+    }
+
+    /// The same of the block's first rows alone, so many of them: "the sum" at the end of a row.
+    pub fn sum_of_rows(&self, rows: i64, (dy, dx): Vector) -> i64 {
         let mut sum = 0;
-        for r in self.y..self.y + self.n {
+        for r in self.y..self.y + rows {
             for c in self.x..self.x + self.n {
                 sum += self.apart(self.newer_pel(r, c), self.older_pel(r + dy, c + dx));
             }
         }
         sum
+    }
+
+    /// "Up to [the ceiling], the distortion comes back; beyond it, only 'over'. [...] With either comes the number of rows measured: the
+    /// first at whose end the sum passes the ceiling, else N."
+    fn measured(&self, v: Vector, ceiling: i64) -> Measured {
+        let distortion = self.distortion(v);
+        let is_over = distortion > ceiling;
+        let passes = |rows: &i64| self.sum_of_rows(*rows, v) > ceiling;
+        Measured {
+            refusal: 0,
+            distortion: if is_over { 0 } else { distortion },
+            over: i64::from(is_over),
+            rows: (1..=self.n).find(passes).unwrap_or(self.n),
+        }
     }
 
     /// "Cut a block into m × m squares; its distance at m is the sum over squares of the absolute difference of pel sums"; by squares
@@ -476,7 +495,7 @@ pub fn search_block(pair: &Pair, request: &Request) -> Answer {
     }
 }
 
-/// The measuring call: refusals 1 2 3 51 7 8, "8 measuring one vector: not a candidate of window 16".
+/// The measuring call: refusals 1 2 3 51 7 8, "8 measuring one vector: not a candidate of window 16". No ceiling is refused.
 pub fn measure(pair: &Pair, question: &Measuring) -> Measured {
     let (n, row, column) = (question.n, question.row, question.column);
     let mut refusal = refused_pair(pair, n);
@@ -490,16 +509,13 @@ pub fn measure(pair: &Pair, question: &Measuring) -> Measured {
     if refusal == 0 {
         let block = Block::new(pair, n, row, column, question.measure);
         if block.is_candidate(16, vector) {
-            return Measured {
-                refusal: 0,
-                distortion: block.distortion(vector),
-            };
+            return block.measured(vector, question.ceiling as i64);
         }
         refusal = 8;
     }
     Measured {
         refusal,
-        distortion: 0,
+        ..Measured::default()
     }
 }
 

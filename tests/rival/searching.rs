@@ -4,7 +4,7 @@
 use crate::archive;
 use crate::group::Group;
 use crate::pictures::{made_up, rough_pair, Chance, Kind, KINDS};
-use crate::question::{Answer, Pair, Request, AT_1, MEASURES, SIZES};
+use crate::question::{Answer, Measured, Measuring, Pair, Request, AT_1, MEASURES, SIZES};
 use crate::rival::{self, largest_threshold, Block};
 
 /// A made-up pair, the seed that it came from and the block size asked for.
@@ -91,6 +91,8 @@ struct Relations {
     measure: u32,
     /// The measure's name.
     by: &'static str,
+    /// What full finds, measured with its distortion as ceiling, and with one less: over.
+    full: Group,
     /// Pruned finds what full finds; dropped and finally measured are the candidates.
     pruned: Group,
     /// Four-step is never lower than the exhaustive best of window 7 and measures at most 27.
@@ -117,6 +119,7 @@ impl Relations {
         Relations {
             measure,
             by,
+            full: group("full, measured up to its distortion"),
             pruned: group("pruned against full"),
             four_step: group("four-step against full"),
             unclipped: group("four-step, counts of blocks with the window inside"),
@@ -128,6 +131,35 @@ impl Relations {
     /// A group of searches by the measure.
     fn group(&self, what: &str) -> Group {
         Group::new(format!("{}, {what}", self.by))
+    }
+
+    fn of_full(&mut self, case: &Case, request: &Request, full: &Answer) {
+        let question = |ceiling: i64| Measuring {
+            n: request.n,
+            row: request.row,
+            column: request.column,
+            dy: full.dy as i32,
+            dx: full.dx as i32,
+            measure: request.measure,
+            ceiling: ceiling as u32,
+        };
+        let measured = archive::measure(&case.pair, &question(full.distortion));
+        let wanted = Measured {
+            refusal: 0,
+            distortion: full.distortion,
+            over: 0,
+            rows: request.n as i64,
+        };
+        self.full.same(case.inputs(request), measured, wanted);
+        if full.distortion > 0 {
+            let less = question(full.distortion - 1);
+            let measured = archive::measure(&case.pair, &less);
+            let wanted = Measured {
+                over: 1,
+                ..rival::measure(&case.pair, &less)
+            };
+            self.full.same(case.inputs(request), measured, wanted);
+        }
     }
 
     fn of_pruned(&mut self, case: &Case, request: &Request, pruned: &Answer, full: &Answer) {
@@ -175,7 +207,11 @@ impl Relations {
         let inputs = "blocks that met each of the six counts";
         self.unclipped
             .holds(inputs, met.iter().all(|&times| times > 0), &met, &"each");
-        self.pruned.end() + self.four_step.end() + self.unclipped.end() + self.cross.end()
+        self.full.end()
+            + self.pruned.end()
+            + self.four_step.end()
+            + self.unclipped.end()
+            + self.cross.end()
     }
 }
 
@@ -203,6 +239,7 @@ fn full_and_pruned(kind: Kind, name: &str, relations: &mut Relations) -> u64 {
                     };
                     let full = case.ask(&mut full_group, request(1));
                     let pruned = case.ask(&mut pruned_group, request(2));
+                    relations.of_full(&case, &request(1), &full);
                     relations.of_pruned(&case, &request(2), &pruned, &full);
                 }
             }

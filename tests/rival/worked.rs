@@ -7,7 +7,7 @@ use crate::group::Group;
 use crate::logs;
 use crate::question::{
     Answer, Counts, FieldAnswer, FieldRequest, Head, Lent, LogRead, Measured, Measuring, Pair,
-    Request, Track, Written,
+    Request, Track, Written, FAR_CEILINGS,
 };
 use crate::reckoning;
 use crate::rival;
@@ -20,16 +20,37 @@ fn searched(group: &mut Group, what: &str, pair: &Pair, request: Request, wanted
     group.same(&inputs, rival::search_block(pair, &request), wanted);
 }
 
-/// Likewise for the measuring call.
+/// Likewise for the measuring call: the distortion by the question's ceiling and by one of just the distortion. In these blocks all rows have
+/// the same sum, so that a ceiling of 3 rows' sum is passed at the end of the 4th, and one less at the end of the 3rd.
 fn measured(group: &mut Group, what: &str, pair: &Pair, question: Measuring, distortion: i64) {
-    let wanted = Measured {
-        refusal: 0,
-        distortion,
-    };
-    let inputs = format!("pair {what}: {pair}, {question}");
-    group.same(&inputs, archive::measure(pair, &question), wanted);
-    let inputs = format!("the rival's own answer to pair {what}: {pair}, {question}");
-    group.same(&inputs, rival::measure(pair, &question), wanted);
+    let n = question.n as i64;
+    let of_a_row = distortion / n;
+    let mut ceilings = vec![
+        (question.ceiling as i64, distortion, 0, n),
+        (distortion, distortion, 0, n),
+    ];
+    if distortion > 0 {
+        for row in 1..=n {
+            ceilings.push((of_a_row * (row - 1), 0, 1, row));
+            ceilings.push((of_a_row * row - 1, 0, 1, row));
+        }
+    }
+    for (ceiling, distortion, over, rows) in ceilings {
+        let question = Measuring {
+            ceiling: ceiling as u32,
+            ..question
+        };
+        let wanted = Measured {
+            refusal: 0,
+            distortion,
+            over,
+            rows,
+        };
+        let inputs = format!("pair {what}: {pair}, {question}");
+        group.same(&inputs, archive::measure(pair, &question), wanted);
+        let inputs = format!("the rival's own answer to pair {what}: {pair}, {question}");
+        group.same(&inputs, rival::measure(pair, &question), wanted);
+    }
 }
 
 /// The rival's own distances of a vector at 4, 2 and 1, N 4.
@@ -81,7 +102,7 @@ pub fn flat(width: usize, height: usize, older: u8, newer: u8) -> Pair {
     }
 }
 
-/// (0,0) by absolute, of the block at (0,0).
+/// (0,0) by absolute, of the block at (0,0), with the largest ceiling.
 fn at_zero(n: usize) -> Measuring {
     Measuring {
         n,
@@ -90,6 +111,7 @@ fn at_zero(n: usize) -> Measuring {
         dy: 0,
         dx: 0,
         measure: 1,
+        ceiling: u32::MAX,
     }
 }
 
@@ -126,15 +148,18 @@ fn pair_b(group: &mut Group) {
     };
     measured(group, "B", &pair, right, 0);
     measured(group, "B", &pair, at_zero(4), 160);
-    let left = Measuring {
-        dx: -1,
-        ..at_zero(4)
-    };
-    let refused = Measured {
-        refusal: 8,
-        distortion: 0,
-    };
-    group.same("B at (0,-1)", archive::measure(&pair, &left), refused);
+    for ceiling in FAR_CEILINGS {
+        let left = Measuring {
+            dx: -1,
+            ceiling,
+            ..at_zero(4)
+        };
+        let refused = Measured {
+            refusal: 8,
+            ..Measured::default()
+        };
+        group.same("B at (0,-1)", archive::measure(&pair, &left), refused);
+    }
 }
 
 /// "C* 8×8, all 7, N 4, w 1: four still blocks, full 4 each; pruned sums 0,0,16,16,16".

@@ -8,10 +8,11 @@ ghost use Rattle.base.specs.Lists.{listTo};
 ghost use Rattle.base.specs.Picks.{pick};
 ghost use Rattle.order.specs.Preference.{preference, flat};
 ghost use Rattle.order.specs.Vectors.{vectorCount};
-ghost use Rattle.distortion.specs.Blocks.{UpTo};
+ghost use Rattle.distortion.specs.Blocks.{capped, UpTo};
 ghost use Rattle.search.specs.Target.{Ready};
 ghost use Rattle.candidates.specs.Gathered.{candidateAt, hasMargin, isInterior, Front, ListedCandidates};
-ghost use Rattle.candidates.specs.Chosen.{beginsAt, Stands, distortionOf, distortionUpTo, improved, Choice};
+ghost use Rattle.candidates.specs.Chosen.{beginsAt, Stands, distortionOf, improved, Choice};
+use distortion::Capped;
 use frame::SearchBlock;
 
 // A candidate's place in the preference table, and its distortion.
@@ -126,7 +127,7 @@ pub fn begins_at(order: &[i32; order::NUMBERS], b: SearchBlock, k: usize) -> usi
 }
 
 // The distortion of the candidate at place k of the preference table, as far as the ceiling goes.
-pub fn distortion_of(
+fn sum_of(
     older: &[u8],
     newer: &[u8],
     order: &[i32; order::NUMBERS],
@@ -136,8 +137,7 @@ pub fn distortion_of(
 ) -> u32
     requires { ⌜ Ready (now older) (now newer) b × (now order ≡ flat preference) ⌝ }
     requires { ⌜ (k < vectorCount) × T (candidateAt b k) ⌝ }
-    ensures { λ d. ⌜ UpTo ceiling (distortionOf (now (older .entry)) (now (newer .entry)) b k) d × (d < 4294967295)
-        × (d ≡ distortionUpTo (now (older .entry)) (now (newer .entry)) b k ceiling) ⌝ }
+    ensures { λ d. ⌜ UpTo ceiling (distortionOf (now (older .entry)) (now (newer .entry)) b k) d ⌝ }
 {
     let s = b.setting;
     let width = s.width;
@@ -145,6 +145,37 @@ pub fn distortion_of(
     let there = begins_at(order, b, k);
     let kernel = distortion::kernel(s.measure, s.n);
     distortion::distortion_from(older, newer, width, kernel, here, there, ceiling)
+}
+
+// The same under the ceiling.
+pub fn distortion_up_to(
+    older: &[u8],
+    newer: &[u8],
+    order: &[i32; order::NUMBERS],
+    b: SearchBlock,
+    k: usize,
+    ceiling: u32,
+) -> Capped
+    requires { ⌜ Ready (now older) (now newer) b × (now order ≡ flat preference) ⌝ }
+    requires { ⌜ (k < vectorCount) × T (candidateAt b k) ⌝ }
+    ensures { λ d. ⌜ d ≡ capped ceiling (distortionOf (now (older .entry)) (now (newer .entry)) b k) ⌝ }
+{
+    distortion::cap(sum_of(older, newer, order, b, k, ceiling), ceiling)
+}
+
+// The same to its last row, with a ceiling that no distortion passes.
+pub fn distortion_of(
+    older: &[u8],
+    newer: &[u8],
+    order: &[i32; order::NUMBERS],
+    b: SearchBlock,
+    k: usize,
+) -> u32
+    requires { ⌜ Ready (now older) (now newer) b × (now order ≡ flat preference) ⌝ }
+    requires { ⌜ (k < vectorCount) × T (candidateAt b k) ⌝ }
+    ensures { λ d. ⌜ d ≡ distortionOf (now (older .entry)) (now (newer .entry)) b k ⌝ }
+{
+    sum_of(older, newer, order, b, k, 4294967295)
 }
 
 // The first listed candidate.
@@ -161,21 +192,40 @@ pub fn first_chosen(
     ensures { λ r. ⌜ Choice (distortionOf (now (older .entry)) (now (newer .entry)) b) (now (remaining .entry)) 1 r ⌝ }
 {
     let place = signed::wide_u16(remaining[0]);
-    let distortion = distortion_of(older, newer, order, b, place, 4294967295);
+    let distortion = distortion_of(older, newer, order, b, place);
     Chosen { place, distortion }
 }
 
-// The better of the best so far and a later candidate; equals go to the earlier.
-pub fn improved(best: Chosen, place: usize, distortion: u32) -> Chosen
-    ensures { λ r. ⌜ r ≡ improved best place distortion ⌝ }
+// A later candidate, measured with the least so far as ceiling.
+fn against(
+    older: &[u8],
+    newer: &[u8],
+    order: &[i32; order::NUMBERS],
+    b: SearchBlock,
+    best: Chosen,
+    k: usize,
+) -> Capped
+    requires { ⌜ Ready (now older) (now newer) b × (now order ≡ flat preference) ⌝ }
+    requires { ⌜ (k < vectorCount) × T (candidateAt b k) ⌝ }
+    ensures { λ d. ⌜ d ≡ capped (best .distortion) (distortionOf (now (older .entry)) (now (newer .entry)) b k) ⌝ }
 {
+    distortion_up_to(older, newer, order, b, k, best.distortion)
+}
+
+// The better of the best so far and a later candidate; equals go to the earlier.
+pub fn improved(best: Chosen, place: usize, measured: Capped) -> Chosen
+    ensures { λ r. ⌜ r ≡ improved best place measured ⌝ }
+{
+    let Capped::Within(distortion) = measured else {
+        return best;
+    };
     if distortion < best.distortion {
         return Chosen { place, distortion };
     }
     best
 }
 
-// Of the listed candidates, the first of least distortion.
+// Of the listed candidates, the first of least distortion. None is less than 0, so a least of 0 ends it.
 pub fn choose(
     older: &[u8],
     newer: &[u8],
@@ -191,8 +241,11 @@ pub fn choose(
     let mut best = first_chosen(older, newer, order, b, remaining, count);
     let mut i: usize = 1;
     while i < count {
+        if best.distortion == 0 {
+            return best;
+        }
         let k = signed::wide_u16(remaining[i]);
-        let d = distortion_of(older, newer, order, b, k, best.distortion);
+        let d = against(older, newer, order, b, best, k);
         best = improved(best, k, d);
         i += 1;
     }

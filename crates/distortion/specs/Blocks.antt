@@ -7,11 +7,13 @@
 --   measureIn     the measure of a pair
 --   distortion    of a pair: the newer block at (y, x) against the older block at (y + dy, x + dx)
 --   rowFrom       a row's share of it, rowsFrom: of several rows, rowsApart: of rows that begin otherwise far apart in the two frames
+--   partialBy     their partial distortion: the sum at the end of row m, rows counted from 1
+--   capped        a distortion under a ceiling. 02, request 5: "up to it, the distortion comes back; beyond it, only 'over'"
 --   rowsUpTo      a distortion as far as a ceiling goes: sumUpTo of its rows, four at a time
 --   UpTo          what such a sum tells of the whole; BlockSum: of a block, that sum and what it tells
 --   kernelOf      which code measures a block, one number for N and the measure; sizeBy and measureBy: back
 use Prim.Native.Nat.{ℕ, zero, suc, _+_, _*_, _/_, _%_, _≤_, _<_}
-use mathlib.Core.Path.{_≡_, refl, ap₂}
+use mathlib.Core.Path.{_≡_, refl, sym, ap, ap₂, _∙_}
 use mathlib.Core.Bool.{Bool, true, false, cond}
 use mathlib.Core.List.{List}
 use native.Mathlib.Nat.{add-zero, add-suc, add-mul, mul-le-mul, mul-le-mul-right}
@@ -29,6 +31,8 @@ use Rattle.frame.specs.declared.Setting.{Setting}
 use Rattle.frame.specs.Pictures.{Pair, pel, largestN}
 use Rattle.frame.specs.Candidates.{olderRow, olderColumn}
 use Rattle.refusals.specs.Refusals.{blockSizeOk, block-size, Placed}
+use Rattle.distortion.specs.declared.Capped.{Capped}
+use Rattle.distortion.specs.declared.Capped.the-variants.{Within, Over}
 
 abbrev pub Block : Type 0
 Block = ℕ → ℕ → ℕ
@@ -38,6 +42,12 @@ blockAt frame width y x i j = pel frame width (y + i) (x + j)
 
 unfoldable pub distortionBy : Measure → ℕ → Block → Block → ℕ
 distortionBy μ n a b = sumOver n n (λ i j. μ .diff (a i j) (b i j))
+
+unfoldable pub partialBy : Measure → ℕ → Block → Block → ℕ → ℕ
+partialBy μ n a b m = sumOver m n (λ i j. μ .diff (a i j) (b i j))
+
+unfoldable pub capped : ℕ → ℕ → Capped
+capped ceiling d = cond (leb d ceiling) (Within d) Over
 
 abbrev pub newerBlock : Pair → ℕ → ℕ → Block
 newerBlock p y x = blockAt (p .newer) (p .setting .width) y x
@@ -63,12 +73,12 @@ rowsApart μ older newer across width a b n m = sumTo (λ i. rowFrom μ older ne
 abbrev pub rowsFrom : Measure → List ℕ → List ℕ → ℕ → ℕ → ℕ → ℕ → ℕ → ℕ
 rowsFrom μ older newer width a b n m = rowsApart μ older newer width width a b n m
 
--- f 0 + f 1 + .. + f (n - 1), but nothing is added once the sum has reached the ceiling
+-- f 0 + f 1 + .. + f (n - 1), but nothing is added once the sum has passed the ceiling
 unfoldable pub sumUpTo : ℕ → (ℕ → ℕ) → ℕ → ℕ
 sumUpTo ceiling f zero = 0
 sumUpTo ceiling f (suc n) =
     let s = sumUpTo ceiling f n in
-    cond (leb ceiling s) s (s + f n)
+    cond (leb s ceiling) (s + f n) s
 
 -- pieces of four rows of n pels, piece g beginning at place `at g` of both blocks, as far as the ceiling goes
 abbrev pub piecesUpTo : Measure → ℕ → List ℕ → List ℕ → ℕ → ℕ → ℕ → ℕ → (ℕ → ℕ) → ℕ → ℕ
@@ -104,15 +114,20 @@ pub running-place : (width y x i j : ℕ) → y * width + x + (i * width + j) �
 running-place width y x i j = omega (arith, add-mul y i width)
 
 -- a block's distortion, row by row
-pub block-rows : (μ : Measure) (older newer : List ℕ) (width y x r c n : ℕ)
-    → distortionBy μ n (blockAt newer width y x) (blockAt older width r c) ≡ rowsFrom μ older newer width (y * width + x) (r * width + c) n n
-unfolding distortionBy rowFrom
-block-rows μ older newer width y x r c n =
-    sumOver-ext n n _ _
-    (λ i j hi hj. ap₂ (λ (k l : ℕ). μ .diff (getD newer k 0) (getD older l 0)) (place y x i j) (place r c i j))
-  where
-    place : (y x i j : ℕ) → (y + i) * width + (x + j) ≡ y * width + x + i * width + j
-    place y x i j = omega (arith, running-place width y x i j)
+module _ (μ : Measure) (older newer : List ℕ) (width y x r c n : ℕ) where
+  pub partial-rows : (m : ℕ)
+      → partialBy μ n (blockAt newer width y x) (blockAt older width r c) m ≡ rowsFrom μ older newer width (y * width + x) (r * width + c) n m
+  unfolding partialBy rowFrom
+  partial-rows m =
+      sumOver-ext m n _ _
+      (λ i j hi hj. ap₂ (λ (k l : ℕ). μ .diff (getD newer k 0) (getD older l 0)) (place y x i j) (place r c i j))
+    where
+      place : (y x i j : ℕ) → (y + i) * width + (x + j) ≡ y * width + x + i * width + j
+      place y x i j = omega (arith, running-place width y x i j)
+
+  pub block-rows : distortionBy μ n (blockAt newer width y x) (blockAt older width r c) ≡ rowsFrom μ older newer width (y * width + x) (r * width + c) n n
+  unfolding distortionBy partialBy
+  block-rows = partial-rows n
 
 -- 4 × groups rows of n pels lie inside two frames of so many columns
 pub record Rows (older newer : List ℕ) (width n groups : ℕ) : Type 0 where
@@ -129,10 +144,10 @@ pub record BlockRows (older newer : List ℕ) (width n a b : ℕ) : Type 0 where
   pub wide : width ≤ 1024
   pub allowed : T (blockSizeOk n)
 
--- d is the sum `all` as far as a ceiling goes: below the ceiling it is that sum, and else the sum is not below it either
+-- d is the sum `all` as far as a ceiling goes: up to the ceiling it is that sum, and where it passes the ceiling so does the sum
 pub record UpTo (ceiling all d : ℕ) : Type 0 where
-  pub below : d < ceiling → d ≡ all
-  pub beyond : ceiling ≤ d → ceiling ≤ all
+  pub within : d ≤ ceiling → d ≡ all
+  pub over : ceiling < d → ceiling < all
 
 -- d is the distortion by a measure of the blocks that begin at places a and b as far as the ceiling goes: its rows four at a time, of N 32 by halves
 pub record BlockSum (measure ceiling : ℕ) (older newer : List ℕ) (width n a b d : ℕ) : Type 0 where
@@ -180,29 +195,63 @@ module _ (ceiling : ℕ) (f : ℕ → ℕ) where
   unfolding sumUpTo
   sumUpTo-none = refl
 
-  pub sumUpTo-more : (n : ℕ) → sumUpTo ceiling f n < ceiling → sumUpTo ceiling f (n + 1) ≡ sumUpTo ceiling f n + f n
+  pub sumUpTo-more : (n : ℕ) → sumUpTo ceiling f n ≤ ceiling → sumUpTo ceiling f (n + 1) ≡ sumUpTo ceiling f n + f n
   unfolding sumUpTo
-  sumUpTo-more n h = rw (add-one, lt-leb ceiling (sumUpTo ceiling f n) h)
+  sumUpTo-more n h = rw (add-one, le-leb (sumUpTo ceiling f n) ceiling h)
 
-  pub sumUpTo-reached : (n m : ℕ) → ceiling ≤ sumUpTo ceiling f n → sumUpTo ceiling f (n + m) ≡ sumUpTo ceiling f n
+  pub sumUpTo-passed : (n m : ℕ) → ceiling < sumUpTo ceiling f n → sumUpTo ceiling f (n + m) ≡ sumUpTo ceiling f n
   unfolding sumUpTo
-  sumUpTo-reached n zero h = rw add-zero
-  sumUpTo-reached n (suc m) h = rw (add-suc, sumUpTo-reached n m h, le-leb ceiling (sumUpTo ceiling f n) h)
+  sumUpTo-passed n zero h = rw add-zero
+  sumUpTo-passed n (suc m) h = rw (add-suc, sumUpTo-passed n m h, lt-leb (sumUpTo ceiling f n) ceiling h)
 
   pub sumUpTo-is : (n : ℕ) → UpTo ceiling (sumTo f n) (sumUpTo ceiling f n)
   unfolding sumUpTo sumTo
-  sumUpTo-is zero = record { below = λ h. refl; beyond = λ h. h }
-  sumUpTo-is (suc n) = one (sumUpTo ceiling f n) (leb ceiling (sumUpTo ceiling f n)) refl (sumUpTo-is n)
+  sumUpTo-is zero = record { within = λ h. refl; over = λ h. h }
+  sumUpTo-is (suc n) = one (sumUpTo ceiling f n) (leb (sumUpTo ceiling f n) ceiling) refl (sumUpTo-is n)
     where
-      one : (s : ℕ) (t : Bool) → leb ceiling s ≡ t → UpTo ceiling (sumTo f n) s → UpTo ceiling (sumTo f n + f n) (cond t s (s + f n))
-      one s true e u = let h = leb-true ceiling s e in record { below = λ l. absurd (omega arith); beyond = λ l. omega (arith, u .beyond h) }
-      one s false e u = let q = u .below (leb-false ceiling s e) in record { below = λ l. omega arith; beyond = λ l. omega arith }
+      one : (s : ℕ) (t : Bool) → leb s ceiling ≡ t → UpTo ceiling (sumTo f n) s → UpTo ceiling (sumTo f n + f n) (cond t (s + f n) s)
+      one s true e u = let q = u .within (leb-true s ceiling e) in record { within = λ l. omega arith; over = λ l. omega arith }
+      one s false e u = let h = leb-false s ceiling e in record { within = λ l. absurd (omega arith); over = λ l. omega (arith, u .over h) }
 
 -- terms that agree
 pub sumUpTo-ext : (ceiling : ℕ) (f g : ℕ → ℕ) (n : ℕ) → ((i : ℕ) → f i ≡ g i) → sumUpTo ceiling f n ≡ sumUpTo ceiling g n
 unfolding sumUpTo
 sumUpTo-ext ceiling f g zero h = refl
 sumUpTo-ext ceiling f g (suc n) h = rw (sumUpTo-ext ceiling f g n h, h n)
+
+-- what an answer under a ceiling says
+module _ (ceiling d : ℕ) where
+  pub capped-within : d ≤ ceiling → capped ceiling d ≡ Within d
+  unfolding capped
+  capped-within h = rw (le-leb d ceiling h)
+
+  pub capped-over : ceiling < d → capped ceiling d ≡ Over
+  unfolding capped
+  capped-over h = rw (lt-leb d ceiling h)
+
+  pub within-says : (e : ℕ) → capped ceiling d ≡ Within e → (d ≤ ceiling) × (e ≡ d)
+  unfolding capped
+  within-says e = go (leb d ceiling) refl
+    where
+      go : (t : Bool) → leb d ceiling ≡ t → cond t (Within d) Over ≡ Within e → (d ≤ ceiling) × (e ≡ d)
+      go true q h = (leb-true d ceiling q, (let z : e ≡ d = cc in z))
+      go false q h = let z : _≡_ {A = ℕ} 0 1 = cc in absurd (omega arith)
+
+  pub over-says : capped ceiling d ≡ Over → ceiling < d
+  unfolding capped
+  over-says = go (leb d ceiling) refl
+    where
+      go : (t : Bool) → leb d ceiling ≡ t → cond t (Within d) Over ≡ Over → ceiling < d
+      go true q h = let z : _≡_ {A = ℕ} 0 1 = cc in absurd (omega arith)
+      go false q h = leb-false d ceiling q
+
+-- a sum as far as the ceiling goes tells as much as the whole
+pub capped-sum : {ceiling all d : ℕ} → UpTo ceiling all d → capped ceiling d ≡ capped ceiling all
+capped-sum {ceiling} {all} {d} u = go (leb d ceiling) refl
+  where
+    go : (t : Bool) → leb d ceiling ≡ t → capped ceiling d ≡ capped ceiling all
+    go true q = ap (capped ceiling) (u .within (leb-true d ceiling q))
+    go false q = let h = leb-false d ceiling q in capped-over ceiling d h ∙ sym (capped-over ceiling all (u .over h))
 
 -- two blocks that stand wholly inside frames of an allowed setting: the newer one at (y, x), the older one at (r, c)
 pub record Comparable (older newer : List ℕ) (s : Setting) (y x r c : ℕ) : Type 0 where

@@ -1,11 +1,17 @@
-// Distortion: the sum of the pel differences of two blocks, by a measure.
+// Distortion: the sum of the pel differences of two blocks, by a measure and under a ceiling.
 
 ghost use mathlib.Core.Path.{_≡_};
 ghost use Prim.Native.Nat.{_+_, _*_, _≤_, _<_};
 ghost use lib.ListN.{length};
 ghost use Rattle.measures.specs.Measures.{measureOf};
-ghost use Rattle.distortion.specs.Blocks.{blockAt, distortionBy, rowsApart, rowsUpTo, halvesUpTo, Rows, BlockRows, BlockSum, kernelOf, sizeBy, measureBy, Comparable};
+ghost use Rattle.distortion.specs.Blocks.{blockAt, distortionBy, capped, rowsApart, rowsUpTo, halvesUpTo, Rows, BlockRows, UpTo, BlockSum, kernelOf, sizeBy, measureBy, Comparable};
 use frame::Setting;
+
+// The distortion of two blocks where it is at most the ceiling, else only that it is over.
+pub enum Capped {
+    Within(u32),
+    Over,
+}
 
 // Four rows of n pels, the first at places a and b: the newer ones begin `across` pels apart, the older ones `width` pels. p and q are the places of
 // the pel at row i and column j.
@@ -60,7 +66,7 @@ fn rows_by_four(
     let mut p: usize = 0;
     let mut g = 0;
     while g < groups {
-        if ceiling <= sum {
+        if ceiling < sum {
             return sum;
         }
         sum += four_rows(older, newer, measure, width, width, p, p, n);
@@ -83,7 +89,7 @@ fn rows_by_halves(older: &[u8], newer: &[u8], measure: u32, width: usize, ceilin
     let mut q: usize = 16;
     let mut g: usize = 0;
     while g < 16 {
-        if ceiling <= total {
+        if ceiling < total {
             return total;
         }
         total += four_rows(older, newer, measure, width, width, p, p, 16);
@@ -148,7 +154,54 @@ pub fn distortion_from(
     rows_by_halves(there, here, measures::SQUARES, width, ceiling)
 }
 
-// The distortion of the newer block at row y, column x against the older block at row r, column c.
+// What a sum as far as a ceiling goes tells of the distortion.
+pub fn cap(sum: u32, ceiling: u32) -> Capped
+    ensures { λ r. ⌜ r ≡ capped ceiling sum ⌝ }
+{
+    if sum > ceiling {
+        return Capped::Over;
+    }
+    Capped::Within(sum)
+}
+
+// The distortion of the newer block at row y, column x against the older block at row r, column c, as far as the ceiling goes.
+fn block_sum(
+    older: &[u8],
+    newer: &[u8],
+    s: Setting,
+    y: usize,
+    x: usize,
+    r: usize,
+    c: usize,
+    ceiling: u32,
+) -> u32
+    requires { ⌜ Comparable (now older) (now newer) s y x r c ⌝ }
+    ensures { λ d. ⌜ UpTo ceiling (distortionBy (measureOf (s .measure)) (s .n) (blockAt (now (newer .entry)) (s .width) y x) (blockAt (now (older .entry)) (s .width) r c)) d ⌝ }
+{
+    let width = s.width;
+    let a = y * width + x;
+    let b = r * width + c;
+    distortion_from(older, newer, width, kernel(s.measure, s.n), a, b, ceiling)
+}
+
+// The same under the ceiling.
+pub fn block_up_to(
+    older: &[u8],
+    newer: &[u8],
+    s: Setting,
+    y: usize,
+    x: usize,
+    r: usize,
+    c: usize,
+    ceiling: u32,
+) -> Capped
+    requires { ⌜ Comparable (now older) (now newer) s y x r c ⌝ }
+    ensures { λ d. ⌜ d ≡ capped ceiling (distortionBy (measureOf (s .measure)) (s .n) (blockAt (now (newer .entry)) (s .width) y x) (blockAt (now (older .entry)) (s .width) r c)) ⌝ }
+{
+    cap(block_sum(older, newer, s, y, x, r, c, ceiling), ceiling)
+}
+
+// The same to its last row, with a ceiling that no distortion passes.
 pub fn block_distortion(
     older: &[u8],
     newer: &[u8],
@@ -159,19 +212,7 @@ pub fn block_distortion(
     c: usize,
 ) -> u32
     requires { ⌜ Comparable (now older) (now newer) s y x r c ⌝ }
-    ensures { λ d. ⌜ (d ≡ distortionBy (measureOf (s .measure)) (s .n) (blockAt (now (newer .entry)) (s .width) y x) (blockAt (now (older .entry)) (s .width) r c))
-        × (d ≤ s .n * (s .n * measureOf (s .measure) .most)) ⌝ }
+    ensures { λ d. ⌜ d ≡ distortionBy (measureOf (s .measure)) (s .n) (blockAt (now (newer .entry)) (s .width) y x) (blockAt (now (older .entry)) (s .width) r c) ⌝ }
 {
-    let width = s.width;
-    let a = y * width + x;
-    let b = r * width + c;
-    distortion_from(
-        older,
-        newer,
-        width,
-        kernel(s.measure, s.n),
-        a,
-        b,
-        4294967295,
-    )
+    block_sum(older, newer, s, y, x, r, c, 4294967295)
 }

@@ -7,8 +7,8 @@ use lib.Dec.{T}
 use lib.ListN.{length}
 use Rattle.base.specs.Index.{frame-small}
 use Rattle.measures.specs.Measures.{measureOf}
-use Rattle.distortion.specs.Blocks.{rowsFrom, rowsApart, begins, block-inside}
-use Rattle.block_copy.specs.Copy.{copy-rows}
+use Rattle.distortion.specs.Blocks.{rowsFrom, begins, block-inside}
+use Rattle.block_copy.specs.Copy.{copyRows, copy-rows}
 use Rattle.frame.specs.declared.SearchBlock.{SearchBlock}
 use Rattle.search.specs.Target.{Ready}
 use Rattle.candidates.specs.Gathered.{candidateAt}
@@ -17,8 +17,7 @@ use Rattle.candidates.proofs.Older.{comparable, by-rows}
 use Rattle.full.specs.Full.{CopyOf}
 
 module _ (older newer : List ℕ) (b : SearchBlock) (k : ℕ) where
-  pub by-copy : (block : List ℕ) → CopyOf newer b block
-      → rowsApart (measureOf 1) older block 16 (b .setting .width) 0 (beginsAt b k) 16 16 ≡ distortionOf older newer b k
+  pub by-copy : (block : List ℕ) → CopyOf newer b block → copyRows older block (b .setting .width) (beginsAt b k) 16 ≡ distortionOf older newer b k
   by-copy block c =
       let width = b .setting .width in
       let here = b .y * width + b .x in

@@ -9,27 +9,31 @@ ghost use Rattle.frame.specs.Pictures.{pairOf};
 ghost use Rattle.search.specs.Target.{Ready};
 ghost use Rattle.candidates.specs.Gathered.{candidateAt, ListedCandidates};
 ghost use Rattle.candidates.specs.Chosen.{distortionOf, Choice};
+ghost use Rattle.distortion.specs.Blocks.{capped};
 ghost use Rattle.full.specs.Full.{CopyOf, fullSearch};
 use candidates::Chosen;
+use distortion::Capped;
 use frame::SearchBlock;
 use search::SearchResult;
 
-// The distortion by absolute differences of a candidate of a block of N 16, from a copy of the block; the newer frame stands for the contract alone.
-fn copied_distortion_of(
+// A later candidate of a block of N 16, measured by absolute differences from a copy of the block, with the least so far as ceiling; the newer frame
+// stands for the contract alone.
+fn copied_against(
     older: &[u8],
     newer: &[u8],
     order: &[i32; order::NUMBERS],
     b: SearchBlock,
+    best: Chosen,
     k: usize,
     block: &[u8; 256],
-) -> u32
+) -> Capped
     requires { ⌜ Ready (now older) (now newer) b × (now order ≡ flat preference) ⌝ }
     requires { ⌜ (k < vectorCount) × T (candidateAt b k) × CopyOf (now newer) b (now block) ⌝ }
-    ensures { λ d. ⌜ d ≡ distortionOf (now (older .entry)) (now (newer .entry)) b k ⌝ }
+    ensures { λ d. ⌜ d ≡ capped (best .distortion) (distortionOf (now (older .entry)) (now (newer .entry)) b k) ⌝ }
 {
     let s = b.setting;
     let there = candidates::begins_at(order, b, k);
-    block_copy::copy_distortion(older, block, s.width, there as u32)
+    block_copy::copy_up_to(older, block, s.width, there as u32, best.distortion)
 }
 
 // Of the listed candidates of a block of N 16, the first of least distortion, from a copy of the block: faster where there are many candidates.
@@ -49,8 +53,11 @@ fn choose_copied(
     let mut best = candidates::first_chosen(older, newer, order, b, remaining, count);
     let mut i: usize = 1;
     while i < count {
+        if best.distortion == 0 {
+            return best;
+        }
         let k = signed::wide_u16(remaining[i]);
-        let d = copied_distortion_of(older, newer, order, b, k, block);
+        let d = copied_against(older, newer, order, b, best, k, block);
         i += 1;
         best = candidates::improved(best, k, d);
     }

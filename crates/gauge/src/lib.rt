@@ -31,7 +31,7 @@ use track::Stepped;
 use track::Track;
 use view::RowView;
 
-// Measures one vector: the distortion of the newer block at a row and a column for (dy, dx), by the measure.
+// Measures one vector under a ceiling: the newer block at a row and a column for (dy, dx), by the measure.
 #[no_mangle]
 pub extern "C" fn gauge_measure(
     older: &[u8],
@@ -44,8 +44,9 @@ pub extern "C" fn gauge_measure(
     dy: i32,
     dx: i32,
     measure: u32,
+    ceiling: u32,
 ) -> Measured
-    ensures { λ r. ⌜ r ≡ measureVector (pairOf (now (older .entry)) (now (newer .entry)) (setting width height n measure)) row column (vec dy dx) ⌝ }
+    ensures { λ r. ⌜ r ≡ measureVector (pairOf (now (older .entry)) (now (newer .entry)) (setting width height n measure)) row column (vec dy dx) ceiling ⌝ }
 {
     let s = Setting {
         width,
@@ -53,7 +54,7 @@ pub extern "C" fn gauge_measure(
         n,
         measure,
     };
-    measuring::measure(older, newer, s, row, column, dy, dx)
+    measuring::measure(older, newer, s, row, column, dy, dx, ceiling)
 }
 
 // The row view: where in its frame the N pels stand. It measures nothing, so the measure that goes with its pair is any one.

@@ -1,1 +1,2 @@
+pub mod Measurement
 pub mod Measured

@@ -4,6 +4,7 @@ use Prim.Native.Nat.{ℕ, _+_, _*_, _≤_, _<_}
 use mathlib.Core.Path.{_≡_, refl, sym, ap, _∙_}
 use mathlib.Core.Bool.{Bool, true, false, cond, _&&_, _||_}
 use mathlib.Core.List.{List, [], _∷_}
+use native.Mathlib.Nat.{le-of-lt}
 use native.Mathlib.Omega.{arith}
 use native.Mathlib.Numerals.{add-one}
 use borrow.Author.Tests.{lt-ltb, le-ltb, ne-eqb}
@@ -21,12 +22,12 @@ use Rattle.frame.specs.Pictures.{Pair}
 use Rattle.frame.specs.Candidates.{candidate, candidate-older}
 use Rattle.distortion.specs.Blocks.{blockAt, newerBlock, measureIn, distortionBy}
 use Rattle.frame.specs.declared.SearchBlock.{SearchBlock}
-use Rattle.search.specs.declared.MeasuredCandidate.the-variants.{Distortion, NotCandidate}
-use Rattle.search.specs.Target.{Target, target, measureCandidate, measure-candidate-none, measure-candidate-some, still-cost}
+use Rattle.search.specs.declared.MeasuredCandidate.the-variants.{Distortion, OverCeiling, NotCandidate}
+use Rattle.search.specs.Target.{Target, target, measureCandidate, measure-candidate-none, measure-candidate-some, measure-candidate-over, still-cost}
 use Rattle.probe.specs.declared.BestSoFar.{BestSoFar}
 use Rattle.probe.specs.Probe.{plus, Seen, seen, countPoint, probePoint, probe, atOrigin, around, widened, isIn, fresh}
 use Rattle.base.specs.Lists.{Each, more}
-use Rattle.probe.specs.BestSoFar.{point, seenOf, offset, pairs, Pattern, probeNew, Ongoing, Holds}
+use Rattle.probe.specs.BestSoFar.{point, seenOf, oneMore, offset, pairs, Pattern, probeNew, Ongoing, Holds}
 use Rattle.probe.proofs.Probe.{eqb-same, all?, all-within}
 
 pub holds-by : {r : BestSoFar} {s t : Seen} {m n : ℕ} → Holds r s m → s ≡ t → m ≤ n → Holds r t n
@@ -36,6 +37,11 @@ holds-by h e l = record { is = h .is ∙ e; down = h .down; across = h .across; 
 pub holds-same : {older newer : List ℕ} {b : SearchBlock} {s : BestSoFar} {n : ℕ} {q : Seen} → Ongoing older newer b s n → seenOf s ≡ q
     → Holds s q (s .count + 1)
 holds-same o e = record { is = e; down = o .down; across = o .across; few = omega arith }
+
+-- or with one more counted
+pub holds-more : {older newer : List ℕ} {b : SearchBlock} {s r : BestSoFar} {q : Seen} → Ongoing older newer b s 1 → r ≡ oneMore s → seenOf (oneMore s) ≡ q
+    → Holds r q (s .count + 1)
+holds-more o e f = rw e (record { is = f; down = o .down; across = o .across; few = omega arith })
 
 -- ---- (0,0): the older block stands where the newer one stands
 
@@ -47,20 +53,27 @@ at-origin-is p w y x d e = rw (still-cost p y x, e)
 -- ---- one point is tried
 
 module _ (t : Target) (s : Seen) (v : Vector) where
-  probe-point-over : t .candidate v ≡ false → s ≡ probePoint t s v
+  probe-point-no : t .candidate v ≡ false → s ≡ probePoint t s v
   unfolding probePoint
-  probe-point-over e = rw e
+  probe-point-no e = rw e
 
-  pub probe-point-none : measureCandidate t v ≡ NotCandidate → s ≡ probePoint t s v
-  probe-point-none e = probe-point-over (measure-candidate-none t v e)
+  pub probe-point-none : measureCandidate t (s .least) v ≡ NotCandidate → s ≡ probePoint t s v
+  probe-point-none e = probe-point-no (measure-candidate-none t (s .least) v e)
 
-  pub probe-point-less : (d : ℕ) → measureCandidate t v ≡ Distortion d → d < s .least → seen v d (s .count + 1) ≡ probePoint t s v
+  pub probe-point-less : (d : ℕ) → measureCandidate t (s .least) v ≡ Distortion d → d < s .least → seen v d (s .count + 1) ≡ probePoint t s v
   unfolding probePoint countPoint
-  probe-point-less d e h = let m = measure-candidate-some t v d e in rw (m .0, ← (m .1), lt-ltb d (s .least) h)
+  probe-point-less d e h = let m = measure-candidate-some t (s .least) v d e in rw (m .0, ← (m .1), lt-ltb d (s .least) h)
 
-  pub probe-point-more : (d : ℕ) → measureCandidate t v ≡ Distortion d → s .least ≤ d → seen (s .best) (s .least) (s .count + 1) ≡ probePoint t s v
+  probe-point-stays : t .candidate v ≡ true → s .least ≤ t .cost v → seen (s .best) (s .least) (s .count + 1) ≡ probePoint t s v
   unfolding probePoint countPoint
-  probe-point-more d e h = let m = measure-candidate-some t v d e in rw (m .0, ← (m .1), le-ltb d (s .least) h)
+  probe-point-stays e h = rw (e, le-ltb (t .cost v) (s .least) h)
+
+  pub probe-point-more : (d : ℕ) → measureCandidate t (s .least) v ≡ Distortion d → s .least ≤ d → seen (s .best) (s .least) (s .count + 1) ≡ probePoint t s v
+  probe-point-more d e h = let m = measure-candidate-some t (s .least) v d e in probe-point-stays (m .0) (rw (← (m .1)) h)
+
+  -- over the least so far it is not smaller
+  pub probe-point-over : measureCandidate t (s .least) v ≡ OverCeiling → seen (s .best) (s .least) (s .count + 1) ≡ probePoint t s v
+  probe-point-over e = let m = measure-candidate-over t (s .least) v e in probe-point-stays (m .0) (le-of-lt (m .1))
 
   -- ---- unless it is among those before
 
@@ -93,7 +106,7 @@ module _ (t : Target) (s : Seen) (v : Vector) where
 -- outside window 16 there is no candidate of a window up to 16
 module _ (p : Pair) (w y x : ℕ) (l : w ≤ 16) (before : List Vector) (s : Seen) (v : Vector) where
   far : (Within 16 v → ⊥) → s ≡ probeNew (target p w y x) before s v
-  far n = new-same (target p w y x) s v before (probe-point-over (target p w y x) s v (go (candidate (p .setting) w y x v) refl))
+  far n = new-same (target p w y x) s v before (probe-point-no (target p w y x) s v (go (candidate (p .setting) w y x v) refl))
     where
       go : (c : Bool) → candidate (p .setting) w y x v ≡ c → c ≡ false
       go true e =

@@ -1,6 +1,6 @@
 -- How the code holds what a search has seen: BestSoFar (src) keeps the best vector as dy + 16 and dx + 16, its distortion and the number measured.
 --   point      the vector that two such parts are
---   seenOf     what the search has seen
+--   seenOf     what the search has seen; oneMore: with one more counted
 --   offset     the vector of a pair [dy, dx]; pairs: those of a table of pairs
 --   Pattern    a table of at most nine offset pairs, each in window 2
 --   probeNew   a point is tried, where it is not among those of a list
@@ -29,6 +29,9 @@ point y x = vec (unbias 16 y) (unbias 16 x)
 
 abbrev pub seenOf : BestSoFar → Seen
 seenOf h = seen (point (h .y) (h .x)) (h .least) (h .count)
+
+abbrev pub oneMore : BestSoFar → BestSoFar
+oneMore h = record { y = h .y; x = h .x; least = h .least; count = h .count + 1 }
 
 abbrev pub offset : List ℤ → Vector
 offset o = vec (getD o 0 (pos 0)) (getD o 1 (pos 0))

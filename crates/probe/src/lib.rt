@@ -1,15 +1,15 @@
 // How searches 3 and 4 probe points: the best so far, and the points of a pattern around it, in the table's order.
 
 ghost use mathlib.Core.Path.{_≡_};
-ghost use Prim.Native.Nat.{_+_, _≤_};
+ghost use Prim.Native.Nat.{_+_, _≤_, _<_};
 ghost use lib.IntN.{pos, natAbs, _+ℤ_, _*ℤ_};
 ghost use lib.ListN.{length};
 ghost use Rattle.signed.specs.Int.{eqZ};
 ghost use Rattle.signed.specs.Values.{unbias};
 ghost use Rattle.order.specs.Vectors.{vec, same?};
-ghost use Rattle.search.specs.Target.{Ready, targetOf};
+ghost use Rattle.search.specs.Target.{Ready, targetOf, measureCandidate};
 ghost use Rattle.probe.specs.Probe.{plus, probePoint, probe, atOrigin, around, widened, isIn, fresh};
-ghost use Rattle.probe.specs.BestSoFar.{point, seenOf, pairs, probeNew, Pattern, Ongoing, Holds, resultOf};
+ghost use Rattle.probe.specs.BestSoFar.{point, seenOf, oneMore, pairs, probeNew, Pattern, Ongoing, Holds, resultOf};
 use frame::SearchBlock;
 use search::MeasuredCandidate;
 use search::SearchResult;
@@ -38,6 +38,36 @@ pub fn at_origin(older: &[u8], newer: &[u8], b: SearchBlock) -> BestSoFar
     }
 }
 
+// The point (y, x), measured with the least so far as ceiling, where it is a candidate.
+fn against(
+    older: &[u8],
+    newer: &[u8],
+    b: SearchBlock,
+    s: BestSoFar,
+    y: usize,
+    x: usize,
+) -> MeasuredCandidate
+    requires { ⌜ Ready (now older) (now newer) b × (y ≤ 32) × (x ≤ 32) ⌝ }
+    ensures { λ r. ⌜ r ≡ measureCandidate (targetOf (now (older .entry)) (now (newer .entry)) b) (s .least) (point y x) ⌝ }
+{
+    let dy = signed::unbiased(y);
+    let dx = signed::unbiased(x);
+    search::measure_candidate(older, newer, b, dy, dx, s.least)
+}
+
+// The best so far stays, and one more is counted.
+fn one_more(s: BestSoFar) -> BestSoFar
+    requires { ⌜ s .count < 4294967295 ⌝ }
+    ensures { λ r. ⌜ r ≡ oneMore s ⌝ }
+{
+    BestSoFar {
+        y: s.y,
+        x: s.x,
+        least: s.least,
+        count: s.count + 1,
+    }
+}
+
 // The point (y, x) is tried: where it is a candidate it is measured, and only strictly smaller replaces.
 fn probe_point(
     older: &[u8],
@@ -50,24 +80,20 @@ fn probe_point(
     requires { ⌜ Ongoing (now older) (now newer) b s 1 × (y ≤ 32) × (x ≤ 32) ⌝ }
     ensures { λ r. ⌜ Holds r (probePoint (targetOf (now (older .entry)) (now (newer .entry)) b) (seenOf s) (point y x)) (s .count + 1) ⌝ }
 {
-    let dy = signed::unbiased(y);
-    let dx = signed::unbiased(x);
-    let MeasuredCandidate::Distortion(d) = search::measure_candidate(older, newer, b, dy, dx) else {
-        return s;
-    };
-    if d < s.least {
-        return BestSoFar {
-            y,
-            x,
-            least: d,
-            count: s.count + 1,
-        };
-    }
-    BestSoFar {
-        y: s.y,
-        x: s.x,
-        least: s.least,
-        count: s.count + 1,
+    match against(older, newer, b, s, y, x) {
+        MeasuredCandidate::NotCandidate => s,
+        MeasuredCandidate::OverCeiling => one_more(s),
+        MeasuredCandidate::Distortion(d) => {
+            if d < s.least {
+                return BestSoFar {
+                    y,
+                    x,
+                    least: d,
+                    count: s.count + 1,
+                };
+            }
+            one_more(s)
+        }
     }
 }
 

@@ -17,6 +17,7 @@ ghost use Rattle.pruned_remaining.specs.Kept.{nearestOf, keptWithin, swept};
 ghost use Rattle.pruned_subblocks.specs.Squares.{BlockSums};
 ghost use Rattle.pruned_distance.specs.Remaining.{distanceOf, Tested};
 ghost use Rattle.pruned_steps.specs.Memory.{stillDistortion, firstSlot, Begun, recounted, testsCounted, bounded, Leveled, measureRemaining};
+use distortion::Capped;
 use frame::Region;
 use frame::SearchBlock;
 use search::SearchResult;
@@ -49,7 +50,7 @@ pub fn begin(
     requires { ⌜ Ready (now older) (now newer) b × (now order ≡ flat preference) ⌝ }
     ensures { λ r. ⌜ Begun (stillDistortion (pairOf (now (older .entry)) (now (newer .entry)) (b .setting)) (b .y) (b .x)) (b .setting .n) total r ⌝ }
 {
-    let bound = candidates::distortion_of(older, newer, order, b, 0, 4294967295);
+    let bound = candidates::distortion_of(older, newer, order, b, 0);
     let s = b.setting;
     let slot = first_slot(s.n);
     PruneState {
@@ -60,7 +61,7 @@ pub fn begin(
     }
 }
 
-// Lowers E to the distortion of the remaining candidate of least distance, if that is less.
+// Lowers E to the distortion of the remaining candidate of least distance, if that is less: measured with E as ceiling.
 fn lowered(
     older: &[u8],
     newer: &[u8],
@@ -77,19 +78,17 @@ fn lowered(
 {
     let count = r.count;
     let k = pruned_remaining::nearest(remaining, count, dist);
-    let bound = r.bound;
-    let e = candidates::distortion_of(older, newer, order, b, k, bound);
+    let Capped::Within(e) = candidates::distortion_up_to(older, newer, order, b, k, r.bound) else {
+        return r;
+    };
     let slot = r.slot;
     let counts = r.counts;
-    if e < bound {
-        return PruneState {
-            count,
-            bound: e,
-            slot,
-            counts,
-        };
+    PruneState {
+        count,
+        bound: e,
+        slot,
+        counts,
     }
-    r
 }
 
 // Counts the tests at a resolution: one for each remaining candidate.

@@ -7,6 +7,7 @@ ghost use Rattle.signed.specs.Int.{up};
 ghost use Rattle.order.specs.Vectors.{vec};
 ghost use Rattle.search.specs.SearchResult.{onlyAtOne};
 ghost use Rattle.search.specs.Target.{Ready, Past, targetOf, measureCandidate};
+use distortion::Capped;
 use frame::Older;
 use frame::SearchBlock;
 
@@ -38,22 +39,24 @@ pub fn past(d: i32, at: usize, from: usize) -> usize
     signed::biased(d) + at - (16 + from)
 }
 
-// The distortion of a candidate, or nothing where a vector is none.
+// The distortion of a candidate under a ceiling, or nothing where a vector is none.
 pub enum MeasuredCandidate {
     Distortion(u32),
+    OverCeiling,
     NotCandidate,
 }
 
-// The distortion of (dy, dx), where it is a candidate.
+// The distortion of (dy, dx) under the ceiling, where it is a candidate.
 pub fn measure_candidate(
     older: &[u8],
     newer: &[u8],
     b: SearchBlock,
     dy: i32,
     dx: i32,
+    ceiling: u32,
 ) -> MeasuredCandidate
     requires { ⌜ Ready (now older) (now newer) b ⌝ }
-    ensures { λ r. ⌜ r ≡ measureCandidate (targetOf (now (older .entry)) (now (newer .entry)) b) (vec dy dx) ⌝ }
+    ensures { λ r. ⌜ r ≡ measureCandidate (targetOf (now (older .entry)) (now (newer .entry)) b) ceiling (vec dy dx) ⌝ }
 {
     let s = b.setting;
     let y = b.y;
@@ -61,5 +64,8 @@ pub fn measure_candidate(
     let Older::At(r, c) = frame::older_at(s, b.w, y, x, dy, dx) else {
         return MeasuredCandidate::NotCandidate;
     };
-    MeasuredCandidate::Distortion(distortion::block_distortion(older, newer, s, y, x, r, c))
+    let Capped::Within(d) = distortion::block_up_to(older, newer, s, y, x, r, c, ceiling) else {
+        return MeasuredCandidate::OverCeiling;
+    };
+    MeasuredCandidate::Distortion(d)
 }

@@ -13,8 +13,9 @@ use Rattle.frame.specs.Grid.{rows, columns, blocks, blockRow, blockColumn}
 use Rattle.frame.specs.Candidates.{candidate}
 use Rattle.refusals.specs.Cross.{crossWindow}
 use Rattle.refusals.specs.Refusals.{firstRefusal, blockSizeOk, windowOk, thresholdOk, pairRefusal, requestRefusal}
-use Rattle.distortion.specs.Blocks.{distortionBy, distortion}
-use Rattle.measuring.specs.Measured.{measureRefusal, measureVector}
+use Rattle.distortion.specs.Blocks.{distortionBy, partialBy, capped, distortion}
+use Rattle.measuring.specs.Measurement.{rowsMeasured, withRows, measurement}
+use Rattle.measuring.specs.Measured.{measureRefusal, measureAt, answerOf, measureVector}
 use Rattle.probe.specs.Probe.{countPoint, probePoint, probe, atOrigin, around, widened, isIn, fresh}
 use Rattle.probe.specs.BestSoFar.{resultOf}
 use Rattle.four_step.specs.FourStep.{square, ring, moved, step1, step23, step4, from3, from2, fourStep}
@@ -51,7 +52,7 @@ use Rattle.worked.proofs.Once.{blockOnce, block-once, fieldOnce, field-
 -- the same answers, quick to compute
 abbrev answerOnce : Query → Answer
 answerOnce (search p q y x) = found (blockOnce (p .older) (p .newer) (q p) y x)
-answerOnce (measuring p v) = answer (measuring p v)
+answerOnce (measuring p v ceiling) = answer (measuring p v ceiling)
 answerOnce (distance p m) = answer (distance p m)
 answerOnce (everyBlock p q list table) = filled (fieldOnce (p .older) (p .newer) (q p) list table)
 answerOnce (travelling p w) = travels (travelOnce p w)
@@ -63,7 +64,7 @@ answerOnce (printing log) = answer (printing log)
 
 answer-once : (c : Query) → answer c ≡ answerOnce c
 answer-once (search p q y x) = ap found (block-once (p .older) (p .newer) (q p) y x)
-answer-once (measuring p v) = refl
+answer-once (measuring p v ceiling) = refl
 answer-once (distance p m) = refl
 answer-once (everyBlock p q list table) = ap filled (field-once (p .older) (p .newer) (q p) list table)
 answer-once (travelling p w) = ap travels (travel-once p w)
@@ -92,7 +93,7 @@ computed : answers table ≡ oweds table
 unfolding
     table pairA pairB pairC pairD pair32
     sumTo leastFrom leastOf preference candidate crossWindow firstRefusal blockSizeOk windowOk thresholdOk pairRefusal requestRefusal
-    measureOf distortionBy distortion measureRefusal measureVector countPoint probePoint probe atOrigin around widened isIn fresh resultOf
+    measureOf distortionBy partialBy capped distortion rowsMeasured withRows measurement measureRefusal measureAt answerOf measureVector countPoint probePoint probe atOrigin around widened isIn fresh resultOf
     square ring moved step1 step23 step4 from3 from2 fourStep diagonalCross plusCross pass allPasses diagonal onDiagonal ended finished cross
     squareSum distanceBy kept exceeding allRemaining lower sift rounds prune prunedBest counts halves
     searchRefusal walkPlaces after

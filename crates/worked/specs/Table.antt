@@ -106,11 +106,11 @@ heldTable n = replicate n 6
 abbrev pub heldBuffer : ℕ → List ℕ
 heldBuffer n = replicate n 8
 
--- a search of the block at row y, column x; a vector of the block at (0,0) measured; the distance at m of the two blocks at (0,0); a field with
+-- a search of the block at row y, column x; a vector of the block at (0,0) measured under a ceiling; the distance at m of the two blocks at (0,0); a field with
 -- what list and table held; a travel by window w; calls on a track, from New on; a log written into a buffer, read into a list, walked, printed
 pub data Query : Type 0 where
   search : Pair → (Pair → Request) → (y x : ℕ) → Query
-  measuring : Pair → Vector → Query
+  measuring : Pair → Vector → (ceiling : ℕ) → Query
   distance : Pair → (m : ℕ) → Query
   everyBlock : Pair → (Pair → Request) → List ℤ → List ℕ → Query
   travelling : Pair → (w : ℕ) → Query
@@ -137,7 +137,7 @@ pub data Answer : Type 0 where
 -- by the definitions
 abbrev pub answer : Query → Answer
 answer (search p q y x) = found (searchBlock (p .older) (p .newer) (q p) y x)
-answer (measuring p v) = amount (measureVector p 0 0 v)
+answer (measuring p v ceiling) = amount (measureVector p 0 0 v ceiling)
 answer (distance p m) = apart (distanceBy (measureIn p) (p .setting .n) m (newerBlock p 0 0) (olderBlock p 0 0 origin))
 answer (everyBlock p q list table) = filled (field (p .older) (p .newer) (q p) list table)
 answer (travelling p w) = travels (travel p w)
@@ -155,8 +155,12 @@ finds v d counts dropped = found (searchResult v d counts dropped)
 abbrev pub stillAfter : ℕ → Answer
 stillAfter probes = finds origin 0 (onlyAtOne probes) 0
 
-abbrev pub measures : ℕ → Answer
-measures d = amount (record { refusal = 0; distortion = d })
+-- what the measuring call owes: a distortion and all N rows, or the row at whose end it is over
+abbrev pub measures : (d n : ℕ) → Answer
+measures d n = amount (record { refusal = 0; distortion = d; over = 0; rows = n })
+
+abbrev pub overAt : (row : ℕ) → Answer
+overAt row = amount (record { refusal = 0; distortion = 0; over = 1; rows = row })
 
 -- the reading with its votes and the voters, and the sums over the blocks
 abbrev pub reads : Vector → (votes voters : ℕ) → List ℕ → ℕ → FieldAnswer
@@ -310,13 +314,13 @@ table =
     -- A* ".. w 16, ..: (0,0), 32; pruned 0,0,1,1,1"
     (search pairA (full 16) 0 0 gives finds origin 32 (onlyAtOne 1) 0)
     ∷ (search pairA (pruned 16) 0 0 gives finds origin 32 (0 ∷ 0 ∷ 0 ∷ 1 ∷ 1 ∷ 1 ∷ []) 0)
-    ∷ (measuring pairA origin gives measures 32)
+    ∷ (measuring pairA origin 4080 gives measures 32 4)
     ∷ (everyBlock pairA (full 16) (heldList 5) (heldTable 27) gives fills (readsBlank (onlyAtOne 1) 0) listA (heldTable 27))
     ∷ (everyBlock pairA (pruned 16) (heldList 5) (heldTable 27) gives fills (readsBlank (0 ∷ 0 ∷ 0 ∷ 1 ∷ 1 ∷ 1 ∷ []) 0) listA tableA)
     -- B* ".. w 1, ..: (0,1), 0; full 2; pruned 0,0,2,2,1, dropped 1; travel (0,-1)"
     ∷ (search pairB (full 1) 0 0 gives finds vectorB 0 (onlyAtOne 2) 0)
     ∷ (search pairB (pruned 1) 0 0 gives finds vectorB 0 (0 ∷ 0 ∷ 0 ∷ 2 ∷ 2 ∷ 1 ∷ []) 1)
-    ∷ (measuring pairB vectorB gives measures 0)
+    ∷ (measuring pairB vectorB 4080 gives measures 0 4)
     ∷ (everyBlock pairB (full 1) (heldList 5) (heldTable 32) gives fills (reads vectorB 1 1 (onlyAtOne 2) 0) listB (heldTable 32))
     ∷ (everyBlock pairB (pruned 1) (heldList 5) (heldTable 32) gives fills readsB listB tableB)
     ∷ (travelling pairB 1 gives travels (vec (pos 0) (minus 1)))
@@ -340,16 +344,16 @@ table =
     -- D* "distances 0 at 4 and 2, distortion 160"
     ∷ (distance pairD 4 gives apart 0)
     ∷ (distance pairD 2 gives apart 0)
-    ∷ (measuring pairD origin gives measures 160)
+    ∷ (measuring pairD origin 4080 gives measures 160 4)
     -- D by squares: each pel differs by 10
     ∷ (distance (bySquares pairD) 4 gives apart 0)
     ∷ (distance (bySquares pairD) 2 gives apart 0)
-    ∷ (measuring (bySquares pairD) origin gives measures 1600)
+    ∷ (measuring (bySquares pairD) origin 1040400 gives measures 1600 4)
     ∷ (search (bySquares pairD) (full 16) 0 0 gives finds origin 1600 (onlyAtOne 1) 0)
     ∷ (search (bySquares pairD) (pruned 16) 0 0 gives finds origin 1600 (0 ∷ 0 ∷ 0 ∷ 1 ∷ 1 ∷ 1 ∷ []) 0)
     -- B by squares: at 4 the distance of (0,0), 25,600, is just 4² × E, so it is dropped at 2 and not before
     ∷ (distance (bySquares pairB) 4 gives apart 25600)
-    ∷ (measuring (bySquares pairB) origin gives measures 1600)
+    ∷ (measuring (bySquares pairB) origin 1040400 gives measures 1600 4)
     ∷ (search (bySquares pairB) (pruned 1) 0 0 gives finds vectorB 0 (0 ∷ 0 ∷ 0 ∷ 2 ∷ 2 ∷ 1 ∷ []) 1)
     -- E* "C's frames, block (2,2): four-step 17; cross w 2, T 0: 9; T 1: 1"
     ∷ (search pairC fourStep 2 2 gives stillAfter 17)
@@ -372,10 +376,17 @@ table =
     ∷ (everyBlock (speckled 17) (full 16) (heldList 3) [] gives fills (readsBlank (onlyAtOne 1) 0) (triple origin 7) [])
     ∷ (everyBlock (speckled 18) (full 16) (heldList 3) [] gives fills (reads origin 1 1 (onlyAtOne 1) 0) (triple origin 8) [])
     -- 02, request 4: N 32 with the largest distortions, their logs both ways, the lines; 10 after command 6 has place 9
-    ∷ (measuring pair32 origin gives measures 261120)
-    ∷ (measuring (bySquares pair32) origin gives measures 66585600)
+    ∷ (measuring pair32 origin 261120 gives measures 261120 32)
+    ∷ (measuring (bySquares pair32) origin 66585600 gives measures 66585600 32)
     ∷ (search pair32 (pruned 1) 0 0 gives finds origin 261120 (1 ∷ 1 ∷ 1 ∷ 1 ∷ 1 ∷ 1 ∷ []) 0)
     ∷ (search (bySquares pair32) (pruned 1) 0 0 gives finds origin 66585600 (1 ∷ 1 ∷ 1 ∷ 1 ∷ 1 ∷ 1 ∷ []) 0)
+    -- 02, request 5: each row of A has 8, so the sum is 8, 16, 24, 32: it comes back up to the ceiling, and is over in the first row that passes it
+    ∷ (measuring pairA origin 32 gives measures 32 4)
+    ∷ (measuring pairA origin 31 gives overAt 4)
+    ∷ (measuring pairA origin 16 gives overAt 3)
+    ∷ (measuring pairA origin 15 gives overAt 2)
+    ∷ (measuring pairB vectorB 0 gives measures 0 4)
+    ∷ (measuring (bySquares pair32) origin 66585599 gives overAt 32)
     -- T goes by the measure alone, whatever N is
     ∷ (search pairC (cross 2 261120) 2 2 gives stillAfter 1)
     ∷ (writing (headOf pair32) (list32 261120) (heldBuffer 22) gives writes log32)

@@ -5,7 +5,7 @@ use native.Mathlib.Omega.{arith}
 use borrow.Author.Needs.{needs}
 use Rattle.candidates.specs.Chosen.{Choice, distortionOf}
 use Rattle.candidates.proofs.Listing.{listed-at}
-use Rattle.candidates.proofs.Choosing.{choosing-more}
+use Rattle.candidates.proofs.Choosing.{choosing-more, choosing-zero}
 use Rattle.candidates.proofs.choose.Statement.{statement}
 use Rattle.candidates.proofs.choose.Tie as tie
 
@@ -33,10 +33,11 @@ element-copy-out-wide-u16 c = search needs
 wide-u16-requires : tie.Need-wide-u16-requires Inv-loop μ-loop
 wide-u16-requires c κs = search needs
 
-distortion-of-requires : tie.Need-distortion-of-requires Inv-loop μ-loop
-distortion-of-requires c κs =
-    let s = start (c .before .before .before) in
-    (s .pre .0, listed-at (s .pre .1 .0) (c .before .before .loop-test .taken) (c .wide-u16 .ensures))
+against-requires : tie.Need-against-requires Inv-loop μ-loop
+against-requires c κs =
+    let i = c .before .before .before .before in
+    let s = start (i .before) in
+    (s .pre .0, listed-at (s .pre .1 .0) (i .loop-test .taken) (c .wide-u16 .ensures))
 
 improved-requires : tie.Need-improved-requires Inv-loop μ-loop
 improved-requires c κs = search needs
@@ -49,15 +50,19 @@ loop-less c = search needs
 
 loop-again : tie.Need-loop-again Inv-loop μ-loop
 loop-again c =
-    let l = c .before .before .before .before .before in
-    let d = c .before .distortion-of .ensures in
-    let turn =
-    choosing-more (start l .pre .1 .0) (l .loop .inv .0) (c .before .before .before .before .loop-test .taken) (l .loop .inv .2)
-    (c .before .before .wide-u16 .ensures) (d .0) in
-    (omega arith, omega arith, rw (c .improved .ensures) turn)
+    let k = c .before .before in
+    let i = k .before .before .before .before in
+    let l = i .before in
+    let turn = choosing-more (start l .pre .1 .0) (l .loop .inv .0) (i .loop-test .taken) (l .loop .inv .2) (k .wide-u16 .ensures) in
+    (omega arith, omega arith, rw (c .improved .ensures, c .before .against .ensures) turn)
 
 returns : tie.Need-returns Inv-loop μ-loop
 returns c =
+    let l = c .before .before .before in
+    choosing-zero (start l .pre .1 .0) (l .loop .inv .0) (l .loop .inv .1) (l .loop .inv .2) (c .if1 .taken)
+
+returns-2 : tie.Need-returns-2 Inv-loop μ-loop
+returns-2 c =
     let l = c .before in
     let e : l .loop .i ≡ start l .args .count = omega arith in
     rw e at (l .loop .inv .2)
@@ -70,12 +75,13 @@ choose-spec =
     μ-loop
     first-chosen-requires
     loop-holds
+    returns
     mul-wide-u16
     element-copy-out-wide-u16
     wide-u16-requires
-    distortion-of-requires
+    against-requires
     improved-requires
     add-i
     loop-less
     loop-again
-    returns)
+    returns-2)

@@ -17,7 +17,7 @@ distortion-of-requires c κs = let s = c .before .before .before .before in (s .
 returns : tie.Need-returns
 returns c =
     let s = c .before .before .before .before .before in
-    choosing-first (s .pre .1 .0) (s .pre .1 .1) (c .before .wide-u16 .ensures) (c .distortion-of .ensures .0 .below (c .distortion-of .ensures .1))
+    choosing-first (s .pre .1 .0) (s .pre .1 .1) (c .before .wide-u16 .ensures) (c .distortion-of .ensures)
 
 pub first-chosen-spec : {M : Type 1} → statement M
 first-chosen-spec =

@@ -5,7 +5,7 @@ use native.Mathlib.Nat.{zero-add, zero-mul, add-mul, mul-le-mul, mul-le-mul-righ
 use native.Mathlib.Omega.{arith}
 use Rattle.base.specs.Index.{row-next}
 use Rattle.measures.specs.Measures.{measureOf, most-small}
-use Rattle.distortion.specs.Blocks.{rowsUpTo, sumUpTo-none, sumUpTo-more, sumUpTo-reached}
+use Rattle.distortion.specs.Blocks.{rowsUpTo, sumUpTo-none, sumUpTo-more, sumUpTo-passed}
 use Rattle.distortion.proofs.rows_by_four.Statement.{statement}
 use Rattle.distortion.proofs.rows_by_four.Tie as tie
 
@@ -58,7 +58,7 @@ returns c =
     let all : a .groups ≡ l .g + (a .groups - l .g) = omega arith in
     let four = 4 * (a .n * measureOf (a .measure) .most) in
     let most : l .g * four ≤ a .groups * four = mul-le-mul-right four (l .inv .0) in
-    let stopped = sumUpTo-reached (a .ceiling) _ (l .g) (a .groups - l .g) (rw (l .inv .3) at (c .if1 .taken)) in
+    let stopped = sumUpTo-passed (a .ceiling) _ (l .g) (a .groups - l .g) (rw (l .inv .3) at (c .if1 .taken)) in
     (l .inv .3 ∙ sym (rw (← all) at stopped), omega arith)
 
 four-rows-requires : tie.Need-four-rows-requires Inv-loop μ-loop

@@ -5,7 +5,7 @@ use native.Mathlib.Nat.{zero-add, zero-mul, mul-le-mul-right}
 use native.Mathlib.Omega.{arith}
 use Rattle.base.specs.Index.{row-next}
 use Rattle.measures.specs.Measures.{measureOf, most-small}
-use Rattle.distortion.specs.Blocks.{half, halvesUpTo, sumUpTo-none, sumUpTo-more, sumUpTo-reached}
+use Rattle.distortion.specs.Blocks.{half, halvesUpTo, sumUpTo-none, sumUpTo-more, sumUpTo-passed}
 use Rattle.distortion.proofs.Rows.{half-below, half-inside}
 use Rattle.distortion.proofs.rows_by_halves.Statement.{statement}
 use Rattle.distortion.proofs.rows_by_halves.Tie as tie
@@ -29,7 +29,7 @@ returns c =
     let l = c .before .before .loop in
     let a = c .before .before .before .before .before .args in
     let all : 16 ≡ l .g + (16 - l .g) = omega arith in
-    let stopped = sumUpTo-reached (a .ceiling) _ (l .g) (16 - l .g) (rw (l .inv .4) at (c .if1 .taken)) in
+    let stopped = sumUpTo-passed (a .ceiling) _ (l .g) (16 - l .g) (rw (l .inv .4) at (c .if1 .taken)) in
     (l .inv .4 ∙ sym (rw (← all) at stopped), omega (arith, mul-le-mul-right (4 * (16 * measureOf (a .measure) .most)) (l .inv .0)))
 
 four-rows-requires : tie.Need-four-rows-requires Inv-loop μ-loop

@@ -1,11 +1,11 @@
--- `choose_copied`: as `choose`, with each distortion known whole.
+-- `choose_copied`: as `choose`.
 use Prim.Native.Nat.{_-_, _≤_, _<_}
 use mathlib.Core.Path.{_≡_}
 use native.Mathlib.Omega.{arith}
 use borrow.Author.Needs.{needs}
 use Rattle.candidates.specs.Chosen.{Choice, distortionOf}
 use Rattle.candidates.proofs.Listing.{listed-at}
-use Rattle.candidates.proofs.Choosing.{choosing-more}
+use Rattle.candidates.proofs.Choosing.{choosing-more, choosing-zero}
 use Rattle.full.proofs.choose_copied.Statement.{statement}
 use Rattle.full.proofs.choose_copied.Tie as tie
 
@@ -33,10 +33,11 @@ element-copy-out-wide-u16 c = search needs
 wide-u16-requires : tie.Need-wide-u16-requires Inv-loop μ-loop
 wide-u16-requires c κs = search needs
 
-copied-distortion-of-requires : tie.Need-copied-distortion-of-requires Inv-loop μ-loop
-copied-distortion-of-requires c κs =
-    let s = start (c .before .before .before) in
-    let k = listed-at (s .pre .1 .0) (c .before .before .loop-test .taken) (c .wide-u16 .ensures) in
+copied-against-requires : tie.Need-copied-against-requires Inv-loop μ-loop
+copied-against-requires c κs =
+    let i = c .before .before .before .before in
+    let s = start (i .before) in
+    let k = listed-at (s .pre .1 .0) (i .loop-test .taken) (c .wide-u16 .ensures) in
     (s .pre .0, (k .0, k .1, s .pre .1 .2))
 
 add-i : tie.Need-add-i Inv-loop μ-loop
@@ -50,17 +51,19 @@ loop-less c = search needs
 
 loop-again : tie.Need-loop-again Inv-loop μ-loop
 loop-again c =
-    let l = c .before .before .before .before .before in
-    let d = c .before .copied-distortion-of .ensures in
-    let turn =
-    choosing-more (start l .pre .1 .0) (l .loop .inv .0) (c .before .before .before .before .loop-test .taken) (l .loop .inv .2)
-    (c .before .before .wide-u16 .ensures)
-    (record { below = λ h. d; beyond = λ h. omega arith })
-    in
-    (omega arith, omega arith, rw (c .improved .ensures) turn)
+    let k = c .before .before in
+    let i = k .before .before .before .before in
+    let l = i .before in
+    let turn = choosing-more (start l .pre .1 .0) (l .loop .inv .0) (i .loop-test .taken) (l .loop .inv .2) (k .wide-u16 .ensures) in
+    (omega arith, omega arith, rw (c .improved .ensures, c .before .copied-against .ensures) turn)
 
 returns : tie.Need-returns Inv-loop μ-loop
 returns c =
+    let l = c .before .before .before in
+    choosing-zero (start l .pre .1 .0) (l .loop .inv .0) (l .loop .inv .1) (l .loop .inv .2) (c .if1 .taken)
+
+returns-2 : tie.Need-returns-2 Inv-loop μ-loop
+returns-2 c =
     let l = c .before in
     let e : l .loop .i ≡ start l .args .count = omega arith in
     rw e at (l .loop .inv .2)
@@ -73,12 +76,13 @@ choose-copied-spec =
     μ-loop
     first-chosen-requires
     loop-holds
+    returns
     mul-wide-u16
     element-copy-out-wide-u16
     wide-u16-requires
-    copied-distortion-of-requires
+    copied-against-requires
     add-i
     improved-requires
     loop-less
     loop-again
-    returns)
+    returns-2)

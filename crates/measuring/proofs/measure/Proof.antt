@@ -13,8 +13,7 @@ use Rattle.measures.specs.Measures.{measureOk}
 use Rattle.frame.specs.Pictures.{Pair, pairOf}
 use Rattle.frame.specs.Candidates.{candidate, olderAt, olderRow, olderColumn, candidate-older, older-is, older-no}
 use Rattle.refusals.specs.Refusals.{placeOk, pairRefusal, placed}
-use Rattle.distortion.specs.Blocks.{distortion}
-use Rattle.measuring.specs.Measured.{refusedBy, measured-refused, measured-unmeasured, measured-elsewhere, measured-outside, measured-at}
+use Rattle.measuring.specs.Measured.{measureAt, refusedBy, measured-refused, measured-unmeasured, measured-elsewhere, measured-outside, measured-at}
 use Rattle.measuring.proofs.measure.Statement.{statement}
 use Rattle.measuring.proofs.measure.Tie as tie
 
@@ -70,7 +69,7 @@ returns : tie.Need-returns
 returns c =
     let r = c .before .before .pair-refusal .ensures in
     let s = c .before .before .before .before .before in
-    c .refused .ensures ∙ ap refusedBy r ∙ sym (measured-refused (pairIn s) _ _ (vectorIn s) (λ e. c .before .if1 .taken (r ∙ e)))
+    c .refused .ensures ∙ ap refusedBy r ∙ sym (measured-refused (pairIn s) _ _ (vectorIn s) _ (λ e. c .before .if1 .taken (r ∙ e)))
 
 measure-ok-requires : tie.Need-measure-ok-requires
 measure-ok-requires c κs = search needs
@@ -83,7 +82,7 @@ returns-2 c =
     let m = c .before .before in
     let s = m .before .before .before .before .before in
     c .refused2 .ensures
-    ∙ sym (measured-unmeasured (pairIn s) _ _ (vectorIn s) (pair-zero (m .before)) (failed (m .measure-ok .ensures) (c .before .if2 .taken)))
+    ∙ sym (measured-unmeasured (pairIn s) _ _ (vectorIn s) _ (pair-zero (m .before)) (failed (m .measure-ok .ensures) (c .before .if2 .taken)))
 
 place-ok-requires : tie.Need-place-ok-requires
 place-ok-requires c κs = search needs
@@ -96,7 +95,7 @@ returns-3 c =
     let l = c .before .before in
     let s = l .before .before .before .before .before .before .before in
     c .refused3 .ensures
-    ∙ sym (measured-elsewhere (pairIn s) _ _ (vectorIn s) (pair-zero (l .before .before .before)) (measure-passed (l .before))
+    ∙ sym (measured-elsewhere (pairIn s) _ _ (vectorIn s) _ (pair-zero (l .before .before .before)) (measure-passed (l .before))
     (failed (l .place-ok .ensures) (c .before .if3 .taken)))
 
 older-at-requires : tie.Need-older-at-requires
@@ -117,11 +116,11 @@ returns-4 c =
     let e = o .before in
     let s = start e in
     c .refused4 .ensures
-    ∙ sym (measured-outside (pairIn s) _ _ (vectorIn s) (pair-zero (e .before .before .before .before)) (measure-passed (e .before .before)) (place-passed e)
+    ∙ sym (measured-outside (pairIn s) _ _ (vectorIn s) _ (pair-zero (e .before .before .before .before)) (measure-passed (e .before .before)) (place-passed e)
     (older-no _ 16 _ _ _ (sym (found o) ∙ c .before .enum-told .given .1)))
 
-block-distortion-requires : tie.Need-block-distortion-requires
-block-distortion-requires c κs =
+measure-block-requires : tie.Need-measure-block-requires
+measure-block-requires c κs =
     let k = c .before in
     let e = k .before .before .before in
     let s = start e in
@@ -133,15 +132,18 @@ block-distortion-requires c κs =
       across = rw (h .2) (i .across);
     }
 
+answer-of-requires : tie.Need-answer-of-requires
+answer-of-requires c κs = search needs
+
 returns-5 : tie.Need-returns-5
-unfolding distortion
+unfolding measureAt
 returns-5 c =
-    let k = c .before .before in
+    let k = c .before .before .before in
     let e = k .before .before .before in
     let s = start e in
     let h = at-candidate k in
-    rw (c .block-distortion .ensures .0, h .1, h .2)
-    (sym (measured-at (pairIn s) (s .args .y) (s .args .x) (vectorIn s) (pair-zero (e .before .before .before .before)) (measure-passed (e .before .before))
+    rw (c .answer-of .ensures, c .before .measure-block .ensures, h .1, h .2)
+    (sym (measured-at (pairIn s) (s .args .y) (s .args .x) (vectorIn s) (s .args .ceiling) (pair-zero (e .before .before .before .before)) (measure-passed (e .before .before))
     (place-passed e) (T-true _ (h .0))))
 
 pub measure-spec : {M : Type 1} → statement M
@@ -162,5 +164,6 @@ measure-spec =
     enum-told
     refused-requires-4
     returns-4
-    block-distortion-requires
+    measure-block-requires
+    answer-of-requires
     returns-5)

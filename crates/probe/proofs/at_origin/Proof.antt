@@ -8,7 +8,7 @@ block-distortion-requires : tie.Need-block-distortion-requires
 block-distortion-requires c κs = let q = c .before .before .pre .placed in record { placed = q; down = q .down; across = q .across }
 
 returns : tie.Need-returns
-returns c = record { is = at-origin-is _ _ _ _ _ (c .block-distortion .ensures .0); down = omega arith; across = omega arith; few = omega arith }
+returns c = record { is = at-origin-is _ _ _ _ _ (c .block-distortion .ensures); down = omega arith; across = omega arith; few = omega arith }
 
 pub at-origin-spec : {M : Type 1} → statement M
 at-origin-spec = tie.close (tie.spec block-distortion-requires returns)

@@ -1,87 +1,76 @@
--- `probe_point`: the point is no candidate, or its distortion is less than the least, or no less.
+-- `probe_point`: the point is no candidate, or over the least, or its distortion is less than the least, or no less.
 use mathlib.Core.Path.{_≡_, sym, _∙_}
 use native.Mathlib.Omega.{arith}
-use borrow.Author.Needs.{needs, sfits-of}
-use denote.Ref.{now}
-use mir.Facts.{toZ-ofZ}
-use Rattle.search.specs.Target.{targetOf, measureCandidate}
-use Rattle.probe.specs.BestSoFar.{point}
-use Rattle.probe.proofs.Looks.{holds-same, probe-point-none, probe-point-less, probe-point-more}
+use borrow.Author.Needs.{needs}
+use Rattle.probe.proofs.Looks.{holds-same, holds-more, probe-point-none, probe-point-over, probe-point-less, probe-point-more}
 use Rattle.probe.proofs.probe_point.Statement.{statement}
 use Rattle.probe.proofs.probe_point.Tie as tie
 
-abbrev start : tie.After-measure-candidate → tie.Start
-start c = c .before .before .before .before .before
+abbrev start : tie.After-against → tie.Start
+start c = c .before .before .before
 
-unbiased-requires : tie.Need-unbiased-requires
-unbiased-requires c κs = search needs
-
-unbiased-requires-2 : tie.Need-unbiased-requires-2
-unbiased-requires-2 c κs = search needs
-
--- what weighing the point answers
-answer : (c : tie.After-measure-candidate) →
-    let a = c .before .before .before .before .before .args in
-    c .measure-candidate .result ≡ measureCandidate (targetOf (now (a .older)) (now (a .newer)) (a .b)) (point (a .y) (a .x))
-answer c =
-    rw (
-      toZ-ofZ (sfits-of (c .before .before .unbiased .ok)),
-      toZ-ofZ (sfits-of (c .before .unbiased2 .ok)),
-      c .before .before .unbiased .ensures,
-      c .before .unbiased2 .ensures,
-    ) at (c .measure-candidate .ensures)
-
-measure-candidate-requires : tie.Need-measure-candidate-requires
-measure-candidate-requires c κs = c .before .before .before .before .pre .0 .ready
-
-enum-known-d : tie.Need-enum-known-d
-enum-known-d c = search needs
+against-requires : tie.Need-against-requires
+against-requires c κs = let p = c .before .before .pre in (p .0 .ready, p .1, p .2)
 
 enum-told : tie.Need-enum-told
 enum-told c = search needs
 
+enum-told-2 : tie.Need-enum-told-2
+enum-told-2 c = search needs
+
+one-more-requires : tie.Need-one-more-requires
+one-more-requires c κs = search needs
+
+enum-known-d : tie.Need-enum-known-d
+enum-known-d c = search needs
+
+add-t11 : tie.Need-add-t11
+add-t11 c = search needs
+
 returns : tie.Need-returns
-returns c = holds-same (start (c .before .before) .pre .0) (probe-point-none _ _ _ (sym (answer (c .before .before)) ∙ c .enum-told .given .1))
-
-add-t12 : tie.Need-add-t12
-add-t12 c = search needs
-
-returns-2 : tie.Need-returns-2
-returns-2 c =
-    let d = c .before .before .before .before in
-    let q = start (d .before .before) .pre in
+returns c =
+    let k = c .before .before .before .before in
+    let a = k .before .before in
+    let q = start a .pre in
     record {
-      is = probe-point-less _ _ _ _ (sym (answer (d .before .before)) ∙ d .d .given .1) (c .before .if1 .taken);
+      is = probe-point-less _ _ _ _ (sym (a .against .ensures) ∙ k .d .given .1) (c .before .if1 .taken);
       down = q .1;
       across = q .2;
       few = omega arith;
     }
 
-add-t13 : tie.Need-add-t13
-add-t13 c = search needs
+one-more-requires-2 : tie.Need-one-more-requires-2
+one-more-requires-2 c κs = search needs
+
+returns-2 : tie.Need-returns-2
+returns-2 c =
+    let a = c .before .before in
+    holds-same (start a .pre .0) (probe-point-none _ _ _ (sym (a .against .ensures) ∙ c .enum-told .given .1))
 
 returns-3 : tie.Need-returns-3
 returns-3 c =
-    let d = c .before .before .before .before in
-    let q = start (d .before .before) .pre .0 in
-    record {
-      is = probe-point-more _ _ _ _ (sym (answer (d .before .before)) ∙ d .d .given .1) (c .before .if1 .left);
-      down = q .down;
-      across = q .across;
-      few = omega arith;
-    }
+    let t = c .before in
+    let a = t .before .before in
+    holds-more (start a .pre .0) (c .one-more .ensures) (probe-point-over _ _ _ (sym (a .against .ensures) ∙ t .enum-told2 .given .1))
+
+returns-4 : tie.Need-returns-4
+returns-4 c =
+    let k = c .before .before .before .before in
+    let a = k .before .before in
+    holds-more (start a .pre .0) (c .one-more2 .ensures) (probe-point-more _ _ _ _ (sym (a .against .ensures) ∙ k .d .given .1) (c .before .if1 .left))
 
 pub probe-point-spec : {M : Type 1} → statement M
 probe-point-spec =
     tie.close
     (tie.spec
-    unbiased-requires
-    unbiased-requires-2
-    measure-candidate-requires
-    enum-known-d
+    against-requires
     enum-told
+    enum-told-2
+    one-more-requires
+    enum-known-d
+    add-t11
     returns
-    add-t12
+    one-more-requires-2
     returns-2
-    add-t13
-    returns-3)
+    returns-3
+    returns-4)

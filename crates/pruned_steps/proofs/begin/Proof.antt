@@ -31,8 +31,7 @@ returns c =
     let e = c .before .before .distortion-of .ensures in
     let a = c .before .before .before .before .before .args in
     record {
-      bound = e .0 .below (e .1)
-          ∙ ap (distortion (pairOf (now (a .older)) (now (a .newer)) (a .b .setting)) (a .b .y) (a .b .x)) first-still;
+      bound = e ∙ ap (distortion (pairOf (now (a .older)) (now (a .newer)) (a .b .setting)) (a .b .y) (a .b .x)) first-still;
       count = refl;
       slot = c .first-slot .ensures;
       counts = refl;
