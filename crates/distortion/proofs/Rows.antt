@@ -3,7 +3,7 @@
 use Prim.Native.Nat.{ℕ, _+_, _-_, _*_, _/_, _%_, _≤_, _<_}
 use mathlib.Core.Path.{_≡_, refl, sym, ap, ap₂, _∙_}
 use mathlib.Core.List.{List}
-use native.Mathlib.Nat.{zero-add, add-assoc, add-mul, mul-assoc, mul-comm, mul-le-mul-right, mul-div-cancel}
+use native.Mathlib.Nat.{zero-add, add-assoc, add-mul, mul-comm, mul-le-mul-right, mul-div-cancel}
 use native.Mathlib.Omega.{arith}
 use borrow.Author.Tests.{le-leb}
 use lib.Dec.{T}
@@ -169,31 +169,27 @@ by-four older newer width n a b m groups k e four few =
 
 -- and what they add up to
 pub block-sum : (measure ceiling : ℕ) (older newer : List ℕ) (width n a b m groups d : ℕ) → n ≡ m → m ≡ 4 * groups → m ≤ 16
-    → (d ≡ rowsUpTo (measureOf measure) ceiling (partFrom b older) (partFrom a newer) width 0 0 m groups) × (d ≤ groups * (4 * (m * measureOf measure .most)))
+    → d ≡ rowsUpTo (measureOf measure) ceiling (partFrom b older) (partFrom a newer) width 0 0 m groups
     → BlockSum measure ceiling older newer width n a b d
 block-sum measure ceiling older newer width n a b m groups d e four small h =
     let is : d ≡ rowsUpTo (measureOf measure) ceiling older newer width a b n groups =
-    rw e (h .0 ∙ pieces-from _ ceiling older newer width a b m (λ g. 4 * g * width) groups) in
+    rw e (h ∙ pieces-from _ ceiling older newer width a b m (λ g. 4 * g * width) groups) in
     let all : n ≡ 4 * groups = e ∙ four in
-    let part : groups * (4 * (m * measureOf measure .most)) ≡ 4 * groups * (4 * groups * measureOf measure .most) =
-    rw four (mul-comm groups _ ∙ mul-assoc 4 _ groups ∙ ap (λ (z : ℕ). 4 * z) (mul-comm _ groups) ∙ sym (mul-assoc 4 groups _)) in
     let quarter : n / 4 ≡ groups = rw (all, mul-comm 4 groups) (mul-div-cancel groups (omega arith)) in
     record {
       up-to = rw (← all) at (rows-up-to (measureOf measure) ceiling older newer width a b n groups d is);
-      most = rw (all, ← part) (h .1);
       is = rw (le-leb n 16 (omega arith), quarter) is;
     }
 
 -- and what the halves of a block of 32 do
 pub block-halves : (measure ceiling : ℕ) (older newer : List ℕ) (width n a b d : ℕ) → n ≡ 32
-    → (d ≡ halvesUpTo (measureOf measure) ceiling (partFrom b older) (partFrom a newer) width 0 0 16) × (d ≤ 16 * (4 * (16 * measureOf measure .most)))
+    → d ≡ halvesUpTo (measureOf measure) ceiling (partFrom b older) (partFrom a newer) width 0 0 16
     → BlockSum measure ceiling older newer width n a b d
 block-halves measure ceiling older newer width n a b d e h =
-    let is : d ≡ halvesUpTo (measureOf measure) ceiling older newer width a b 16 = h .0 ∙ pieces-from _ ceiling older newer width a b 16 (half width) 16 in
+    let is : d ≡ halvesUpTo (measureOf measure) ceiling older newer width a b 16 = h ∙ pieces-from _ ceiling older newer width a b 16 (half width) 16 in
     rw e
     (record {
       up-to = rw (is, by-halves (measureOf measure) older newer width a b) (sumUpTo-is ceiling _ 16);
-      most = omega (arith, h .1);
       is = is;
     })
 

@@ -152,7 +152,6 @@ pub record UpTo (ceiling all d : ℕ) : Type 0 where
 -- d is the distortion by a measure of the blocks that begin at places a and b as far as the ceiling goes: its rows four at a time, of N 32 by halves
 pub record BlockSum (measure ceiling : ℕ) (older newer : List ℕ) (width n a b d : ℕ) : Type 0 where
   pub up-to : UpTo ceiling (rowsFrom (measureOf measure) older newer width a b n n) d
-  pub most : d ≤ n * (n * measureOf measure .most)
   pub is : d ≡ blockUpTo (measureOf measure) ceiling older newer width a b n
 
 -- which code measures a block: N for absolute differences, N + 64 for squares; and back
@@ -188,7 +187,7 @@ pub kernel-sum : {measure n kernel ceiling : ℕ} {older newer : List ℕ} {widt
     → BlockSum (measureBy kernel) ceiling older newer width (sizeBy kernel) a b d
     → BlockSum measure ceiling older newer width n a b d
 kernel-sum k s =
-    record { up-to = rw (k .size, k .measure-is) at (s .up-to); most = rw (k .size, k .measure-is) at (s .most); is = rw (k .size, k .measure-is) at (s .is) }
+    record { up-to = rw (k .size, k .measure-is) at (s .up-to); is = rw (k .size, k .measure-is) at (s .is) }
 
 module _ (ceiling : ℕ) (f : ℕ → ℕ) where
   pub sumUpTo-none : sumUpTo ceiling f 0 ≡ 0
@@ -293,7 +292,3 @@ pub distortion-largest : (measure n : ℕ) → T (blockSizeOk n) → n * (n * me
 distortion-largest measure n t =
     let s = block-size n t .most in
     mul-le-mul s (mul-le-mul s (most-small measure))
-
--- and so none reaches the top of its type
-pub distortion-small : (measure n : ℕ) → T (blockSizeOk n) → n * (n * measureOf measure .most) < 4294967295
-distortion-small measure n t = omega (arith, distortion-largest measure n t)

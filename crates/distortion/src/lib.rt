@@ -58,8 +58,7 @@ fn rows_by_four(
     ceiling: u32,
 ) -> u32
     requires { ⌜ Rows (now older) (now newer) width n groups ⌝ }
-    ensures { λ d. ⌜ (d ≡ rowsUpTo (measureOf measure) ceiling (now (older .entry)) (now (newer .entry)) width 0 0 n groups)
-        × (d ≤ groups * (4 * (n * measureOf measure .most))) ⌝ }
+    ensures { λ d. ⌜ d ≡ rowsUpTo (measureOf measure) ceiling (now (older .entry)) (now (newer .entry)) width 0 0 n groups ⌝ }
 {
     let down = 4 * width;
     let mut sum: u32 = 0;
@@ -80,8 +79,7 @@ fn rows_by_four(
 // better code than for 32. p is the place of this half and q that of the next.
 fn rows_by_halves(older: &[u8], newer: &[u8], measure: u32, width: usize, ceiling: u32) -> u32
     requires { ⌜ Rows (now older) (now newer) width 32 8 ⌝ }
-    ensures { λ d. ⌜ (d ≡ halvesUpTo (measureOf measure) ceiling (now (older .entry)) (now (newer .entry)) width 0 0 16)
-        × (d ≤ 16 * (4 * (16 * measureOf measure .most))) ⌝ }
+    ensures { λ d. ⌜ d ≡ halvesUpTo (measureOf measure) ceiling (now (older .entry)) (now (newer .entry)) width 0 0 16 ⌝ }
 {
     let down = 4 * width;
     let mut total: u32 = 0;

@@ -1,6 +1,6 @@
 -- The first row at whose end a sum passes a ceiling: as a loop finds it, as a relation, and that it is the last where the distortion is within.
 use Prim.Native.Nat.{ℕ, zero, suc, _+_, _-_, _≤_, _<_}
-use mathlib.Core.Path.{_≡_, refl, ap, _∙_}
+use mathlib.Core.Path.{_≡_, refl}
 use mathlib.Core.Bool.{Bool, true, false, cond}
 use native.Mathlib.Nat.{add-zero, add-suc, le-trans}
 use native.Mathlib.Numerals.{add-one}

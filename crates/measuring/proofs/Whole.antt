@@ -2,13 +2,12 @@
 --   oldAnswer       the answer with the distortion and all N rows
 --   measure-whole   no ceiling below the distortion changes it
 use Prim.Native.Nat.{ℕ, _*_, _≤_}
-use mathlib.Core.Path.{_≡_, ap, _∙_}
+use mathlib.Core.Path.{_≡_, ap}
 use mathlib.Core.List.{List}
 use native.Mathlib.Nat.{le-trans}
 use borrow.Author.Tests.{eq-eqb}
 use lib.ListN.{length, getD}
 use Rattle.order.specs.declared.Vector.{Vector}
-use Rattle.measures.specs.Measures.{measureOf}
 use Rattle.frame.specs.Pictures.{Pair}
 use Rattle.distortion.specs.Blocks.{distortion, distortion-most, measureIn, newerBlock, olderBlock}
 use Rattle.measuring.specs.declared.Measured.{Measured}

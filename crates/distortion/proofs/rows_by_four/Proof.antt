@@ -56,10 +56,8 @@ returns c =
     let l = c .before .before .loop in
     let a = c .before .before .before .before .before .args in
     let all : a .groups ≡ l .g + (a .groups - l .g) = omega arith in
-    let four = 4 * (a .n * measureOf (a .measure) .most) in
-    let most : l .g * four ≤ a .groups * four = mul-le-mul-right four (l .inv .0) in
     let stopped = sumUpTo-passed (a .ceiling) _ (l .g) (a .groups - l .g) (rw (l .inv .3) at (c .if1 .taken)) in
-    (l .inv .3 ∙ sym (rw (← all) at stopped), omega arith)
+    l .inv .3 ∙ sym (rw (← all) at stopped)
 
 four-rows-requires : tie.Need-four-rows-requires Inv-loop μ-loop
 four-rows-requires c κs = omega (arith, turn (c .before), c .before .before .before .before .before .pre)
@@ -89,7 +87,7 @@ returns-2 : tie.Need-returns-2 Inv-loop μ-loop
 returns-2 c =
     let l = c .before .loop in
     let e : l .g ≡ c .before .before .before .before .args .groups = omega arith in
-    rw (← e) (l .inv .3, l .inv .2)
+    rw (← e) (l .inv .3)
 
 pub rows-by-four-spec : {M : Type 1} → statement M
 rows-by-four-spec =

@@ -30,7 +30,7 @@ returns c =
     let a = c .before .before .before .before .before .args in
     let all : 16 ≡ l .g + (16 - l .g) = omega arith in
     let stopped = sumUpTo-passed (a .ceiling) _ (l .g) (16 - l .g) (rw (l .inv .4) at (c .if1 .taken)) in
-    (l .inv .4 ∙ sym (rw (← all) at stopped), omega (arith, mul-le-mul-right (4 * (16 * measureOf (a .measure) .most)) (l .inv .0)))
+    l .inv .4 ∙ sym (rw (← all) at stopped)
 
 four-rows-requires : tie.Need-four-rows-requires Inv-loop μ-loop
 four-rows-requires c κs =
@@ -75,7 +75,7 @@ returns-2 : tie.Need-returns-2 Inv-loop μ-loop
 returns-2 c =
     let l = c .before .loop in
     let e : l .g ≡ 16 = omega arith in
-    (rw e at (l .inv .4), rw e at (l .inv .3))
+    rw e at (l .inv .4)
 
 pub rows-by-halves-spec : {M : Type 1} → statement M
 rows-by-halves-spec =

@@ -4,7 +4,7 @@ use mathlib.Core.Path.{_≡_, sym, ap, _∙_}
 use native.Mathlib.Nat.{le-of-lt, zero-mul, mul-le-mul, mul-le-mul-right}
 use native.Mathlib.Omega.{arith}
 use Rattle.base.specs.Index.{row-next}
-use Rattle.base.specs.Sum.{sumTo, sumTo-none, sumTo-more}
+use Rattle.base.specs.Sum.{sumTo-none, sumTo-more}
 use Rattle.measures.specs.Measures.{measureOf, most-small}
 use Rattle.distortion.specs.Blocks.{rowFrom, rowsFrom, size-small}
 use Rattle.measuring.specs.Measurement.{rowsMeasured}

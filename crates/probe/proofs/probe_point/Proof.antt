@@ -1,5 +1,5 @@
 -- `probe_point`: the point is no candidate, or over the least, or its distortion is less than the least, or no less.
-use mathlib.Core.Path.{_≡_, sym, _∙_}
+use mathlib.Core.Path.{sym, _∙_}
 use native.Mathlib.Omega.{arith}
 use borrow.Author.Needs.{needs}
 use Rattle.probe.proofs.Looks.{holds-same, holds-more, probe-point-none, probe-point-over, probe-point-less, probe-point-more}
