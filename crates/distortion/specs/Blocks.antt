@@ -258,11 +258,16 @@ pub record Comparable (older newer : List ℕ) (s : Setting) (y x r c : ℕ) : T
   pub down : r + s .n ≤ s .height
   pub across : c + s .n ≤ s .width
 
--- of pels, a distortion by a measure is at most the most that two of them differ, × N²
-pub distortion-most : (measure n : ℕ) (a b : Block) → ((i j : ℕ) → i < n → j < n → (a i j ≤ 255) × (b i j ≤ 255))
-    → distortionBy (measureOf measure) n a b ≤ n * (n * measureOf measure .most)
-unfolding distortionBy
-distortion-most measure n a b h = sumOver-bound _ n n _ (λ i j hi hj. let p = h i j hi hj in pel-most measure _ _ (p .0) (p .1))
+-- a frame's pels are bytes
+abbrev pub Bytes : List ℕ → Type 0
+Bytes frame = (k : ℕ) → getD frame k 0 ≤ 255
+
+-- of such frames, a distortion by a measure is at most the most that two pels differ, × N²
+pub distortion-most : (p : Pair) (y x : ℕ) (v : Vector) → Bytes (p .older) → Bytes (p .newer)
+    → distortion p y x v ≤ p .setting .n * (p .setting .n * measureIn p .most)
+unfolding distortion distortionBy
+distortion-most p y x v older newer =
+    sumOver-bound _ (p .setting .n) (p .setting .n) _ (λ i j hi hj. pel-most (p .setting .measure) _ _ (newer _) (older _))
 
 -- where such blocks begin, and that their rows lie inside
 pub begins : (older newer : List ℕ) (s : Setting) (y x r c : ℕ) → Comparable older newer s y x r c

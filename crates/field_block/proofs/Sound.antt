@@ -6,7 +6,7 @@ use mathlib.Core.List.{List, [], _∷_}
 use native.Mathlib.Nat.{le-trans}
 use native.Mathlib.Omega.{arith}
 use lib.Dec.{T, eqb→eq}
-use lib.ListN.{getD, length, replicate}
+use lib.ListN.{length, replicate}
 use Rattle.base.specs.Tests.{T-true}
 use Rattle.base.specs.Picks.{pick-few}
 use Rattle.order.specs.declared.Vector.{Vector}
@@ -18,7 +18,7 @@ use Rattle.frame.specs.Pictures.{Pair, pairOf, largestN, lastCount}
 use Rattle.frame.specs.Candidates.{Candidate, candidate, candidate-yes}
 use Rattle.refusals.specs.Cross.{crossWindow, cross as cross-is}
 use Rattle.refusals.specs.Refusals.{settingOf, blockSizeOk, Requested, window-small, windowOk}
-use Rattle.distortion.specs.Blocks.{distortion, distortion-most, distortion-largest}
+use Rattle.distortion.specs.Blocks.{distortion, Bytes, distortion-most, distortion-largest}
 use Rattle.search.specs.declared.SearchResult.{SearchResult}
 use Rattle.search.specs.SearchResult.{searchResult, onlyAtOne}
 use Rattle.search.specs.Target.{target}
@@ -37,10 +37,6 @@ use Rattle.frame.specs.Grid.{blocks, blockRow, blockColumn, block-down, block-a
 use Rattle.block.specs.Block.{searchBy, searched-full, searched-pruned, searched-four-step, searched-cross}
 use Rattle.field_block.specs.Blocks.{searchAt, Sound}
 
--- pels are bytes
-abbrev pub Bytes : List ℕ → Type 0
-Bytes l = (i : ℕ) → getD l i 0 ≤ 255
-
 -- an answer that counts at m = 1 alone
 sound-at-one : (v : Vector) (d n : ℕ) → Within 16 v → d ≤ largestN * (largestN * squares .most) → n ≤ vectorCount → Sound (searchResult v d (onlyAtOne n) 0)
 sound-at-one v d n near few h = record {
@@ -55,10 +51,9 @@ places-few p w y x = pick-few _ vectorCount
 
 module _ (p : Pair) (bytes : Bytes (p .older) × Bytes (p .newer)) (allowed : T (blockSizeOk (p .setting .n))) where
   distortion-few : (y x : ℕ) (v : Vector) → distortion p y x v ≤ largestN * (largestN * squares .most)
-  unfolding distortion
   distortion-few y x v =
       le-trans
-      (distortion-most (p .setting .measure) (p .setting .n) _ _ (λ i j hi hj. (bytes .1 _, bytes .0 _)))
+      (distortion-most p y x v (bytes .0) (bytes .1))
       (distortion-largest (p .setting .measure) (p .setting .n) allowed)
 
   module _ (w y x : ℕ) (small : w ≤ 16) (down : y + p .setting .n ≤ p .setting .height) (across : x + p .setting .n ≤ p .setting .width) where

@@ -9,7 +9,8 @@ use Rattle.frame.specs.Grid.{blockRow, blockColumn, block-down, block-across}
 use Rattle.refusals.specs.Refusals.{settingOf, Requested, requested, window-small}
 use Rattle.pruned_region.proofs.Windows.{covers-frame}
 use Rattle.block.specs.Block.{search-fine, block-accepted, searched-pruned}
-use Rattle.field_block.proofs.Sound.{Bytes, block-is}
+use Rattle.distortion.specs.Blocks.{Bytes}
+use Rattle.field_block.proofs.Sound.{block-is}
 use Rattle.field_block.proofs.search_at.Statement.{statement}
 use Rattle.field_block.proofs.search_at.Tie as tie
 
