@@ -4,7 +4,9 @@
 
 use crate::archive;
 use crate::group::Group;
-use crate::question::{Measuring, Pair, Request, Viewing, FAR_CEILINGS, NO_MEASURES, SIZES};
+use crate::question::{
+    Measured, Measuring, Pair, Request, Viewing, FAR_CEILINGS, NO_MEASURES, SIZES,
+};
 use crate::rival;
 
 /// Bits above the lower 32, which a careless narrowing would lose.
@@ -36,18 +38,24 @@ fn searched(group: &mut Group, pair: &Pair, request: Request, refusal: i64) {
     group.same(format_args!("{pair}, {request}"), answer, wanted);
 }
 
-/// Likewise for the measuring call, by each of the far ceilings in place of the question's own.
-fn measured(group: &mut Group, pair: &Pair, question: Measuring, refusal: i64) {
-    for ceiling in FAR_CEILINGS {
+/// The measuring call and the rival agree, by each of the far ceilings in place of the question's own. Hands out the answers.
+fn by_far_ceilings(group: &mut Group, pair: &Pair, question: Measuring) -> [Measured; 4] {
+    FAR_CEILINGS.map(|ceiling| {
         let question = Measuring {
             ceiling,
             ..question
         };
         let answer = archive::measure(pair, &question);
         let wanted = rival::measure(pair, &question);
-        group.same(format_args!("{pair}, {question}"), answer.refusal, refusal);
         group.same(format_args!("{pair}, {question}"), answer, wanted);
-    }
+        answer
+    })
+}
+
+/// Likewise for the measuring call: refused alike whatever the ceiling.
+fn measured(group: &mut Group, pair: &Pair, question: Measuring, refusal: i64) {
+    let refusals = by_far_ceilings(group, pair, question).map(|answer| answer.refusal);
+    group.same(format_args!("{pair}, {question}"), refusals, [refusal; 4]);
 }
 
 /// Likewise for the row view.
@@ -579,20 +587,16 @@ fn table() -> u64 {
                 }
                 for (dy, dx) in [(0, 0), (-1, 0), (0, 1), (17, 0), (0, -17), (i32::MIN, 0)] {
                     for measure in [1, 2, 3] {
-                        for ceiling in FAR_CEILINGS {
-                            let question = Measuring {
-                                n,
-                                row,
-                                column,
-                                dy,
-                                dx,
-                                measure,
-                                ceiling,
-                            };
-                            let answer = archive::measure(&pair, &question);
-                            let wanted = rival::measure(&pair, &question);
-                            others.same(format_args!("{pair}, {question}"), answer, wanted);
-                        }
+                        let question = Measuring {
+                            n,
+                            row,
+                            column,
+                            dy,
+                            dx,
+                            measure,
+                            ceiling: 0,
+                        };
+                        by_far_ceilings(&mut others, &pair, question);
                     }
                 }
                 for side in [0, 1, 2] {

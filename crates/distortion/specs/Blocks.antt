@@ -170,15 +170,19 @@ pub record Kernel (measure n kernel : ℕ) : Type 0 where
   pub size : sizeBy kernel ≡ n
   pub measure-is : measureOf (measureBy kernel) ≡ measureOf measure
 
-pub kernel-is : (measure n : ℕ) → n < 64 → Kernel measure n (kernelOf measure n)
+-- an allowed N is small
+pub size-small : (n : ℕ) → T (blockSizeOk n) → n < 64
+size-small n t = omega (arith, block-size n t .most)
+
+pub kernel-is : {measure n kernel : ℕ} → kernel ≡ kernelOf measure n → T (blockSizeOk n) → Kernel measure n kernel
 unfolding kernelOf
-kernel-is measure n h = go (ℕ-discrete measure 1)
+kernel-is {measure} {n} e t = rw e (go (size-small n t) (ℕ-discrete measure 1))
   where
-    go : Dec (measure ≡ 1) → Kernel measure n (cond (eqb measure 1) n (n + 64))
-    go (yes e) =
+    go : n < 64 → Dec (measure ≡ 1) → Kernel measure n (cond (eqb measure 1) n (n + 64))
+    go h (yes e) =
         let one : n / 64 + 1 ≡ 1 = omega arith in
         rw (eq-eqb measure 1 e) (record { small = omega arith; size = omega arith; measure-is = rw (one, e) })
-    go (no e) =
+    go h (no e) =
         let two : (n + 64) / 64 + 1 ≡ 2 = omega arith in
         rw (ne-eqb measure 1 e) (record { small = omega arith; size = omega arith; measure-is = rw two (measure-other measure e) })
 
@@ -287,10 +291,6 @@ block-inside older newer s y x r c k = record {
   wide = k .placed .paired .fitting .wide;
   allowed = k .placed .paired .allowed;
 }
-
--- an allowed N is small
-pub size-small : (n : ℕ) → T (blockSizeOk n) → n < 64
-size-small n t = omega (arith, block-size n t .most)
 
 -- no distortion is larger than the largest by squares
 pub distortion-largest : (measure n : ℕ) → T (blockSizeOk n) → n * (n * measureOf measure .most) ≤ largestN * (largestN * squares .most)

@@ -1,6 +1,7 @@
 -- 02, request 5: "Measuring gets a ceiling, any unsigned 32-bit number: up to it, the distortion comes back; beyond it, only 'over'. Both happen for no
 -- other reason. With either comes the number of rows measured: the first at whose end the sum passes the ceiling, else N." To pass is to exceed.
---   rowsMeasured   the first of n rows at whose end the sum passes the ceiling, else n; `sum m` is the sum at the end of row m, rows counted from 1
+--   rowsMeasured   the first of n rows at whose end the sum passes the ceiling, else n; `sum m` is the sum at the end of row m, rows counted from 1, and
+--                  `sum 0`, before them all, is 0 and passes nothing
 --   FirstPassing   the same as a relation, without a computation: `rows-first` of proofs/Passing.antt
 --   withRows       the rows that come with either
 --   measurement    the answer for two N × N blocks by a measure

@@ -106,8 +106,8 @@ heldTable n = replicate n 6
 abbrev pub heldBuffer : ℕ → List ℕ
 heldBuffer n = replicate n 8
 
--- a search of the block at row y, column x; a vector of the block at (0,0) measured under a ceiling; the distance at m of the two blocks at (0,0); a field with
--- what list and table held; a travel by window w; calls on a track, from New on; a log written into a buffer, read into a list, walked, printed
+-- a search of the block at row y, column x; a vector of the block at (0,0) measured under a ceiling; the distance at m of the two blocks at (0,0); a
+-- field with what list and table held; a travel by window w; calls on a track, from New on; a log written into a buffer, read into a list, walked, printed
 pub data Query : Type 0 where
   search : Pair → (Pair → Request) → (y x : ℕ) → Query
   measuring : Pair → Vector → (ceiling : ℕ) → Query

@@ -31,11 +31,12 @@ turn i =
     let e : 4 * (g + 1) ≡ 4 * g + 4 = omega arith in
     (rw e (add-mul (4 * g) 4 (a .width)), mul-le-mul-right (a .width) (omega arith))
 
--- half way down the sum does not pass the ceiling
+-- half way down the sum is that of eight rows
 half : (l : tie.At-loop Inv-loop μ-loop) → l .loop .g ≡ 2 → let a = l .before .before .args in
     l .loop .sum ≡ copyRows (a .older .now) (a .block .now) (a .width) (a .b) 8
 half l e = rw e at (l .loop .inv .4)
 
+-- and whoever goes on from there has not passed the ceiling
 on : (j : tie.Joined1 Inv-loop μ-loop) → let a = j .before .before .before .before .args in
     2 < j .before .before .loop .g + 1 → copyRows (a .older .now) (a .block .now) (a .width) (a .b) 8 ≤ a .ceiling
 on j h =

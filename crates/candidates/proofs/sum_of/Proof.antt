@@ -5,7 +5,7 @@ use denote.Ref.{now}
 use lib.ListN.{length}
 use Rattle.order.specs.Preference.{preferred}
 use Rattle.frame.specs.Candidates.{olderRow, olderColumn}
-use Rattle.distortion.specs.Blocks.{Comparable, begins, block-inside, Kernel, kernelOf, kernel-is, kernel-sum, size-small}
+use Rattle.distortion.specs.Blocks.{Comparable, begins, block-inside, kernel-is, kernel-sum, size-small}
 use Rattle.candidates.proofs.Older.{stands, comparable, by-rows}
 use Rattle.candidates.proofs.sum_of.Statement.{statement}
 use Rattle.candidates.proofs.sum_of.Tie as tie
@@ -33,24 +33,20 @@ begins-at-requires c κs =
     let s = c .before .before .before .before .before in
     (stands _ _ _ _ (s .pre .0 .0) (s .pre .1 .1), s .pre .0 .1, s .pre .1 .0)
 
--- the kernel of the block's measure and N
-kernel-in : (s : tie.Start) → let t = s .args .b .setting in Kernel (t .measure) (t .n) (kernelOf (t .measure) (t .n))
-kernel-in s = kernel-is _ _ (size-small _ (pair-in s .placed .paired .allowed))
-
 kernel-requires : tie.Need-kernel-requires
 kernel-requires c κs = size-small _ (pair-in (start (c .before)) .placed .paired .allowed)
 
 distortion-from-requires : tie.Need-distortion-from-requires
 distortion-from-requires c κs =
     let s = start (c .before .before) in
-    rw (c .kernel .ensures, c .before .begins-at .ensures) (kernel-in s .small, rw (kernel-in s .size) (block-inside _ _ _ _ _ _ _ (pair-in s)))
+    let k = kernel-is (c .kernel .ensures) (pair-in s .placed .paired .allowed) in
+    (k .small, rw (k .size, c .before .begins-at .ensures) (block-inside _ _ _ _ _ _ _ (pair-in s)))
 
 returns : tie.Need-returns
 returns c =
     let s = start (c .before .before .before) in
-    let d = kernel-sum (kernel-in s) (rw (c .before .kernel .ensures) at (c .distortion-from .ensures)) in
-    let there = c .before .before .begins-at .ensures in
-    rw (by-rows _ _ _ _) (rw there at (d .up-to))
+    let k = kernel-is (c .before .kernel .ensures) (pair-in s .placed .paired .allowed) in
+    rw (by-rows _ _ _ _) (rw (c .before .before .begins-at .ensures) at (kernel-sum k (c .distortion-from .ensures) .up-to))
 
 pub sum-of-spec : {M : Type 1} → statement M
 sum-of-spec = tie.close (tie.spec mul-here add-here begins-at-requires kernel-requires distortion-from-requires returns)

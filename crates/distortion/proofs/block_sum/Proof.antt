@@ -1,12 +1,9 @@
 -- `block_sum`: the blocks begin at those places.
-use Prim.Native.Nat.{ℕ, _+_, _*_, _≤_}
-use mathlib.Core.Path.{_≡_}
+use Prim.Native.Nat.{_+_, _*_, _≤_}
 use native.Mathlib.Omega.{arith}
-use lib.Dec.{T}
 use lib.ListN.{length}
 use Rattle.measures.specs.Measures.{measureOf}
-use Rattle.refusals.specs.Refusals.{blockSizeOk}
-use Rattle.distortion.specs.Blocks.{Kernel, kernelOf, kernel-is, kernel-sum, size-small, block-rows, begins, block-inside}
+use Rattle.distortion.specs.Blocks.{kernel-is, kernel-sum, size-small, block-rows, begins, block-inside}
 use Rattle.distortion.proofs.block_sum.Statement.{statement}
 use Rattle.distortion.proofs.block_sum.Tie as tie
 
@@ -29,20 +26,16 @@ add-b c = omega (arith, firsts (c .before .before))
 kernel-requires : tie.Need-kernel-requires
 kernel-requires c κs = size-small _ (c .before .before .pre .placed .paired .allowed)
 
--- the kernel of a measure and an allowed N
-kernel-at : {measure n kernel : ℕ} → kernel ≡ kernelOf measure n → T (blockSizeOk n) → Kernel measure n kernel
-kernel-at {measure} {n} e t = rw e (kernel-is measure n (size-small n t))
-
 distortion-from-requires : tie.Need-distortion-from-requires
 distortion-from-requires c κs =
     let s = c .before .before .before in
-    let k = kernel-at (c .kernel .ensures) (s .pre .placed .paired .allowed) in
+    let k = kernel-is (c .kernel .ensures) (s .pre .placed .paired .allowed) in
     (k .small, rw (k .size) (block-inside _ _ _ _ _ _ _ (s .pre)))
 
 returns : tie.Need-returns
 returns c =
     let s = c .before .before .before .before in
-    let k = kernel-at (c .before .kernel .ensures) (s .pre .placed .paired .allowed) in
+    let k = kernel-is (c .before .kernel .ensures) (s .pre .placed .paired .allowed) in
     rw (block-rows (measureOf (s .args .s .measure))) (kernel-sum k (c .distortion-from .ensures) .up-to)
 
 pub block-sum-spec : {M : Type 1} → statement M
