@@ -1,0 +1,3 @@
+pub mod Candidates
+pub mod Keys
+pub mod Choice
