@@ -48,7 +48,7 @@ module _ (D : ℕ → ℕ) (dist limit : ℕ → ℕ → ℕ) (ks : List ℕ) wh
   rounds-counted (m ∷ ms) s c = rounds-counted ms _ (sift-counted m _ (lower-counted m s c))
 
 -- each round tests once
-tested-rounds : (D : ℕ → ℕ) (dist limit : ℕ → ℕ → ℕ) (ms : List ℕ) (s : Pruning) → length (rounds D dist limit ms s .tested) ≡ length (s .tested) + length ms
+pub tested-rounds : (D : ℕ → ℕ) (dist limit : ℕ → ℕ → ℕ) (ms : List ℕ) (s : Pruning) → length (rounds D dist limit ms s .tested) ≡ length (s .tested) + length ms
 unfolding rounds sift lower
 tested-rounds D dist limit [] s = omega arith
 tested-rounds D dist limit (m ∷ ms) s =

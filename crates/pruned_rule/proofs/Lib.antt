@@ -5,3 +5,6 @@ pub mod Loops
 pub mod Counts
 pub mod Pruned
 pub mod Search
+pub mod Finer
+pub mod Nested
+pub mod Open

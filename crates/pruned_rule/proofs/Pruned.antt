@@ -33,7 +33,7 @@ pub record Holds (D : ℕ → ℕ) (ks : List ℕ) (s : Pruning) : Type 0 where
   pub apart : {k : ℕ} → k ∈ s .left → k ∈ s .dropped → ⊥
 
 -- E is never below the least distortion
-bound-ge : {D : ℕ → ℕ} {ks : List ℕ} {s : Pruning} → Holds D ks s → D (leastOf D ks) ≤ s .bound
+pub bound-ge : {D : ℕ → ℕ} {ks : List ℕ} {s : Pruning} → Holds D ks s → D (leastOf D ks) ≤ s .bound
 bound-ge {D} {ks} h = let (k, m, e) = h .attained in subst (λ (x : ℕ). D (leastOf D ks) ≤ x) e (leastOf-le D ks m)
 
 -- at least one is left

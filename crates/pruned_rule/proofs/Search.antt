@@ -25,10 +25,10 @@ in-cond : (t : Bool) {m x : ℕ} {rest : List ℕ} → m ∈ cond t [] (x ∷ re
 in-cond true i = absurd (List·Memᴰ·not-nil i)
 in-cond false i = List·Memᴰ·cases-cons i
 
-half-pow : (j : ℕ) → 2 ^ suc j / 2 ≡ 2 ^ j
+pub half-pow : (j : ℕ) → 2 ^ suc j / 2 ≡ 2 ^ j
 half-pow j = ap (λ x. x / 2) (pow-suc 2 j) ∙ mul-div-cancel (2 ^ j) (zero-lt-suc 1)
 
-pow-dvd : (j : ℕ) → 2 ^ j ∣ 2 ^ suc j
+pub pow-dvd : (j : ℕ) → 2 ^ j ∣ 2 ^ suc j
 pow-dvd j = rw pow-suc (dvd-mul-right (2 ^ j) 2)
 
 halves-divide : (n j : ℕ) {m : ℕ} → m ∈ halves n (2 ^ j) → m ∣ 2 ^ j
