@@ -75,9 +75,9 @@ pub fn search_block(older: &[u8], newer: &[u8], q: Request, y: usize, x: usize) 
     if q.search == 4 {
         return cross::search(older, newer, b, q.t);
     }
-    let order = order::table();
     if q.search == 2 {
+        let order = order::table();
         return pruned_alone(older, newer, &order, b);
     }
-    full::search(older, newer, &order, b)
+    full::search(older, newer, b)
 }

@@ -1,2 +1,5 @@
-pub mod Older
+pub mod Keys
+pub mod Reached
+pub mod Copies
+pub mod Answer
 pub mod Laws

@@ -12,7 +12,7 @@ use Rattle.block.specs.Block.{searched-four-step, searched-cross, search
 use Rattle.block.proofs.search_block.Statement.{statement}
 use Rattle.block.proofs.search_block.Tie as tie
 
-abbrev sized : tie.After-table → tie.After-setting-of
+abbrev sized : tie.After-struct-known3 → tie.After-setting-of
 sized c = c .before .before .before .before .before
 
 -- past the chain
@@ -71,20 +71,21 @@ table-requires : tie.Need-table-requires
 table-requires c κs = search needs
 
 pruned-alone-requires : tie.Need-pruned-alone-requires
-pruned-alone-requires c κs = (ready (sized (c .before .before .before)), c .before .before .before .table .ensures)
+pruned-alone-requires c κs = (ready (sized (c .before .before .before)), c .before .table .ensures)
 
 returns-4 : tie.Need-returns-4
 returns-4 c =
-    let z = sized (c .before .before .before .before) in
-    (rw (z .setting-of .ensures) at (c .pruned-alone .ensures)) ∙ sym (accepted z ∙ searched-pruned _ _ _ _ (c .before .before .if4 .taken))
+    let t = c .before .before .before in
+    let z = sized (t .before) in
+    (rw (z .setting-of .ensures) at (c .pruned-alone .ensures)) ∙ sym (accepted z ∙ searched-pruned _ _ _ _ (t .if4 .taken))
 
 search-requires-3 : tie.Need-search-requires-3
-search-requires-3 c κs = (ready (sized (c .before .before .before)), c .before .before .before .table .ensures)
+search-requires-3 c κs = ready (sized (c .before))
 
 returns-5 : tie.Need-returns-5
 returns-5 c =
-    let d = c .before .before in
-    let z = sized (d .before .before) in
+    let d = c .before in
+    let z = sized (d .before) in
     let a = searchable _ _ _ _ _ (zero-is (z .before)) .requested in
     let q = z .before .before .before .before .before .args .q in
     let one : q .search ≡ 1 = omega (
@@ -92,8 +93,8 @@ returns-5 c =
       a .least,
       a .most,
       d .if4 .left,
-      d .before .before .before .if3 .left,
-      d .before .before .before .before .before .if2 .left,
+      d .before .before .if3 .left,
+      d .before .before .before .before .if2 .left,
     ) in
     (rw (z .setting-of .ensures) at (c .search3 .ensures)) ∙ sym (accepted z ∙ searched-full _ _ _ _ one)
 

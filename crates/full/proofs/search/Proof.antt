@@ -1,70 +1,84 @@
--- `search`: the array has all candidates, and the first of least distortion among them is the exhaustive best.
-use Prim.Native.Nat.{_<_}
-use mathlib.Core.Path.{refl}
+-- `search`: the least key is that of the exhaustive best, and the reach has as many candidates as it has places.
+use Prim.Native.Nat.{_*_, _≤_}
+use mathlib.Core.Path.{_≡_, refl, ap, sym, _∙_}
+use native.Mathlib.Nat.{mul-le-mul}
 use native.Mathlib.Omega.{arith}
 use borrow.Author.Needs.{needs, sfits-of, fits-under}
 use denote.Ref.{now}
-use mir.Syntax.{w32}
+use mir.Syntax.{w32, w64}
 use mir.Facts.{toZ-ofZ}
-use Rattle.base.specs.Picks.{pick-head}
-use Rattle.frame.specs.Pictures.{pairOf}
-use Rattle.search.proofs.Exhaustive.{still-passes}
-use Rattle.candidates.specs.Gathered.{candidateAt}
-use Rattle.candidates.proofs.Listing.{front-take, gathered-few, gathered-listed}
-use Rattle.search.specs.Exhaustive.{best}
+use Rattle.frame.specs.declared.Region.{Region}
+use Rattle.reach.proofs.Candidates.{ready-standing, reach-bounds, reach-count}
 use Rattle.full.specs.Full.{fullSearch}
+use Rattle.full.proofs.Answer.{Found, found}
 use Rattle.full.proofs.search.Statement.{statement}
 use Rattle.full.proofs.search.Tie as tie
 
-abbrev start : tie.After-remaining2 → tie.Start
-start c = c .before .before .before .before .before
+abbrev start : tie.After-least-key → tie.Start
+start k = k .before .before .before .before
 
--- (0,0) is among them
-some : (g : tie.After-gather) → 0 < g .gather .result
-some g =
-    let s = g .before .before .before .before in
-    let r = s .pre .0 in
-    let b = s .args .b in
-    let still = still-passes (pairOf (now (s .args .older)) (now (s .args .newer)) (b .setting)) (b .w) (b .y) (b .x) (r .window) (r .placed .down)
-    (r .placed .across) in
-    omega (arith, g .gather .ensures .many, pick-head (candidateAt b) 1088 still .0)
+answer : (k : tie.After-least-key) → let a = start k .args in Found (now (a .older)) (now (a .newer)) (a .b) (k .least-key .result)
+answer k = found _ _ _ _ (ready-standing _ _ _ (start k .pre)) (k .least-key .ensures .0)
 
-gather-requires : tie.Need-gather-requires
-gather-requires c κs = (c .before .before .before .pre .1, refl)
+-- at most 33 rows and columns
+few : (k : tie.After-reach) → k .reach .result .rows * k .reach .result .columns ≤ 1089
+few k =
+    let s = k .before .before .before in
+    let d = reach-bounds (s .args .b) (ready-standing _ _ _ (s .pre)) in
+    rw (k .reach .ensures) (mul-le-mul {n₂ = 33} {m₂ = 33} (omega (arith, d .few-rows)) (omega (arith, d .few-columns)))
 
-choose-of-many-requires : tie.Need-choose-of-many-requires
-choose-of-many-requires c κs =
-    let g = c .before in
-    let s = g .before .before .before .before in
-    (s .pre, (gathered-listed _ (g .gather .ensures) refl, some g))
+reach-requires : tie.Need-reach-requires
+reach-requires c κs = ready-standing _ _ _ (c .before .before .pre)
 
-vector-at-requires : tie.Need-vector-at-requires
-vector-at-requires c κs = (start (c .before) .pre .1, omega (arith, c .choose-of-many .ensures .small))
+least-key-requires : tie.Need-least-key-requires
+least-key-requires c κs = (c .before .before .before .pre, c .reach .ensures)
+
+unbiased-requires : tie.Need-unbiased-requires
+unbiased-requires c κs = omega (arith, answer c .row)
+
+unbiased-requires-2 : tie.Need-unbiased-requires-2
+unbiased-requires-2 c κs = omega (arith, answer (c .before) .column)
+
+cast-t14 : tie.Need-cast-t14
+cast-t14 c = search needs
+
+mul-only-at-one : tie.Need-mul-only-at-one
+mul-only-at-one c = fits-under w64 _ 1090 (omega (arith, few (c .before .before .before .before))) tt
 
 cast-only-at-one : tie.Need-cast-only-at-one
-cast-only-at-one c = fits-under w32 _ 1090 (omega (arith, gathered-few _ (c .before .before .before .gather .ensures))) tt
+cast-only-at-one c = fits-under w32 _ 1090 (omega (arith, few (c .before .before .before .before))) tt
 
 only-at-one-requires : tie.Need-only-at-one-requires
 only-at-one-requires c κs = search needs
 
 returns : tie.Need-returns
-unfolding fullSearch best
+unfolding fullSearch
 returns c =
-    let o = c .before in
-    let k = o .before .before in
-    let h = k .before .before .gather .ensures in
-    let j = k .choose-of-many .ensures in
+    let k = c .before .before .before .before in
+    let s = start k in
+    let a = answer k in
+    let places = ap (λ (r : Region). r .rows * r .columns) (k .before .reach .ensures) ∙ sym (reach-count (s .args .b) (ready-standing _ _ _ (s .pre))) in
     rw (
-      toZ-ofZ (sfits-of (c .struct-told .given .0 .1)),
-      toZ-ofZ (sfits-of (c .struct-told .given .1 .0 .1)),
-      o .only-at-one .ensures,
-      o .before .vector-at .ensures,
-      j .cost,
-      j .first,
-      front-take h,
-      h .many,
-    )
+      toZ-ofZ (sfits-of (c .before .before .before .unbiased .ok)),
+      toZ-ofZ (sfits-of (c .before .before .unbiased2 .ok)),
+      c .before .before .before .unbiased .ensures,
+      c .before .before .unbiased2 .ensures,
+      a .distortion-is,
+      c .only-at-one .ensures,
+      places,
+      ← a .is,
+    ) refl
 
 pub search-spec : {M : Type 1} → statement M
 search-spec =
-    tie.close (tie.spec gather-requires choose-of-many-requires vector-at-requires cast-only-at-one only-at-one-requires returns)
+    tie.close
+    (tie.spec
+    reach-requires
+    least-key-requires
+    unbiased-requires
+    unbiased-requires-2
+    cast-t14
+    mul-only-at-one
+    cast-only-at-one
+    only-at-one-requires
+    returns)

@@ -1,0 +1,113 @@
+-- The copies of a block and its search window have the distortions of the frames.
+--   older-at       where the older block of row i, column j of window 16 stands
+--   copies-long    they are as long as the arrays
+--   in-copy        in reach, the copies have the distortion of that vector
+--   key-in-copy    and its key, by the kernel of the block's measure and N
+use Prim.Native.Nat.{ℕ, _+_, _-_, _*_, _≤_, _<_}
+use mathlib.Core.Path.{_≡_, refl, sym, ap, ap₂, _∙_}
+use mathlib.Core.List.{List}
+use native.Mathlib.Nat.{add-mul}
+use native.Mathlib.Omega.{arith}
+use lib.IntN.{pos}
+use lib.ListN.{length, getD}
+use Rattle.base.specs.Sum.{sumOver-ext}
+use Rattle.signed.specs.Int.{added}
+use Rattle.signed.specs.Values.{unbias, unbias-is}
+use Rattle.measures.specs.Measures.{measureOf}
+use Rattle.frame.specs.Pictures.{pairOf}
+use Rattle.frame.specs.Candidates.{olderRow, olderColumn}
+use Rattle.frame.specs.declared.SearchBlock.{SearchBlock}
+use Rattle.distortion.specs.Blocks.{rowFrom, rowsFrom, distortion, block-rows, Kernel, sizeBy, measureBy}
+use Rattle.search.specs.Exhaustive.{gridVector}
+use Rattle.reach.specs.Reach.{Standing, reach, InReach}
+use Rattle.reach.specs.Keys.{keyOf}
+use Rattle.reach.proofs.Candidates.{reach-bounds}
+use Rattle.window_copy.specs.Copy.{copiedRows}
+use Rattle.window_copy.proofs.Copies.{copied-pel, copied-long}
+use Rattle.full.specs.Rows.{windowCopy, blockCopy, keyInCopy, keyAt}
+
+pub older-at : (y x i j : ℕ) → 16 ≤ y + i → 16 ≤ x + j → (olderRow y (gridVector i j) ≡ y + i - 16) × (olderColumn x (gridVector i j) ≡ x + j - 16)
+older-at y x i j hy hx =
+    (omega (arith, added (pos y) (unbias 16 i), unbias-is 16 i), omega (arith, added (pos x) (unbias 16 j), unbias-is 16 j))
+
+-- p rows and q columns on from a place that is i rows and j columns on
+further : (width row column i j p q : ℕ) → row * width + column + (i + p) * width + (j + q) ≡ (row + i) * width + (column + j) + p * width + q
+further width row column i j p q = omega (arith, add-mul i p width, add-mul row i width)
+
+-- the same place of a copy
+within : (i j top left p q : ℕ) → top ≤ i → left ≤ j → 64 * i + j + p * 64 + q ≡ 64 * top + left + (i - top + p) * 64 + (j - left + q)
+within i j top left p q hi hj = omega arith
+
+-- a row or column of a block that begins in reach is one of the window's
+in-window : (i top rows n p : ℕ) → top ≤ i → i < top + rows → p < n → i - top + p < rows + n - 1
+in-window i top rows n p a b h = omega arith
+
+-- and they have room in the copy
+room : (top left rows columns n : ℕ) → top + rows ≤ 33 → left + columns ≤ 33 → 0 < rows → 0 < columns → n ≤ 32
+    → (64 * top + left + (rows + n - 1) * 64 + (columns + n - 1) ≤ 4096 + 64) × (columns + n - 1 ≤ 64)
+room top left rows columns n a b c d h = (omega arith, omega arith)
+
+-- where it begins
+moved : (y i top : ℕ) → top ≤ i → 16 ≤ y + top → y + top - 16 + (i - top) ≡ y + i - 16
+moved y i top a b = omega arith
+
+module _ (older newer : List ℕ) (b : SearchBlock) (s : Standing b) (small : b .setting .n ≤ 32) (window block : List ℕ)
+    (window-long : length window ≡ 4096) (block-long : length block ≡ 2048) where
+  abbrev width : ℕ
+  width = b .setting .width
+
+  abbrev n : ℕ
+  n = b .setting .n
+
+  -- a pel of the window
+  window-pel : (i j p q : ℕ) → InReach (reach b) i j → p < n → q < n
+      → getD (windowCopy older b window) (64 * i + j + p * 64 + q) 0 ≡ getD older ((b .y + i - 16) * width + (b .x + j - 16) + p * width + q) 0
+  window-pel i j p q h hp hq =
+      let r = reach b in
+      let k = reach-bounds b s in
+      let row = b .y + r .top - 16 in
+      let fits = room (r .top) (r .left) (r .rows) (r .columns) n (k .few-rows) (k .few-columns) (k .rows) (k .columns) small in
+      let there =
+      rw (moved (b .y) i (r .top) (h .top) (k .first-row), moved (b .x) j (r .left) (h .left) (k .first-column)) at
+      (further width row (b .x + r .left - 16) (i - r .top) (j - r .left) p q) in
+      ap (λ (k : ℕ). getD (windowCopy older b window) k 0) (within i j (r .top) (r .left) p q (h .top) (h .left))
+      ∙ copied-pel older width (row * width + (b .x + r .left - 16)) (r .columns + n - 1) window (64 * r .top + r .left) 64 (r .rows + n - 1)
+      (i - r .top + p) (j - r .left + q)
+      (rw window-long (fits .0))
+      (fits .1)
+      (in-window i (r .top) (r .rows) n p (h .top) (h .bottom) hp)
+      (in-window j (r .left) (r .columns) n q (h .left) (h .right) hq)
+      ∙ ap (λ (k : ℕ). getD older k 0) there
+
+  pub copies-long : (length (windowCopy older b window) ≡ 4096) × (length (blockCopy newer b block) ≡ 2048)
+  copies-long =
+      let r = reach b in
+      let k = reach-bounds b s in
+      let fits = room (r .top) (r .left) (r .rows) (r .columns) n (k .few-rows) (k .few-columns) (k .rows) (k .columns) small in (
+        copied-long older width ((b .y + r .top - 16) * width + (b .x + r .left - 16)) (r .columns + n - 1) window (64 * r .top + r .left) 64 (r .rows + n - 1)
+            (rw window-long (fits .0))
+            ∙ window-long,
+        copied-long newer width (b .y * width + b .x) n block 0 64 n (omega arith) ∙ block-long,
+      )
+
+  pub in-copy : (i j : ℕ) → InReach (reach b) i j
+      → rowsFrom (measureOf (b .setting .measure)) (windowCopy older b window) (blockCopy newer b block) 64 0 (64 * i + j) n n
+      ≡ distortion (pairOf older newer (b .setting)) (b .y) (b .x) (gridVector i j)
+  unfolding distortion rowFrom
+  in-copy i j h =
+      let k = reach-bounds b s in
+      let o = older-at (b .y) (b .x) i j (omega (arith, k .first-row, h .top)) (omega (arith, k .first-column, h .left)) in
+      pels
+      ∙ sym (block-rows (measureOf (b .setting .measure)) older newer width (b .y) (b .x) (b .y + i - 16) (b .x + j - 16) n)
+      ∙ rw (o .0, o .1) refl
+    where
+      pels : rowsFrom (measureOf (b .setting .measure)) (windowCopy older b window) (blockCopy newer b block) 64 0 (64 * i + j) n n
+          ≡ rowsFrom (measureOf (b .setting .measure)) older newer width (b .y * width + b .x) ((b .y + i - 16) * width + (b .x + j - 16)) n n
+      pels =
+          sumOver-ext n n _ _ (λ p q hp hq. ap₂ (measureOf (b .setting .measure) .diff)
+          (copied-pel newer width (b .y * width + b .x) n block 0 64 n p q (omega arith) (omega arith) hp hq)
+          (window-pel i j p q h hp hq))
+
+  pub key-in-copy : (kernel : ℕ) → Kernel (b .setting .measure) n kernel → (i j : ℕ) → InReach (reach b) i j
+      → keyInCopy (measureBy kernel) (sizeBy kernel) (windowCopy older b window) (blockCopy newer b block) i j ≡ keyAt older newer b i j
+  key-in-copy kernel k i j h = rw (k .size, k .measure-is) (ap (λ (d : ℕ). keyOf d i j) (in-copy i j h))

@@ -1,0 +1,68 @@
+-- `copy_row`: after j turns the first j pels are copied.
+use Prim.Native.Nat.{_+_, _-_, _≤_}
+use mathlib.Core.Path.{_≡_, refl}
+use native.Mathlib.Omega.{arith}
+use borrow.Author.Needs.{needs}
+use lib.ListN.{length, getD, length-set}
+use Rattle.base.specs.Lists.{fillTo, fill-none, fill-more}
+use Rattle.window_copy.proofs.copy_row.Statement.{statement}
+use Rattle.window_copy.proofs.copy_row.Tie as tie
+
+abbrev Inv-loop : tie.InvT-loop
+Inv-loop frame from columns copy₀ at j₀ copy j =
+    (j ≤ columns) × (copy ≡ fillTo copy₀ at (λ i. getD frame (from + i) 0) j) × (length copy ≡ length copy₀)
+
+abbrev μ-loop : tie.MeasureT-loop
+μ-loop frame from columns copy₀ at j₀ copy j = columns - j
+
+loop-holds : tie.Need-loop-holds Inv-loop μ-loop
+loop-holds c = (omega arith, fill-none _ _ _, refl)
+
+add-copy : tie.Need-add-copy Inv-loop μ-loop
+add-copy c = search needs
+
+shared-slice-read-copy : tie.Need-shared-slice-read-copy Inv-loop μ-loop
+shared-slice-read-copy c = search needs
+
+add-copy-2 : tie.Need-add-copy-2 Inv-loop μ-loop
+add-copy-2 c = search needs
+
+slice-write-copy : tie.Need-slice-write-copy Inv-loop μ-loop
+slice-write-copy c = search needs
+
+add-j : tie.Need-add-j Inv-loop μ-loop
+add-j c = search needs
+
+loop-less : tie.Need-loop-less Inv-loop μ-loop
+loop-less c = omega arith
+
+loop-again : tie.Need-loop-again Inv-loop μ-loop
+loop-again c =
+    let l = c .before .before .loop in
+    (omega arith, rw (l .inv .1) (fill-more _ _ _ (l .j) (omega arith)), simp length-set (search needs))
+
+same-length : tie.Need-same-length Inv-loop μ-loop
+same-length c = search needs
+
+returns : tie.Need-returns Inv-loop μ-loop
+returns c =
+    let l = c .before .loop in
+    let e : l .j ≡ c .before .before .args .columns = omega arith in
+    rw e at (l .inv .1)
+
+pub copy-row-spec : {M : Type 1} → statement M
+copy-row-spec =
+    tie.close
+    (tie.spec
+    Inv-loop
+    μ-loop
+    loop-holds
+    add-copy
+    shared-slice-read-copy
+    add-copy-2
+    slice-write-copy
+    add-j
+    loop-less
+    loop-again
+    same-length
+    returns)
