@@ -84,6 +84,23 @@ fn put_block(out: &mut [u8], at: usize, dy: i32, dx: i32, distortion: u32) -> us
     put_field(out, b, distortion as usize, b'\n')
 }
 
+// The line of a still block: where the buffer has room, its six bytes at once.
+pub fn put_still(out: &mut [u8], at: usize) -> usize
+    requires { ⌜ at ≤ 1000000000 ⌝ }
+    ensures { λ r. ⌜ (Put (now (out .entry)) at (lineOf Cmd.Still) (now (out .exit)) r) × (r ≤ at + 6) ⌝ }
+{
+    if at + 6 <= out.len() {
+        out[at] = b'0';
+        out[at + 1] = b' ';
+        out[at + 2] = b'0';
+        out[at + 3] = b' ';
+        out[at + 4] = b'0';
+        out[at + 5] = b'\n';
+        return at + 6;
+    }
+    put_word(out, at, b"0 0 0\n")
+}
+
 // The line of the end.
 fn put_end(out: &mut [u8], at: usize, blocks: usize) -> usize
     requires { ⌜ at ≤ 1000000000 ⌝ }
@@ -112,7 +129,7 @@ pub fn put_line(out: &mut [u8], at: usize, command: Command) -> usize
     match command {
         Command::Head(h) => put_head(out, at, h),
         Command::Block { dy, dx, distortion } => put_block(out, at, dy, dx, distortion),
-        Command::Still => put_word(out, at, b"0 0 0\n"),
+        Command::Still => put_still(out, at),
         Command::End(blocks) => put_end(out, at, blocks),
         Command::Refused { number, place } => {
             if number == 34 {
@@ -130,7 +147,7 @@ pub fn put_block_line(out: &mut [u8], at: usize, command: Command) -> usize
     ensures { λ r. ⌜ (Put (now (out .entry)) at (lineOf command) (now (out .exit)) r) × (r ≤ at + 128) ⌝ }
 {
     if log_command::command_number(command) == log_command::STILL as u32 {
-        return put_word(out, at, b"0 0 0\n");
+        return put_still(out, at);
     }
     put_line(out, at, command)
 }

@@ -82,16 +82,19 @@ module _ {log : List ℕ} {h : Head} {before : List ℕ} {from first : ℕ} {out
   block-on e = rw (block-step e) at (goes-on log here (stepAt log here) (kinds log here) (ap (λ (s : WalkStep). isRefused (s .command)) (block-step e) ∙ e))
 
   module _ {m : List ℕ} {to : ℕ} (w : Put out at (lineOf command) m to) where
-    pub printing-more : isRefused command ≡ false → to ≤ at + 128 → Printing log h before from first m to (next + commandSize command) (k + 1)
-    printing-more e l =
+    pub printing-more : isRefused command ≡ false → to ≤ at + 128 → (size : ℕ) → size ≡ commandSize command
+        → Printing log h before from first m to (next + size) (k + 1)
+    printing-more e l size f =
         let n : length log - k - 1 ≡ length log - (k + 1) = omega (arith, p .on, p .inside) in
         let s = commandStep command next (Body h (k + 1)) in
         let o = block-on e in
         record {
-          on = omega (arith, p .on, o .0);
-          inside = o .1;
+          on = omega (arith, p .on, o .0, f);
+          inside = omega (arith, o .1, f);
           short = omega (arith, p .short);
-          rest = rw n at (turn lineOf (length log - k) log here s false (omega (arith, p .on, p .inside)) (sym (block-step e)) (sym e) (p .rest) w);
+          rest =
+              rw (n, ← f) at
+              (turn lineOf (length log - k) log here s false (omega (arith, p .on, p .inside)) (sym (block-step e)) (sym e) (p .rest) w);
         }
 
     pub printing-last : isRefused command ≡ true → Put before from (flatMap lineOf (commandsFrom (length log) log (bodyCursor h first 0))) m to

@@ -3,13 +3,15 @@
 ghost use mathlib.Core.Path.{_≡_};
 ghost use mathlib.Core.List.{flatMap};
 ghost use Prim.Native.Nat.{_+_, _*_, _≤_, _<_};
-ghost use lib.ListN.{length};
+ghost use lib.ListN.{length, replicate};
 ghost use Rattle.put.specs.Put.{Put, overFront};
 ghost use Rattle.log.specs.Step.{bodyCursor};
 ghost use Rattle.log.specs.Walk.{commandsFrom, walk};
 ghost use Rattle.log_head.specs.Heads.{headRefusal};
+ghost use Rattle.log_command.specs.declared.Command.the-variants as Cmd;
 ghost use Rattle.log_line.specs.Line.{lineOf};
 ghost use Rattle.log_text.specs.Text.{longestLog, longestText, printLog};
+ghost use Rattle.log_text.specs.Stills.{stillRun};
 use log::Cursor;
 use log::Phase;
 use log_head::Head;
@@ -41,6 +43,38 @@ fn put_from(log: &[u8], out: &mut [u8], from: usize, start: Cursor, most: usize)
     at
 }
 
+// How many still blocks stand one after the other from here on, at most so many.
+fn still_run(log: &[u8], from: usize, most: usize) -> usize
+    requires { ⌜ (from ≤ length (now log)) × (length (now log) ≤ longestLog) ⌝ }
+    ensures { λ r. ⌜ (r ≡ stillRun (now (log .entry)) from most) × (r ≤ most) × (from + r ≤ length (now (log .entry))) ⌝ }
+{
+    let mut n: usize = 0;
+    while n < most {
+        if from + n >= log.len() {
+            return n;
+        }
+        if log[from + n] != log_command::STILL {
+            return n;
+        }
+        n += 1;
+    }
+    n
+}
+
+// The lines of n still blocks.
+fn put_stills(out: &mut [u8], from: usize, n: usize) -> usize
+    requires { ⌜ from + 6 * n ≤ 16777216 ⌝ }
+    ensures { λ r. ⌜ (Put (now (out .entry)) from (flatMap lineOf (replicate n Cmd.Still)) (now (out .exit)) r) × (r ≤ from + 6 * n) ⌝ }
+{
+    let mut at = from;
+    let mut left = n;
+    while left > 0 {
+        at = log_line::put_still(out, at);
+        left -= 1;
+    }
+    at
+}
+
 // The lines after the head's, from the command at `first` on: head and grid are judged once. What follows the last block comes by `put_from`.
 fn put_body(log: &[u8], out: &mut [u8], from: usize, first: usize, head: Head) -> usize
     requires { ⌜ (0 < first) × (first ≤ length (now log)) × (length (now log) ≤ longestLog) × (from ≤ 128) × (headRefusal head ≡ 0) ⌝ }
@@ -59,6 +93,13 @@ fn put_body(log: &[u8], out: &mut [u8], from: usize, first: usize, head: Head) -
         at = log_line::put_block_line(out, at, command);
         next += log_command::command_size(command);
         k += 1;
+        // A still block is often the first of a run.
+        if log_command::command_number(command) == log_command::STILL as u32 {
+            let n = still_run(log, next, all - k);
+            at = put_stills(out, at, n);
+            next += n;
+            k += n;
+        }
     }
     let rest = Cursor {
         at: next,

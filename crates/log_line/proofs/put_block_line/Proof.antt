@@ -1,9 +1,7 @@
--- `put_block_line`: number 3 is a still block's, whose line is that word.
+-- `put_block_line`: number 3 is a still block's.
 use mathlib.Core.Path.{sym, _∙_}
 use native.Mathlib.Omega.{arith}
 use borrow.Author.Needs.{needs}
-use Rattle.put.specs.Digits.{digits}
-use Rattle.log_line.specs.Line.{numberText, spaced, worded}
 use Rattle.log_line.proofs.Texts.{still-number}
 use Rattle.log_line.proofs.put_block_line.Statement.{statement}
 use Rattle.log_line.proofs.put_block_line.Tie as tie
@@ -14,20 +12,16 @@ command-number-requires c κs = search needs
 cast-if1 : tie.Need-cast-if1
 cast-if1 c = search needs
 
-slice-aggregate-put-word : tie.Need-slice-aggregate-put-word
-slice-aggregate-put-word c = search needs
-
-put-word-requires : tie.Need-put-word-requires
-put-word-requires c κs = search needs
+put-still-requires : tie.Need-put-still-requires
+put-still-requires c κs = search needs
 
 same-length : tie.Need-same-length
 same-length c = search needs
 
 returns : tie.Need-returns
-unfolding worded spaced numberText digits
 returns c =
-    let w = c .before .before .put-word in
-    let i = c .before .before .before .before .before in
+    let w = c .before .before .put-still in
+    let i = c .before .before .before .before in
     let n = i .before in
     let a = n .before .before in
     let e = still-number (a .args .command) (a .pre .1) (sym (n .command-number .ensures) ∙ i .if1 .taken) in
@@ -48,8 +42,7 @@ put-block-line-spec =
     (tie.spec
     command-number-requires
     cast-if1
-    slice-aggregate-put-word
-    put-word-requires
+    put-still-requires
     same-length
     returns
     put-line-requires

@@ -1,13 +1,11 @@
--- `put_line`: each command has its function; the text of a still block is a word, and 34 has none.
+-- `put_line`: each command has its function, and 34 has no text.
 use mir.Val.{toZ, ofZ}
 use mir.Syntax.{w32}
 use borrow.Author.Tests.{eq-eqb, ne-eqb}
 use Rattle.put.specs.Put.{put-none}
-use Rattle.log_line.specs.Line.{worded, spaced, numberText}
 use mathlib.Core.Path.{_≡_}
 use native.Mathlib.Omega.{arith}
 use borrow.Author.Needs.{needs}
-use Rattle.put.specs.Digits.{digits}
 use Rattle.log_line.proofs.put_line.Statement.{statement}
 use Rattle.log_line.proofs.put_line.Tie as tie
 
@@ -26,11 +24,8 @@ put-block-requires c κs = search needs
 enum-told : tie.Need-enum-told
 enum-told c = search needs
 
-slice-aggregate-put-word : tie.Need-slice-aggregate-put-word
-slice-aggregate-put-word c = search needs
-
-put-word-requires : tie.Need-put-word-requires
-put-word-requires c κs = search needs
+put-still-requires : tie.Need-put-still-requires
+put-still-requires c κs = search needs
 
 enum-known-command-3 : tie.Need-enum-known-command-3
 enum-known-command-3 c = search needs
@@ -64,8 +59,7 @@ same-length-3 : tie.Need-same-length-3
 same-length-3 c = search needs
 
 returns-3 : tie.Need-returns-3
-unfolding worded spaced numberText digits
-returns-3 c = (rw (c .before .before .before .before .before .enum-told .given .1) (c .before .before .put-word .ensures .0), omega arith)
+returns-3 c = (rw (c .before .before .before .before .enum-told .given .1) (c .before .before .put-still .ensures .0), omega arith)
 
 same-length-4 : tie.Need-same-length-4
 same-length-4 c = search needs
@@ -94,8 +88,7 @@ put-line-spec =
     enum-known-command-2
     put-block-requires
     enum-told
-    slice-aggregate-put-word
-    put-word-requires
+    put-still-requires
     enum-known-command-3
     put-end-requires
     enum-known-command-4

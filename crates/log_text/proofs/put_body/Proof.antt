@@ -9,6 +9,7 @@ use Rattle.put.specs.Put.{rest-all}
 use Rattle.log_command.specs.Commands.{commandSize, isRefused}
 use Rattle.log_head.specs.Heads.{headBlocks}
 use Rattle.log_text.proofs.Blocks.{Printing, printing-first, printing-more, printing-last, block-on}
+use Rattle.log_text.proofs.Stills.{printing-stills}
 use Rattle.log_text.proofs.put_body.Statement.{statement}
 use Rattle.log_text.proofs.put_body.Tie as tie
 
@@ -55,6 +56,31 @@ on e =
     let s = start (loop b) in
     block-on (loop b .loop .inv) (s .pre .4) (due b) (s .pre .0) _ (b .body-command .ensures) (handed e)
 
+abbrev began : tie.After-command-size Inv-loop μ-loop → tie.At-loop Inv-loop μ-loop
+began c = loop (there (going (written c)))
+
+-- behind its line
+behind : (c : tie.After-command-size Inv-loop μ-loop) →
+    let w = written c in
+    let l = began c in
+    let s = start l .args in
+    Printing (s .log .now) (s .head) (s .out .now) (s .from) (s .first) (w .put-block-line .last .0) (w .put-block-line .result)
+    (l .loop .next + c .command-size .result) (l .loop .k + 1)
+behind c =
+    let w = written c in
+    let e = going w in
+    let b = there e in
+    let s = start (loop b) in
+    let l = w .put-block-line .ensures in
+    printing-more (loop b .loop .inv) (s .pre .4) (due b) (s .pre .0) _ (b .body-command .ensures) (l .0) (handed e) (l .1) _ (c .command-size .ensures)
+
+-- the run behind a still block: where it begins, where it is counted
+abbrev passed : tie.After-still-run Inv-loop μ-loop → tie.After-command-size Inv-loop μ-loop
+passed r = r .before .before .before
+
+abbrev counted : tie.After-put-stills Inv-loop μ-loop → tie.After-still-run Inv-loop μ-loop
+counted p = p .before .before
+
 head-blocks-requires : tie.Need-head-blocks-requires Inv-loop μ-loop
 head-blocks-requires c κs = c .before .before .pre .4
 
@@ -98,19 +124,56 @@ add-next c =
     omega (arith, c .command-size .ensures, on e .1, start (loop (there e)) .pre .2)
 
 add-k : tie.Need-add-k Inv-loop μ-loop
-add-k c = let l = loop (there (going (written c))) in omega (arith, l .loop .inv .on, l .loop .inv .inside, start l .pre .2)
+add-k c = let l = began c in omega (arith, l .loop .inv .on, l .loop .inv .inside, start l .pre .2)
+
+command-number-requires : tie.Need-command-number-requires Inv-loop μ-loop
+command-number-requires c κs = search needs
+
+cast-if2 : tie.Need-cast-if2 Inv-loop μ-loop
+cast-if2 c = search needs
+
+sub-still-run : tie.Need-sub-still-run Inv-loop μ-loop
+sub-still-run c = omega (arith, there (going (written (c .before .before))) .before .loop-test .taken)
+
+still-run-requires : tie.Need-still-run-requires Inv-loop μ-loop
+still-run-requires c κs =
+    let b = c .before .before in
+    (behind b .inside, start (began b) .pre .2)
+
+put-stills-requires : tie.Need-put-stills-requires Inv-loop μ-loop
+put-stills-requires c κs =
+    let r = c .before in
+    let p = behind (passed r) in
+    omega (arith, p .on, p .short, r .still-run .ensures .2, start (began (passed r)) .pre)
+
+add-next-2 : tie.Need-add-next-2 Inv-loop μ-loop
+add-next-2 c =
+    let r = counted (c .before .before) in
+    omega (arith, r .still-run .ensures .2, start (began (passed r)) .pre .2)
+
+add-k-2 : tie.Need-add-k-2 Inv-loop μ-loop
+add-k-2 c =
+    let r = counted (c .before .before) in
+    omega (arith, behind (passed r) .on, r .still-run .ensures .2, start (began (passed r)) .pre .2)
 
 loop-less : tie.Need-loop-less Inv-loop μ-loop
-loop-less c = omega (arith, there (going (written c)) .before .loop-test .taken)
+loop-less c = omega (arith, there (going (written (passed (counted (c .before .before))))) .before .loop-test .taken)
 
 loop-again : tie.Need-loop-again Inv-loop μ-loop
 loop-again c =
-    let w = written c in
-    let e = going w in
-    let b = there e in
+    let p = c .before .before in
+    let r = counted p in
+    let b = there (going (written (passed r))) in
     let s = start (loop b) in
-    let l = w .put-block-line .ensures in
-    rw (c .command-size .ensures) (printing-more (loop b .loop .inv) (s .pre .4) (due b) (s .pre .0) _ (b .body-command .ensures) (l .0) (handed e) (l .1))
+    let n = r .still-run .ensures in
+    printing-stills _ _ (s .pre .4) (behind (passed r)) _ _ (n .0) (omega (arith, due b, loop b .before .head-blocks .ensures .0)) (n .2)
+    (p .put-stills .ensures .0) (p .put-stills .ensures .1)
+
+loop-less-2 : tie.Need-loop-less-2 Inv-loop μ-loop
+loop-less-2 c = omega (arith, there (going (written (c .before .before))) .before .loop-test .taken)
+
+loop-again-2 : tie.Need-loop-again-2 Inv-loop μ-loop
+loop-again-2 c = behind (c .before .before)
 
 sub-put-from : tie.Need-sub-put-from Inv-loop μ-loop
 sub-put-from c = let l = c .before .before in omega (arith, l .loop .inv .on, l .loop .inv .inside)
@@ -147,8 +210,17 @@ put-body-spec =
     command-size-requires
     add-next
     add-k
+    command-number-requires
+    cast-if2
+    sub-still-run
+    still-run-requires
+    put-stills-requires
+    add-next-2
+    add-k-2
     loop-less
     loop-again
+    loop-less-2
+    loop-again-2
     sub-put-from
     put-from-requires
     same-length-2
