@@ -1,19 +1,19 @@
-/* Fields of vectors, N 16 and then N 32, by all four searches: full, pruned and cross with w 16, four-step with w 7, T 0; and the pruned search of
- * the same blocks one by one. Another field by cross has T 261,120 and so ends at each block's first probe: what it takes of the pruned field's time
- * is one distortion, the voters' pass and the storing of a block together, and more than the pass alone. Beside the gauge run two full searches in C
- * over the same grid: plain scalar code that leaves a candidate as soon as it cannot win, and SSE2 (psadbw). All these are by absolute; a second
- * table has full and pruned by squares beside SSE2 code for squares (pmaddwd): one search that measures every candidate to its last row, as the one
- * by psadbw does, and one that looks after every fourth row whether the candidate can still win. All take turns, plain C, by far the slowest, every
- * fourth time; the best of the turns counts, in processor time. Prints speeds as multiples of plain C's with the same N, by absolute, in both tables:
- * the larger, the faster. By each measure the C searches, search 1 and search 2 must agree on every block, and each field's reading must be what C
- * makes of its list. With the word `check` it looks at that alone, in small pictures, and prints no speed.
+/* Fields of vectors, N 16, then N 32, then N 8, by all four searches: full, pruned and cross with w 16, four-step with w 7, T 0; and the pruned
+ * search of the same blocks one by one. Another field by cross has T 261,120 and so ends at each block's first probe: what it takes of the pruned
+ * field's time is one distortion, the voters' pass and the storing of a block together, and more than the pass alone. Beside the gauge run two full
+ * searches in C over the same grid: plain scalar code that leaves a candidate as soon as it cannot win, and SSE2 (psadbw). All these are by absolute;
+ * a second table has full and pruned by squares beside SSE2 code for squares (pmaddwd): one search that measures every candidate to its last row, as
+ * the one by psadbw does, and one that looks after every fourth row whether the candidate can still win. All take turns, plain C, mostly by far the
+ * slowest, every fourth time; the best of the turns counts, in processor time. Prints speeds as multiples of plain C's with the same N, by absolute,
+ * in both tables: the larger, the faster. By each measure the C searches, search 1 and search 2 must agree on every block, and each field's reading
+ * must be what C makes of its list. With the word `check` it looks at that alone, in small pictures, and prints no speed.
  *
  * Paper is made here: smoothed noise with fibres. The newer picture is the older one moved by a known vector, and each has sensor noise of its own:
  * noise of 2 grey levels is noise whose standard deviation is 2. Noise raises the least distortion, so search 2's coarse tests drop fewer candidates,
- * the fewer the less contrast the paper has. So fibres and plain paper stand here with noise of 2 and of 5 grey levels, nearly normal; the rows that
- * name no noise have even noise of -3 .. 3, that is of 2 grey levels too.
+ * the fewer the less contrast the paper has. So fibres and plain paper stand here with noise of 2 and of 5 grey levels, nearly normal: noisy fibres
+ * have 5. The rows that name no noise have even noise of -3 .. 3, that is of 2 grey levels too.
  *
- * The last column is the yardstick of Mohammad Gharavi-Alkhansari, "A fast motion estimation algorithm equivalent to exhaustive search", Table 2. A
+ * `basic ops` is the yardstick of Mohammad Gharavi-Alkhansari, "A fast motion estimation algorithm equivalent to exhaustive search", Table 2. A
  * basic operation is one term of a distance's sum, so a test at m takes (N / m)^2 of them and a final measurement N^2; the making of the sums and
  * measurements only for E are not counted. The exhaustive search takes N^2 for each candidate. So that paper's 0.0275, of a video sequence with
  * p = 2, is (11,441,196 + 4 x 3,912,397 + 16 x 920,769 + 64 x 239,933 + 256 x 91,246) / (256 x 11,441,196). */
@@ -25,7 +25,7 @@
 #include <stdlib.h>
 #include <string.h>
 
-enum { W = 16, SIDE = 1024, MARGIN = 32, SHEET = SIDE + 2 * MARGIN, BLOCKS = (SIDE / 16) * (SIDE / 16) };
+enum { W = 16, SIDE = 1024, MARGIN = 32, SHEET = SIDE + 2 * MARGIN, BLOCKS = (SIDE / 8) * (SIDE / 8) };
 
 /* ---- paper */
 
@@ -116,21 +116,28 @@ static int before(int dy, int dx, const struct best *b)
     return s != t ? s < t : dy != b->dy ? dy < b->dy : dx < b->dx;
 }
 
-/* Distortions of blocks of N 16 or 32. Each is inlined where N is written out. */
+/* Distortions of blocks of N 8, 16 or 32. Each is inlined where N is written out. */
 #define DISTORTION __attribute__((always_inline)) static inline int
 
-/* A row by sixteen pels: with 32 in one loop the compiler would make vector code of it. */
+/* A row by parts of 16 pels, or 8 where N is 8: with 32 in one loop the compiler would make vector code of it. */
 DISTORTION plain_distortion(const uint8_t *a, const uint8_t *b, int width, int n, int limit)
 {
+    const int part = n < 16 ? n : 16;
     int sum = 0;
     for (int i = 0; i < n; i++, a += width, b += width) {
-        for (int j = 0; j < n; j += 16)
-            for (int k = j; k < j + 16; k++)
+        for (int j = 0; j < n; j += part)
+            for (int k = j; k < j + part; k++)
                 sum += abs(a[k] - b[k]);
         if (sum > limit)
             break;
     }
     return sum;
+}
+
+/* 16 pels of a row, or 8 with zeros behind them where N is 8. */
+static __m128i load(const uint8_t *a, int n)
+{
+    return n == 8 ? _mm_loadl_epi64((const void *)a) : _mm_loadu_si128((const void *)a);
 }
 
 DISTORTION sse2_distortion(const uint8_t *a, const uint8_t *b, int width, int n, int limit)
@@ -139,15 +146,17 @@ DISTORTION sse2_distortion(const uint8_t *a, const uint8_t *b, int width, int n,
     __m128i sum = _mm_setzero_si128();
     for (int i = 0; i < n; i++, a += width, b += width)
         for (int j = 0; j < n; j += 16)
-            sum = _mm_add_epi64(sum, _mm_sad_epu8(_mm_loadu_si128((const void *)(a + j)), _mm_loadu_si128((const void *)(b + j))));
-    return _mm_cvtsi128_si32(sum) + _mm_cvtsi128_si32(_mm_srli_si128(sum, 8));
+            sum = _mm_add_epi64(sum, _mm_sad_epu8(load(a + j, n), load(b + j, n)));
+    return _mm_cvtsi128_si32(sum) + (n == 8 ? 0 : _mm_cvtsi128_si32(_mm_srli_si128(sum, 8)));
 }
 
-/* The squared differences of 16 pels of a row, in four sums. */
-static __m128i sixteen_squares(const uint8_t *a, const uint8_t *b)
+/* The squared differences of as many pels, in four sums. */
+static __m128i squares(const uint8_t *a, const uint8_t *b, int n)
 {
-    const __m128i zero = _mm_setzero_si128(), p = _mm_loadu_si128((const void *)a), q = _mm_loadu_si128((const void *)b);
+    const __m128i zero = _mm_setzero_si128(), p = load(a, n), q = load(b, n);
     __m128i left = _mm_sub_epi16(_mm_unpacklo_epi8(p, zero), _mm_unpacklo_epi8(q, zero));
+    if (n == 8)
+        return _mm_madd_epi16(left, left);
     __m128i right = _mm_sub_epi16(_mm_unpackhi_epi8(p, zero), _mm_unpackhi_epi8(q, zero));
     return _mm_add_epi32(_mm_madd_epi16(left, left), _mm_madd_epi16(right, right));
 }
@@ -164,7 +173,7 @@ DISTORTION pmaddwd_distortion(const uint8_t *a, const uint8_t *b, int width, int
     __m128i sums = _mm_setzero_si128();
     for (int i = 0; i < n; i++, a += width, b += width)
         for (int j = 0; j < n; j += 16)
-            sums = _mm_add_epi32(sums, sixteen_squares(a + j, b + j));
+            sums = _mm_add_epi32(sums, squares(a + j, b + j, n));
     return sum_of_four(sums);
 }
 
@@ -175,7 +184,7 @@ DISTORTION stopping_distortion(const uint8_t *a, const uint8_t *b, int width, in
     for (int i = 0; i < n && sum <= limit; i += 4) {
         for (int row = 0; row < 4; row++, a += width, b += width)
             for (int j = 0; j < n; j += 16)
-                sums = _mm_add_epi32(sums, sixteen_squares(a + j, b + j));
+                sums = _mm_add_epi32(sums, squares(a + j, b + j, n));
         sum = sum_of_four(sums);
     }
     return sum;
@@ -198,12 +207,16 @@ DISTORTION stopping_distortion(const uint8_t *a, const uint8_t *b, int width, in
         return b;                                                                                                                  \
     }
 
+FULL_SEARCH(plain_8, plain_distortion, 8)
 FULL_SEARCH(plain_16, plain_distortion, 16)
 FULL_SEARCH(plain_32, plain_distortion, 32)
+FULL_SEARCH(sse2_8, sse2_distortion, 8)
 FULL_SEARCH(sse2_16, sse2_distortion, 16)
 FULL_SEARCH(sse2_32, sse2_distortion, 32)
+FULL_SEARCH(pmaddwd_8, pmaddwd_distortion, 8)
 FULL_SEARCH(pmaddwd_16, pmaddwd_distortion, 16)
 FULL_SEARCH(pmaddwd_32, pmaddwd_distortion, 32)
+FULL_SEARCH(stopping_8, stopping_distortion, 8)
 FULL_SEARCH(stopping_16, stopping_distortion, 16)
 FULL_SEARCH(stopping_32, stopping_distortion, 32)
 
@@ -228,10 +241,13 @@ static gauge_field_answer answer[RUNS];
 /* A search of one block, in C or search 2. */
 static struct best search_block(int r, int y, int x)
 {
-    static struct best (*const searches[][2])(const uint8_t *, const uint8_t *, int, int, int, int, int) = {
-        [PLAIN] = {plain_16, plain_32}, [SSE2] = {sse2_16, sse2_32}, [PMADDWD] = {pmaddwd_16, pmaddwd_32}, [STOPPING] = {stopping_16, stopping_32}};
+    static struct best (*const searches[][3])(const uint8_t *, const uint8_t *, int, int, int, int, int) = {
+        [PLAIN] = {plain_8, plain_16, plain_32},
+        [SSE2] = {sse2_8, sse2_16, sse2_32},
+        [PMADDWD] = {pmaddwd_8, pmaddwd_16, pmaddwd_32},
+        [STOPPING] = {stopping_8, stopping_16, stopping_32}};
     if (r != SINGLE)
-        return searches[r][n == 32](older, newer, width, height, W, y, x);
+        return searches[r][n / 16](older, newer, width, height, W, y, x);
     gauge_request request = {(size_t)width, (size_t)height, (size_t)n, 2, W, 0, 1};
     size_t length = (size_t)(width * height);
     gauge_found f = gauge_search_block(older, length, newer, length, request, (size_t)y, (size_t)x);
@@ -371,7 +387,7 @@ static void squares_table(void)
     line_count = 0;
 }
 
-/* All papers in pictures of one size, by one N. Plain paper is made last, so that the pictures before it do not hang on it. */
+/* All papers in pictures of one size, by one N. Plain paper is made last, so that the five pictures before it do not hang on it. */
 static int papers(int w, int h, int block_size, int turns)
 {
     static int fibres[SHEET * SHEET], tracing[SHEET * SHEET], plain_paper[SHEET * SHEET];
@@ -394,8 +410,8 @@ static int papers(int w, int h, int block_size, int turns)
     if (!made)
         make_sheet(PLAIN_PAPER, plain_paper);
     made = true;
-    if (pair("fibres, noise 2 (3,-4)", fibres, NOISE_2, 3, -4, width, turns) ||
-        pair("fibres, noise 5 (3,-4)", fibres, NOISE_5, 3, -4, width, turns) ||
+    if (pair("noisy fibres (3,-4)", fibres, NOISE_5, 3, -4, width, turns) ||
+        pair("fibres, noise 2 (3,-4)", fibres, NOISE_2, 3, -4, width, turns) ||
         pair("plain paper, noise 2 (3,-4)", plain_paper, NOISE_2, 3, -4, width, turns) ||
         pair("plain paper, noise 5 (3,-4)", plain_paper, NOISE_5, 3, -4, width, turns))
         return 1;
@@ -408,12 +424,12 @@ int main(int argc, char **argv)
 {
     checking = argc > 1 && strcmp(argv[1], "check") == 0;
     if (checking) {
-        if (papers(168, 130, 16, 1) || papers(168, 130, 32, 1))
+        if (papers(168, 130, 16, 1) || papers(168, 130, 32, 1) || papers(168, 130, 8, 1))
             return 1;
         printf("benches/field: the searches agree\n");
         return 0;
     }
     printf("Speed of fields, plain C full search by absolute = 1; basic operations of search 2, exhaustive search = 1\n");
     printf("(0.0275 in Gharavi-Alkhansari's paper, for a video)\n");
-    return papers(640, 480, 16, 21) || papers(1024, 1024, 16, 9) || papers(640, 480, 32, 13);
+    return papers(640, 480, 16, 21) || papers(1024, 1024, 16, 9) || papers(640, 480, 32, 13) || papers(640, 480, 8, 13);
 }
