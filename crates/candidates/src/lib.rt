@@ -115,7 +115,7 @@ pub fn gather(
 // ---- measuring and choosing
 
 // Where the older block of the candidate at place k of the preference table begins.
-pub fn begins_at(order: &[i32; order::NUMBERS], b: SearchBlock, k: usize) -> usize
+fn begins_at(order: &[i32; order::NUMBERS], b: SearchBlock, k: usize) -> usize
     requires { ⌜ Stands b k × (now order ≡ flat preference) × (k < vectorCount) ⌝ }
     ensures { λ r. ⌜ r ≡ beginsAt b k ⌝ }
 {
@@ -179,7 +179,7 @@ pub fn distortion_of(
 }
 
 // The first listed candidate.
-pub fn first_chosen(
+fn first_chosen(
     older: &[u8],
     newer: &[u8],
     order: &[i32; order::NUMBERS],
@@ -213,7 +213,7 @@ fn against(
 }
 
 // The better of the best so far and a later candidate; equals go to the earlier.
-pub fn improved(best: Chosen, place: usize, measured: Capped) -> Chosen
+fn improved(best: Chosen, place: usize, measured: Capped) -> Chosen
     ensures { λ r. ⌜ r ≡ improved best place measured ⌝ }
 {
     let Capped::Within(distortion) = measured else {

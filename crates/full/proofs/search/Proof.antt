@@ -21,11 +21,11 @@ answer : (k : tie.After-least-key) → let a = start k .args in Found (now (a .o
 answer k = found _ _ _ _ (ready-standing _ _ _ (start k .pre)) (k .least-key .ensures .0)
 
 -- at most 33 rows and columns
-few : (k : tie.After-reach) → k .reach .result .rows * k .reach .result .columns ≤ 1089
+few : (k : tie.After-reach) → let r = k .reach .result in (r .rows ≤ 33) × (r .rows * r .columns ≤ 1089)
 few k =
     let s = k .before .before .before in
     let d = reach-bounds (s .args .b) (ready-standing _ _ _ (s .pre)) in
-    rw (k .reach .ensures) (mul-le-mul {n₂ = 33} {m₂ = 33} (omega (arith, d .few-rows)) (omega (arith, d .few-columns)))
+    rw (k .reach .ensures) (omega (arith, d .few-rows), mul-le-mul {n₂ = 33} {m₂ = 33} (omega (arith, d .few-rows)) (omega (arith, d .few-columns)))
 
 reach-requires : tie.Need-reach-requires
 reach-requires c κs = ready-standing _ _ _ (c .before .before .pre)
