@@ -8,3 +8,4 @@ pub mod Search
 pub mod Finer
 pub mod Nested
 pub mod Open
+pub mod Grid

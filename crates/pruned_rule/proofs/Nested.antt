@@ -40,7 +40,7 @@ nests μ nesting N a b m k d h c e f g l = le-trans (finer μ nesting N a (b c) 
 -- ---- lists
 
 -- a stricter test after a weaker one is the stricter alone
-kept-parted : {w : ℕ → ℕ} {o : ℕ} {ks ys ns : List ℕ} (v : ℕ → ℕ) (l : ℕ) → ((k : ℕ) → v k ≤ l → w k ≤ o) → Parted w o ks ys ns
+pub kept-parted : {w : ℕ → ℕ} {o : ℕ} {ks ys ns : List ℕ} (v : ℕ → ℕ) (l : ℕ) → ((k : ℕ) → v k ≤ l → w k ≤ o) → Parted w o ks ys ns
     → kept v l ys ≡ kept v l ks
 unfolding kept
 kept-parted v l f empty = refl
@@ -57,7 +57,7 @@ kept-count v l (k ∷ ks) = step (leb (v k) l) (kept-count v l ks)
     step true e = omega arith
     step false e = omega arith
 
-total-pick : (g : ℕ → ℕ) (p : ℕ → Bool) (n : ℕ) → total g (pick p n) ≡ sumTo (λ i. cond (p i) (g i) 0) n
+pub total-pick : (g : ℕ → ℕ) (p : ℕ → Bool) (n : ℕ) → total g (pick p n) ≡ sumTo (λ i. cond (p i) (g i) 0) n
 unfolding pick sumTo total
 total-pick g p zero = refl
 total-pick g p (suc n) = total-append g (pick p n) _ ∙ ap₂ _+_ (total-pick g p n) (one (p n))

@@ -1,3 +1,4 @@
 pub mod Distance
 pub mod Sift
 pub mod Prune
+pub mod Spots

@@ -80,7 +80,7 @@ in-grid v F h =
     here = ap₂ vec (back (v .dy) (h .down)) (back (v .dx) (h .across))
 
 -- so a sum over the table is one over the rows and columns
-table-grid : (F : Vector → ℕ) → sumTo (λ k. F (preferred k)) vectorCount ≡ sumOver 33 33 (λ i j. F (gridVector i j))
+pub table-grid : (F : Vector → ℕ) → sumTo (λ k. F (preferred k)) vectorCount ≡ sumOver 33 33 (λ i j. F (gridVector i j))
 table-grid F =
     sumTo-ext _ _ vectorCount (λ k l. sym (in-grid (preferred k) F (inside k l)))
     ∙ sumTo-swap (λ k i. sumTo (λ j. at k i j) 33) vectorCount 33
