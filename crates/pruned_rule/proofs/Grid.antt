@@ -5,7 +5,7 @@ use mathlib.Core.Logic.{⊎-elim}
 use mathlib.Core.Bool.{Bool, true, false, cond}
 use mathlib.Core.List.{List, [], _∷_, _++_, List·Memᴰ·head, List·Memᴰ·tail, List·Memᴰ·cases-cons, List·Memᴰ·not-nil, List·Memᴰ·eq-of-singleton}
 use mathlib.Core.List.{Memᴰ·append-left, Memᴰ·append-right, List·Memᴰ·append-cases}
-use native.Mathlib.Nat.{eq-or-lt-of-le, le-of-suc-le-suc, le-step, lt-suc-self, not-suc-le-zero}
+use native.Mathlib.Nat.{le-refl, le-trans, dvd-trans, eq-or-lt-of-le, le-of-suc-le-suc, le-step, lt-suc-self, not-suc-le-zero}
 use native.Mathlib.Omega.{arith}
 use lib.Dec.{leb, T}
 use lib.ListN.{length}
@@ -28,8 +28,11 @@ use Rattle.reach.proofs.Candidates.{Bounds, reach-bounds, reach-small, reach-ye
 use Rattle.reach.proofs.Choice.{least-key}
 use Rattle.pruned_rule.specs.Sift.{kept, total}
 use Rattle.pruned_rule.specs.Spots.{spots, vectorOn, keyOn}
-use Rattle.pruned_rule.proofs.Parts.{parted, parted-kept, total-append}
-use Rattle.pruned_rule.proofs.Nested.{kept-parted, kept-count, total-pick}
+use Rattle.pruned_rule.proofs.Parts.{Parted, empty, stays, goes, parted, parted-kept, total-append}
+use Rattle.pruned_rule.proofs.Nested.{kept-parted, kept-count, total-pick, least-of-all, along-more}
+use Rattle.pruned_rule.specs.Prune.{Pruning, prune, halvings, resolutions}
+use Rattle.pruned_rule.proofs.Pruned.{holds-some}
+use Rattle.pruned_rule.proofs.Open.{Open, Closed, open-some, open-left, open-first, open-more, open-last}
 
 -- ---- lists by a rule
 
@@ -62,6 +65,23 @@ concatTo-in f zero m = absurd (List·Memᴰ·not-nil m)
 concatTo-in f (suc n) m =
     ⊎-elim (λ l. let (i, h, e) = concatTo-in f n l in (i, le-step h, e)) (λ r. (n, lt-suc-self n, r))
     (List·Memᴰ·append-cases (concatTo f n) m)
+
+-- what is within a limit is kept, and no more than there are
+parted-all : {v : ℕ → ℕ} {l : ℕ} {ks ys ns : List ℕ} → Parted v l ks ys ns → {t : ℕ} → t ∈ ks → v t ≤ l → t ∈ ys
+parted-all empty m h = m
+parted-all (stays g r) m h = ⊎-elim (λ q. List·Memᴰ·head q) (λ n. List·Memᴰ·tail (parted-all r n h)) (List·Memᴰ·cases-cons m)
+parted-all {v} (goes {k = k} g r) {t} m h =
+    ⊎-elim (λ (q : t ≡ k). absurd (omega (arith, ap v q))) (λ n. parted-all r n h) (List·Memᴰ·cases-cons m)
+
+parted-few : {v : ℕ → ℕ} {l : ℕ} {ks ys ns : List ℕ} → Parted v l ks ys ns → length ys ≤ length ks
+parted-few empty = le-refl 0
+parted-few (stays g r) = omega (arith, parted-few r)
+parted-few (goes g r) = le-step (parted-few r)
+
+one-member : (ks : List ℕ) → length ks ≡ 1 → (t : ℕ) × (ks ≡ t ∷ [])
+one-member [] h = absurd (omega arith)
+one-member (t ∷ []) h = (t, refl)
+one-member (t ∷ u ∷ ks) h = absurd (omega arith)
 
 total-listTo : (h g : ℕ → ℕ) (n : ℕ) → total h (listTo g n) ≡ sumTo (λ i. h (g i)) n
 unfolding listTo sumTo total
@@ -172,3 +192,113 @@ module _ (b : SearchBlock) (s : Standing b) where
       → length (kept (λ t. v (vectorOn t)) l (spots (reach b))) ≡ length (kept (λ k. v (preferred k)) l listed)
   kept-spots v l =
       kept-count _ l (spots (reach b)) ∙ total-spots (λ u. cond (leb (v u) l) 1 0) ∙ sym (kept-count (λ k. v (preferred k)) l listed)
+
+  -- ---- the choice by keys
+
+  spots-reach : {t : ℕ} → t ∈ spots (reach b) → InReach (reach b) (t / 64) (t % 64)
+  spots-reach {t} m =
+      let (i, j, h, e) = spots-in (reach b) m in
+      let small : j < 64 = omega (arith, reach-small b s i j h .1) in
+      subst (λ (x : ℕ). InReach (reach b) (x / 64) (x % 64)) (sym e) (rw (spot-row i j small, spot-column i j small) h)
+
+  key-on : (cost : Vector → ℕ) (i j : ℕ) → InReach (reach b) i j → keyOn cost (64 * i + j) ≡ keyOf (cost (gridVector i j)) i j
+  key-on cost i j h =
+      let small : j < 64 = omega (arith, reach-small b s i j h .1) in
+      ap₂ (λ x y. keyOf (cost (gridVector x y)) x y) (spot-row i j small) (spot-column i j small)
+
+  -- the least key of all spots
+  pub nearest-of-all : (cost : Vector → ℕ) (t : ℕ) → t ∈ spots (reach b) → ((u : ℕ) → u ∈ spots (reach b) → keyOn cost t ≤ keyOn cost u)
+      → vectorOn t ≡ preferred (leastOf (λ k. cost (preferred k)) listed)
+  nearest-of-all cost t m least =
+      least-key b s cost (t / 64) (t % 64) (spots-reach m)
+      (λ i j h. subst (λ (x : ℕ). keyOn cost t ≤ x) (key-on cost i j h) (least (64 * i + j) (spots-all (reach b) i j h)))
+
+  -- the least key of those within a limit, where the choice of all is within it
+  pub choice-listed : (cost v : Vector → ℕ) (l : ℕ) → v (preferred (leastOf (λ k. cost (preferred k)) listed)) ≤ l
+      → (t : ℕ) → t ∈ kept (λ u. v (vectorOn u)) l (spots (reach b))
+      → ((u : ℕ) → u ∈ kept (λ u. v (vectorOn u)) l (spots (reach b)) → keyOn cost t ≤ keyOn cost u)
+      → vectorOn t ≡ preferred (leastOf (λ k. cost (preferred k)) listed)
+  choice-listed cost v l h t m least =
+      nearest-of-all cost t (parted-kept (parted _ l (spots (reach b))) m .0)
+      (λ u i. le-trans (least first (parted-all (parted _ l (spots (reach b))) member (rw chosen h))) (leastOf-le (keyOn cost) (spots (reach b)) i))
+    where
+      first : ℕ
+      first = leastOf (keyOn cost) (spots (reach b))
+
+      member : first ∈ spots (reach b)
+      member = leastOf-mem (keyOn cost) (spots (reach b)) (mem-length (parted-kept (parted _ l (spots (reach b))) m .0))
+
+      chosen : vectorOn first ≡ preferred (leastOf (λ k. cost (preferred k)) listed)
+      chosen = nearest-of-all cost first member (λ u i. leastOf-le (keyOn cost) (spots (reach b)) i)
+
+-- ---- the search
+
+-- costs of vectors: the distortions D, the distances at m and their limits
+abbrev pub SafeOn : (D : Vector → ℕ) (dist : ℕ → Vector → ℕ) (limit : ℕ → ℕ → ℕ) → ℕ → Type 0
+SafeOn D dist limit m = (v : Vector) (e : ℕ) → D v ≤ e → dist m v ≤ limit m e
+
+abbrev pub NestsOn : (dist : ℕ → Vector → ℕ) (limit : ℕ → ℕ → ℕ) → ℕ → ℕ → Type 0
+NestsOn dist limit m k = (v : Vector) (e f : ℕ) → e ≤ f → dist m v ≤ limit m e → dist k v ≤ limit k f
+
+-- those on the spots ts that are within the limit at m for E = e
+abbrev pub keptOn : (dist : ℕ → Vector → ℕ) (limit : ℕ → ℕ → ℕ) → ℕ → ℕ → List ℕ → List ℕ
+keptOn dist limit m e ts = kept (λ t. dist m (vectorOn t)) (limit m e) ts
+
+-- of those that were kept at the coarser k, those kept at m are as many as of all
+pub kept-nested : (dist : ℕ → Vector → ℕ) (limit : ℕ → ℕ → ℕ) (m k : ℕ) → NestsOn dist limit m k → (e f : ℕ) → f ≤ e → (ts : List ℕ)
+    → keptOn dist limit m f (keptOn dist limit k e ts) ≡ keptOn dist limit m f ts
+kept-nested dist limit m k nest e f h ts = kept-parted _ (limit m f) (λ t. nest (vectorOn t) f e h) (parted _ (limit k e) ts)
+
+-- t is the one of ts with the least key
+pub record Chosen (cost : Vector → ℕ) (ts : List ℕ) (t : ℕ) : Type 0 where
+  pub member : t ∈ ts
+  pub least : (u : ℕ) → u ∈ ts → keyOn cost t ≤ keyOn cost u
+
+module _ (b : SearchBlock) (s : Standing b) (D : Vector → ℕ) (dist : ℕ → Vector → ℕ) (limit : ℕ → ℕ → ℕ) where
+  -- the choice of all candidates by a cost
+  abbrev choice : (Vector → ℕ) → Vector
+  choice cost = preferred (leastOf (λ k. cost (preferred k)) (listed b s))
+
+  abbrev pub OpenOn : (first N k m e count : ℕ) → List ℕ → Type 0
+  OpenOn first N k m e count t =
+      Open first (λ c. D (preferred c)) (λ i c. dist i (preferred c)) limit N (listed b s) k m e count t
+
+  abbrev pub ClosedOn : (e count : ℕ) → List ℕ → Pruning → Type 0
+  ClosedOn e count t = Closed (λ c. D (preferred c)) (λ i c. dist i (preferred c)) limit (listed b s) e count t
+
+  -- the best of all is within the last limit
+  pub chosen-listed : {e count : ℕ} {tested : List ℕ} {p : Pruning} → ClosedOn e count tested p
+      → (t : ℕ) → Chosen D (keptOn dist limit 2 e (spots (reach b))) t → vectorOn t ≡ choice D
+  chosen-listed {e} {count} {tested} {p} c t h =
+      choice-listed b s D (dist 2) (limit 2 e) near t (h .member) (h .least)
+    where
+      some : 0 < length (p .left)
+      some = rw (c .left, ← kept-spots b s (dist 2) (limit 2 e)) (mem-length (h .member))
+
+      inside : leastOf (λ c. D (preferred c)) (listed b s) ∈ kept (λ c. dist 2 (preferred c)) (limit 2 e) (listed b s)
+      inside = subst (λ (x : List ℕ). leastOf (λ c. D (preferred c)) (listed b s) ∈ x) (c .left)
+          (subst (λ (x : ℕ). x ∈ p .left) (c .best) (leastOf-mem (λ c. D (preferred c)) (p .left) some))
+
+      near : dist 2 (choice D) ≤ limit 2 e
+      near = parted-kept (parted _ (limit 2 e) (listed b s)) inside .1
+
+  module _ (first N : ℕ) (safe : (i : ℕ) → i ∣ N → SafeOn D dist limit i) (nests : (i j : ℕ) → i ∣ j → j ∣ N → NestsOn dist limit i j)
+      {k m e count : ℕ} {tested : List ℕ} (o : OpenOn first N k m e count tested) where
+    pub nearest-listed : 2 ≤ m → (t : ℕ) → Chosen (dist m) (keptOn dist limit k e (spots (reach b))) t → vectorOn t ≡ choice (dist m)
+    nearest-listed h t c =
+        choice-listed b s (dist m) (dist k) (limit k e) near t (c .member) (c .least)
+      where
+        fine : m ∣ k
+        fine = along-more h (o .along) .0
+
+        same : leastOf (λ c. dist m (preferred c)) (o .state .left) ≡ leastOf (λ c. dist m (preferred c)) (listed b s)
+        same =
+            least-of-all (λ c. D (preferred c)) (λ i c. dist i (preferred c)) limit (listed b s) m k (o .state)
+            (λ c. safe m (dvd-trans m fine (o .divides)) (preferred c)) (λ c. nests m k fine (o .divides) (preferred c)) (o .holds) (o .within)
+
+        inside : leastOf (λ c. dist m (preferred c)) (listed b s) ∈ kept (λ c. dist k (preferred c)) (limit k e) (listed b s)
+        inside = subst (λ (x : List ℕ). leastOf (λ c. dist m (preferred c)) (listed b s) ∈ x) (open-left o)
+            (subst (λ (x : ℕ). x ∈ o .state .left) same (leastOf-mem (λ c. dist m (preferred c)) (o .state .left) (holds-some (o .holds))))
+
+        near : dist k (choice (dist m)) ≤ limit k e
+        near = parted-kept (parted _ (limit k e) (listed b s)) inside .1
