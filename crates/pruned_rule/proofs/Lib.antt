@@ -8,4 +8,5 @@ pub mod Search
 pub mod Finer
 pub mod Nested
 pub mod Open
+pub mod Spots
 pub mod Grid

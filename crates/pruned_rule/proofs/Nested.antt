@@ -2,7 +2,8 @@
 -- candidates within the limit at the last resolution, and the nearest of them, first among equals, is the nearest of all.
 --   Nests         within the limit at m for E: within it at the coarser k too, for this E and any greater; nests: so it is on blocks
 --   Within        those left are just the candidates within the limit at m: start-within, round-within
---   kept-count    how many are within a limit; count-pick: of the numbers below n that pass a test
+--   kept-parted   a stricter test after a weaker one keeps what it keeps of all
+--   kept-count    how many are within a limit; count-pick: of the numbers below n that pass a test; total-pick: a sum over these
 --   least-of-all  the nearest that remains is the nearest of all; lower-of-all: so E is lowered to the distortion of that
 --   Along         where a loop stands that halves m, with k the resolution before: along-first, along-more, along-last
 use Prim.Native.Nat.{ℕ, zero, suc, _+_, _/_, _^_, _≤_, _<_, _∣_, min}
