@@ -1,7 +1,9 @@
 -- The copies of a block and its search window have the distortions of the frames.
 --   older-at       where the older block of row i, column j of window 16 stands
+--   window-pel     what a place of the copied window holds
 --   copies-long    they are as long as the arrays
---   in-copy        in reach, the copies have the distortion of that vector
+--   in-frames      in reach, the rows of the two blocks in the frames have the distortion of that vector
+--   in-copy        and so have the copies
 --   key-in-copy    and its key, by the kernel of the block's measure and N
 use Prim.Native.Nat.{ℕ, _+_, _-_, _*_, _≤_, _<_}
 use mathlib.Core.Path.{_≡_, refl, sym, ap, ap₂, _∙_}
@@ -22,7 +24,6 @@ use Rattle.search.specs.Exhaustive.{gridVector}
 use Rattle.reach.specs.Reach.{Standing, reach, InReach}
 use Rattle.reach.specs.Keys.{keyOf}
 use Rattle.reach.proofs.Candidates.{reach-bounds}
-use Rattle.window_copy.specs.Copy.{copiedRows}
 use Rattle.window_copy.proofs.Copies.{copied-pel, copied-long}
 use Rattle.full.specs.Rows.{windowCopy, blockCopy, keyInCopy, keyAt}
 
@@ -51,8 +52,7 @@ room top left rows columns n a b c d h = (omega arith, omega arith)
 moved : (y i top : ℕ) → top ≤ i → 16 ≤ y + top → y + top - 16 + (i - top) ≡ y + i - 16
 moved y i top a b = omega arith
 
-module _ (older newer : List ℕ) (b : SearchBlock) (s : Standing b) (small : b .setting .n ≤ 32) (window block : List ℕ)
-    (window-long : length window ≡ 4096) (block-long : length block ≡ 2048) where
+module _ (older : List ℕ) (b : SearchBlock) (s : Standing b) (small : b .setting .n ≤ 32) (window : List ℕ) (window-long : length window ≡ 4096) where
   abbrev width : ℕ
   width = b .setting .width
 
@@ -60,7 +60,7 @@ module _ (older newer : List ℕ) (b : SearchBlock) (s : Standing b) (small : b 
   n = b .setting .n
 
   -- a pel of the window
-  window-pel : (i j p q : ℕ) → InReach (reach b) i j → p < n → q < n
+  pub window-pel : (i j p q : ℕ) → InReach (reach b) i j → p < n → q < n
       → getD (windowCopy older b window) (64 * i + j + p * 64 + q) 0 ≡ getD older ((b .y + i - 16) * width + (b .x + j - 16) + p * width + q) 0
   window-pel i j p q h hp hq =
       let r = reach b in
@@ -79,35 +79,44 @@ module _ (older newer : List ℕ) (b : SearchBlock) (s : Standing b) (small : b 
       (in-window j (r .left) (r .columns) n q (h .left) (h .right) hq)
       ∙ ap (λ (k : ℕ). getD older k 0) there
 
-  pub copies-long : (length (windowCopy older b window) ≡ 4096) × (length (blockCopy newer b block) ≡ 2048)
-  copies-long =
+  pub window-copy-long : length (windowCopy older b window) ≡ 4096
+  window-copy-long =
       let r = reach b in
       let k = reach-bounds b s in
-      let fits = room (r .top) (r .left) (r .rows) (r .columns) n (k .few-rows) (k .few-columns) (k .rows) (k .columns) small in (
-        copied-long older width ((b .y + r .top - 16) * width + (b .x + r .left - 16)) (r .columns + n - 1) window (64 * r .top + r .left) 64 (r .rows + n - 1)
-            (rw window-long (fits .0))
-            ∙ window-long,
-        copied-long newer width (b .y * width + b .x) n block 0 64 n (omega arith) ∙ block-long,
-      )
+      let fits = room (r .top) (r .left) (r .rows) (r .columns) n (k .few-rows) (k .few-columns) (k .rows) (k .columns) small in
+      copied-long older width ((b .y + r .top - 16) * width + (b .x + r .left - 16)) (r .columns + n - 1) window (64 * r .top + r .left) 64 (r .rows + n - 1)
+      (rw window-long (fits .0))
+      ∙ window-long
+
+-- in reach, the rows of the two blocks in the frames have the distortion of that vector
+pub in-frames : (older newer : List ℕ) (b : SearchBlock) → Standing b → (i j : ℕ) → InReach (reach b) i j → let s = b .setting in
+    rowsFrom (measureOf (s .measure)) older newer (s .width) (b .y * s .width + b .x) ((b .y + i - 16) * s .width + (b .x + j - 16)) (s .n) (s .n)
+    ≡ distortion (pairOf older newer s) (b .y) (b .x) (gridVector i j)
+unfolding distortion
+in-frames older newer b s i j h =
+    let k = reach-bounds b s in
+    let o = older-at (b .y) (b .x) i j (omega (arith, k .first-row, h .top)) (omega (arith, k .first-column, h .left)) in
+    sym (block-rows (measureOf (b .setting .measure)) older newer (b .setting .width) (b .y) (b .x) (b .y + i - 16) (b .x + j - 16) (b .setting .n))
+    ∙ rw (o .0, o .1) refl
+
+module _ (older newer : List ℕ) (b : SearchBlock) (s : Standing b) (small : b .setting .n ≤ 32) (window block : List ℕ)
+    (window-long : length window ≡ 4096) (block-long : length block ≡ 2048) where
+  pub copies-long : (length (windowCopy older b window) ≡ 4096) × (length (blockCopy newer b block) ≡ 2048)
+  copies-long = (
+    window-copy-long older b s small window window-long,
+    copied-long newer (b .setting .width) (b .y * b .setting .width + b .x) (b .setting .n) block 0 64 (b .setting .n) (omega arith) ∙ block-long,
+  )
 
   pub in-copy : (i j : ℕ) → InReach (reach b) i j
-      → rowsFrom (measureOf (b .setting .measure)) (windowCopy older b window) (blockCopy newer b block) 64 0 (64 * i + j) n n
+      → rowsFrom (measureOf (b .setting .measure)) (windowCopy older b window) (blockCopy newer b block) 64 0 (64 * i + j) (b .setting .n) (b .setting .n)
       ≡ distortion (pairOf older newer (b .setting)) (b .y) (b .x) (gridVector i j)
-  unfolding distortion rowFrom
+  unfolding rowFrom
   in-copy i j h =
-      let k = reach-bounds b s in
-      let o = older-at (b .y) (b .x) i j (omega (arith, k .first-row, h .top)) (omega (arith, k .first-column, h .left)) in
-      pels
-      ∙ sym (block-rows (measureOf (b .setting .measure)) older newer width (b .y) (b .x) (b .y + i - 16) (b .x + j - 16) n)
-      ∙ rw (o .0, o .1) refl
-    where
-      pels : rowsFrom (measureOf (b .setting .measure)) (windowCopy older b window) (blockCopy newer b block) 64 0 (64 * i + j) n n
-          ≡ rowsFrom (measureOf (b .setting .measure)) older newer width (b .y * width + b .x) ((b .y + i - 16) * width + (b .x + j - 16)) n n
-      pels =
-          sumOver-ext n n _ _ (λ p q hp hq. ap₂ (measureOf (b .setting .measure) .diff)
-          (copied-pel newer width (b .y * width + b .x) n block 0 64 n p q (omega arith) (omega arith) hp hq)
-          (window-pel i j p q h hp hq))
+      sumOver-ext (b .setting .n) (b .setting .n) _ _ (λ p q hp hq. ap₂ (measureOf (b .setting .measure) .diff)
+      (copied-pel newer (b .setting .width) (b .y * b .setting .width + b .x) (b .setting .n) block 0 64 (b .setting .n) p q (omega arith) (omega arith) hp hq)
+      (window-pel older b s small window window-long i j p q h hp hq))
+      ∙ in-frames older newer b s i j h
 
-  pub key-in-copy : (kernel : ℕ) → Kernel (b .setting .measure) n kernel → (i j : ℕ) → InReach (reach b) i j
+  pub key-in-copy : (kernel : ℕ) → Kernel (b .setting .measure) (b .setting .n) kernel → (i j : ℕ) → InReach (reach b) i j
       → keyInCopy (measureBy kernel) (sizeBy kernel) (windowCopy older b window) (blockCopy newer b block) i j ≡ keyAt older newer b i j
   key-in-copy kernel k i j h = rw (k .size, k .measure-is) (ap (λ (d : ℕ). keyOf d i j) (in-copy i j h))

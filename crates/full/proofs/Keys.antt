@@ -1,12 +1,13 @@
--- Keys along a row: the least of them, and that a distortion measured as far as the least so far goes is enough to find it.
---   least-first, least-more   before the first column, and one column more
+-- Keys along a row or column: the least of them, and that a distortion measured as far as the least so far goes is enough to find it.
+--   least-first, least-more   before the first place, and one more; least-next: the same with the least at hand
 --   least-low                 no more than what it began with
---   least-least, least-some   no more than any of the row; and one of the row, or what it began with
+--   least-cut                 n places, and m more behind them, each by itself
+--   least-least, least-some   no more than any; and one of them, or what it began with
 --   least-enough              the sum as far as the ceiling goes wins or loses as the distortion does
 use Prim.Native.Nat.{ℕ, zero, suc, _+_, _*_, _/_, _≤_, _<_, min}
 use mathlib.Core.Path.{_≡_, refl, sym, ap, _∙_}
 use mathlib.Core.Logic.{_⊎_, inl, inr, ⊎-elim}
-use native.Mathlib.Nat.{add-zero, eq-or-lt-of-le, le-of-suc-le-suc, not-suc-le-zero}
+use native.Mathlib.Nat.{add-zero, add-suc, eq-or-lt-of-le}
 use native.Mathlib.Numerals.{add-one}
 use native.Mathlib.Omega.{arith}
 use native.Mathlib.Decide.{decLe}
@@ -22,10 +23,20 @@ module _ (best : ℕ) (g : ℕ → ℕ) (from : ℕ) where
   unfolding leastFrom
   least-more n = rw add-one
 
+  pub least-next : (n i least key : ℕ) → least ≡ leastFrom best g from n → i ≡ from + n → key ≡ min least (g i) → key ≡ leastFrom best g from (n + 1)
+  least-next n i least key e at is = is ∙ rw (e, at) (sym (least-more n))
+
   pub least-low : (n : ℕ) → leastFrom best g from n ≤ best
   unfolding leastFrom
   least-low zero = omega arith
   least-low (suc n) = let l = least-low n in omega arith
+
+  pub least-cut : (n m : ℕ) → leastFrom best g from (n + m) ≡ min (leastFrom best g from n) (leastFrom best g (from + n) m)
+  unfolding leastFrom
+  least-cut n zero = rw add-zero (omega (arith, least-low n))
+  least-cut n (suc m) =
+      let e : from + (n + m) ≡ from + n + m = omega arith in
+      rw (add-suc, e) (omega (arith, least-cut n m))
 
   pub least-least : (n j : ℕ) → from ≤ j → j < from + n → leastFrom best g from n ≤ g j
   unfolding leastFrom

@@ -1,9 +1,12 @@
 -- The rows of window 16 from the middle on: after t rows on either side the least key is that of the rows passed.
 --   Led                            a key is one of those in reach, and the least of the rows nearer than t to the middle
 --   led-first, led-more, led-last  the middle row, a row on either side, and all rows
-use Prim.Native.Nat.{ℕ, _+_, _-_, _*_, _≤_, _<_}
+-- And its columns from the first in reach on.
+--   Passed                                  a key is one of those in reach, and the least of the columns before j
+--   passed-first, passed-more, passed-last  no column, one more, and all
+use Prim.Native.Nat.{ℕ, _+_, _-_, _≤_, _<_}
 use mathlib.Core.Path.{_≡_, refl, sym, _∙_, subst}
-use mathlib.Core.Logic.{⊎-elim, _⊎_, inl, inr}
+use mathlib.Core.Logic.{⊎-elim, inl, inr}
 use native.Mathlib.Nat.{le-trans}
 use native.Mathlib.Omega.{arith}
 use native.Mathlib.Decide.{decLt, ℕ-discrete}
@@ -61,6 +64,41 @@ module _ (K : ℕ → ℕ → ℕ) (r : Region) where
 
   pub led-last : Around r → (key : ℕ) → Led K r 17 key → LeastKey K r key
   led-last a key d = record { some = d .some; least = λ i j h. d .least i j h (omega (arith, h .bottom, a .few-rows)) }
+
+-- ---- columns
+
+pub record Passed (K : ℕ → ℕ → ℕ) (r : Region) (j key : ℕ) : Type 0 where
+  pub some : (i : ℕ) × (j : ℕ) × InReach r i j × (key ≡ K i j)
+  pub least : (i k : ℕ) → InReach r i k → k < j → key ≤ K i k
+
+module _ (K : ℕ → ℕ → ℕ) (r : Region) where
+  pub passed-first : Around r → (first : ℕ) → first ≡ K 16 16 → Passed K r (r .left) first
+  passed-first a first e = record {
+    some = (16, 16, record { top = a .above; bottom = a .below; left = a .before; right = a .behind }, e);
+    least = λ i k h l. absurd (omega (arith, h .left));
+  }
+
+  pub passed-more : (j best key : ℕ) → r .left ≤ j → j < r .left + r .columns → key ≡ leastFrom best (λ i. K i j) (r .top) (r .rows) → Passed K r j best
+      → Passed K r (j + 1) key
+  passed-more j best key a b is d = record {
+    some =
+        ⊎-elim (λ (e : least ≡ best). (d .some .0, d .some .1, d .some .2, is ∙ e ∙ d .some .3))
+        (λ (s : (i : ℕ) × (r .top ≤ i) × (i < r .top + r .rows) × (least ≡ K i j)).
+        (s .0, j, record { top = s .1; bottom = s .2; left = a; right = b }, is ∙ s .3)) (least-some best (λ i. K i j) (r .top) (r .rows));
+    least = λ i k h l. rw is (go i k h l (decLt k j));
+  }
+    where
+      least : ℕ
+      least = leastFrom best (λ i. K i j) (r .top) (r .rows)
+
+      go : (i k : ℕ) → InReach r i k → k < j + 1 → Dec (k < j) → least ≤ K i k
+      go i k h l (yes m) = le-trans (least-low best (λ i. K i j) (r .top) (r .rows)) (d .least i k h m)
+      go i k h l (no m) =
+          let q : k ≡ j = omega arith in
+          rw q (least-least best (λ i. K i j) (r .top) (r .rows) i (h .top) (h .bottom))
+
+  pub passed-last : (key : ℕ) → Passed K r (r .left + r .columns) key → LeastKey K r key
+  passed-last key d = record { some = d .some; least = λ i j h. d .least i j h (h .right) }
 
 -- equal keys in reach
 pub least-same : (K L : ℕ → ℕ → ℕ) (r : Region) (key : ℕ) → ((i j : ℕ) → InReach r i j → K i j ≡ L i j) → LeastKey K r key → LeastKey L r key

@@ -1,2 +1,3 @@
 pub mod Full
 pub mod Rows
+pub mod Columns

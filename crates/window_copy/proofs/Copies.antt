@@ -2,8 +2,9 @@
 --   copied-long   it is as long as before
 --   copied-more   one row more
 --   copied-pel    place at + i × pitch + j holds the pel in row i, column j, where rows do not overlap
+--   copied-before   a place before the first row is as it was
 use Prim.Native.Nat.{ℕ, zero, suc, _+_, _*_, _≤_, _<_}
-use mathlib.Core.Path.{_≡_, refl, ap, _∙_}
+use mathlib.Core.Path.{_≡_, refl, _∙_}
 use mathlib.Core.Logic.{⊎-elim}
 use mathlib.Core.List.{List}
 use native.Mathlib.Nat.{eq-or-lt-of-le, le-of-suc-le-suc, not-suc-le-zero}
@@ -42,3 +43,12 @@ module _ (frame : List ℕ) (width from columns : ℕ) (copy : List ℕ) (at pit
       fill-before _ (at + n * pitch) _ columns (at + i * pitch + j) 0 room (omega (arith, row-fits i n pitch m))
       ∙ copied-pel n i j (omega (arith, e, add-one n)) c m hj)
       (eq-or-lt-of-le (le-of-suc-le-suc hi))
+
+  pub copied-before : (rows k : ℕ) → at + rows * pitch + columns ≤ length copy + pitch → k < at
+      → getD (copiedRows frame width from columns copy at pitch rows) k 0 ≡ getD copy k 0
+  unfolding copiedRows
+  copied-before zero k h l = refl
+  copied-before (suc i) k h l =
+      let e = row-next i pitch in
+      let n = copied-long i (omega (arith, e, add-one i)) in
+      fill-before _ (at + i * pitch) _ columns k 0 (omega (arith, e, add-one i)) (omega arith) ∙ copied-before i k (omega (arith, e, add-one i)) l

@@ -1,29 +1,22 @@
 -- `least_key`: the key of (0,0) begins; with a distortion of 0 it is the least.
 use Prim.Native.Nat.{ℕ, _+_, _-_, _*_, _≤_, _<_}
-use mathlib.Core.Path.{_≡_, refl, sym, ap, ap₂, _∙_}
+use mathlib.Core.Path.{_≡_, refl, sym, _∙_}
 use native.Mathlib.Omega.{arith}
 use borrow.Author.Needs.{needs}
 use denote.Ref.{now}
-use Rattle.measures.specs.Measures.{measureOf}
 use Rattle.frame.specs.Pictures.{pairOf}
 use Rattle.search.specs.Exhaustive.{gridVector}
-use Rattle.distortion.specs.Blocks.{blockAt, distortion, distortionBy}
-use Rattle.reach.specs.Reach.{reach, InReach}
+use Rattle.distortion.specs.Blocks.{distortion}
 use Rattle.reach.specs.Keys.{keyOf}
-use Rattle.reach.proofs.Candidates.{ready-standing, reach-bounds, reach-small}
+use Rattle.reach.proofs.Candidates.{ready-standing, reach-small}
 use Rattle.reach.proofs.Keys.{still-is, still-code}
-use Rattle.full.specs.Rows.{keyAt, LeastKey}
+use Rattle.full.specs.Rows.{keyAt}
 use Rattle.full.proofs.Copies.{older-at}
+use Rattle.full.proofs.Ready.{size, middle}
 use Rattle.full.proofs.least_key.Statement.{statement}
 use Rattle.full.proofs.least_key.Tie as tie
 
--- (0,0) stands in reach
-middle : (s : tie.Start) → InReach (reach (s .args .b)) 16 16
-middle s =
-    let k = reach-bounds (s .args .b) (ready-standing _ _ _ (s .pre .0)) in
-    record { top = k .above; bottom = k .below; left = k .before; right = k .behind }
-
--- and its key is the first
+-- the key of (0,0) is the first
 first-is : (c : tie.After-block-distortion) → let a = c .before .before .before .args in
     c .block-distortion .result * 262144 + 1040 ≡ keyAt (now (a .older)) (now (a .newer)) (a .b) 16 16
 unfolding keyOf distortion
@@ -57,22 +50,39 @@ returns c =
     let s = d .before .before .before in
     let e = first-is d in (
       record {
-        some = (16, 16, middle s, e);
+        some = (16, 16, middle _ _ _ (s .pre .0), e);
         least = λ i j h. let small = reach-small _ (ready-standing _ _ _ (s .pre .0)) i j h in
             omega (arith, lowest (distortion (pairOf (now (s .args .older)) (now (s .args .newer)) (s .args .b .setting)) (s .args .b .y) (s .args .b .x) (gridVector i j)) i j (small .0) (small .1), c .if1 .taken);
       },
       omega arith,
     )
 
-by-rows-requires : tie.Need-by-rows-requires
-by-rows-requires c κs =
-    let s = c .before .before .before .before in
-    (s .pre .0, s .pre .1, first-is (c .before), omega arith)
+kernel-requires : tie.Need-kernel-requires
+kernel-requires c κs = omega (arith, size _ _ _ (c .before .before .before .before .pre .0))
+
+by-columns-requires : tie.Need-by-columns-requires
+by-columns-requires c κs =
+    let d = c .before .before .before in
+    let s = d .before .before .before in
+    (s .pre .0, s .pre .1, first-is d, sym (c .before .kernel .ensures) ∙ c .if2 .taken)
 
 returns-2 : tie.Need-returns-2
 returns-2 c =
-    let d = c .before .before in
-    (c .by-rows .ensures, omega (arith, first-is d, c .by-rows .ensures .least 16 16 (middle (d .before .before .before))))
+    let d = c .before .before .before .before in
+    let p = d .before .before .before .pre in
+    (c .by-columns .ensures, omega (arith, first-is d, c .by-columns .ensures .least 16 16 (middle _ _ _ (p .0))))
+
+by-rows-requires : tie.Need-by-rows-requires
+by-rows-requires c κs =
+    let d = c .before .before .before in
+    let s = d .before .before .before in
+    (s .pre .0, s .pre .1, first-is d, omega arith)
+
+returns-3 : tie.Need-returns-3
+returns-3 c =
+    let d = c .before .before .before .before in
+    let p = d .before .before .before .pre in
+    (c .by-rows .ensures, omega (arith, first-is d, c .by-rows .ensures .least 16 16 (middle _ _ _ (p .0))))
 
 pub least-key-spec : {M : Type 1} → statement M
 least-key-spec =
@@ -83,5 +93,8 @@ least-key-spec =
     mul-first
     add-first
     returns
+    kernel-requires
+    by-columns-requires
+    returns-2
     by-rows-requires
-    returns-2)
+    returns-3)

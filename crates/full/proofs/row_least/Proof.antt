@@ -1,5 +1,5 @@
 -- `row_least`: after the columns before j the least is that of their keys.
-use Prim.Native.Nat.{ℕ, _+_, _-_, _*_, _/_, _≤_, _<_}
+use Prim.Native.Nat.{ℕ, _+_, _-_, _*_, _≤_, _<_}
 use mir.Syntax.{w32}
 use mathlib.Core.Path.{_≡_, refl, ap, _∙_}
 use native.Mathlib.Omega.{arith}
@@ -11,7 +11,7 @@ use Rattle.base.specs.Lists.{getD-listTo}
 use Rattle.distortion.specs.Blocks.{sizeBy, measureBy}
 use Rattle.reach.specs.Keys.{orderCode, keyOf}
 use Rattle.reach.proofs.Keys.{code-small}
-use Rattle.full.specs.Rows.{columnCode, keyInCopy, leastFrom}
+use Rattle.full.specs.Rows.{codeOf, keyInCopy, leastFrom}
 use Rattle.full.proofs.Keys.{least-first, least-more, least-low, least-enough}
 use Rattle.full.proofs.row_least.Statement.{statement}
 use Rattle.full.proofs.row_least.Tie as tie
@@ -31,7 +31,7 @@ code-is : (l : tie.At-loop Inv-loop μ-loop) → l .loop .j < 33 → let a = sta
     l .before .away .result + 64 * a .i + getD (now (a .codes)) (l .loop .j) 0 ≡ orderCode (a .i) (l .loop .j)
 unfolding orderCode
 code-is l h =
-    let column = ap (λ (k : List ℕ). getD k (l .loop .j) 0) (start l .pre .7) ∙ getD-listTo columnCode 33 (l .loop .j) 0 h in
+    let column = ap (λ (k : List ℕ). getD k (l .loop .j) 0) (start l .pre .7) ∙ getD-listTo (codeOf 1) 33 (l .loop .j) 0 h in
     omega (arith, column, l .before .away .ensures)
 
 code-low : (l : tie.At-loop Inv-loop μ-loop) → l .loop .j < 33 → let a = start l .args in

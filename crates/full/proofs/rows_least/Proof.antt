@@ -1,5 +1,5 @@
 -- `rows_least`: before turn t the least is that of the rows nearer than t to the middle (`Led`).
-use Prim.Native.Nat.{ℕ, _+_, _-_, _≤_, _<_}
+use Prim.Native.Nat.{ℕ, _-_, _≤_, _<_}
 use mathlib.Core.Path.{_≡_}
 use native.Mathlib.Omega.{arith}
 use denote.Ref.{now}
@@ -9,7 +9,7 @@ use lib.ListN.{length}
 use Rattle.base.specs.Lists.{listTo}
 use Rattle.refusals.specs.Refusals.{blockSizeOk}
 use Rattle.distortion.specs.Blocks.{sizeBy, measureBy}
-use Rattle.full.specs.Rows.{columnCode, keyInCopy, Around}
+use Rattle.full.specs.Rows.{codeOf, keyInCopy, Around}
 use Rattle.full.proofs.Reached.{Led, led-first, led-more, led-last}
 use Rattle.full.proofs.rows_least.Statement.{statement}
 use Rattle.full.proofs.rows_least.Tie as tie
@@ -25,16 +25,16 @@ abbrev start : tie.At-loop Inv-loop μ-loop → tie.Start Inv-loop μ-loop
 start l = l .before .before .before .before
 
 -- what a row asks
-asked : (s : tie.Start Inv-loop μ-loop) {codes : List ℕ} {best : ℕ} → codes ≡ listTo columnCode 33 → best < 1125899906842624 → let a = s .args in
+asked : (s : tie.Start Inv-loop μ-loop) {codes : List ℕ} {best : ℕ} → codes ≡ listTo (codeOf 1) 33 → best < 1125899906842624 → let a = s .args in
     (length (now (a .window)) ≡ 4096) × (length (now (a .block)) ≡ 2048) × (a .kernel < 128) × T (blockSizeOk (sizeBy (a .kernel))) × Around (a .r)
-    × (codes ≡ listTo columnCode 33) × (best < 1125899906842624)
+    × (codes ≡ listTo (codeOf 1) 33) × (best < 1125899906842624)
 asked s e h = let p = s .pre in (p .0, p .1, p .2, p .3, p .4, e, h)
 
-column-codes-requires : tie.Need-column-codes-requires Inv-loop μ-loop
-column-codes-requires c κs = tt
+codes-of-requires : tie.Need-codes-of-requires Inv-loop μ-loop
+codes-of-requires c κs = omega arith
 
 row-in-reach-requires : tie.Need-row-in-reach-requires Inv-loop μ-loop
-row-in-reach-requires c κs = asked (c .before .before) (c .before .column-codes .ensures) (c .before .before .pre .6)
+row-in-reach-requires c κs = asked (c .before .before) (c .before .codes-of .ensures) (c .before .before .pre .6)
 
 loop-holds : tie.Need-loop-holds Inv-loop μ-loop
 loop-holds c =
@@ -45,7 +45,7 @@ loop-holds c =
 row-in-reach-requires-2 : tie.Need-row-in-reach-requires-2 Inv-loop μ-loop
 row-in-reach-requires-2 c κs =
     let l = c .before .before in
-    asked (start l) (l .before .before .before .column-codes .ensures) (l .loop .inv .3)
+    asked (start l) (l .before .before .before .codes-of .ensures) (l .loop .inv .3)
 
 add-row-in-reach : tie.Need-add-row-in-reach Inv-loop μ-loop
 add-row-in-reach c = omega arith
@@ -53,7 +53,7 @@ add-row-in-reach c = omega arith
 row-in-reach-requires-3 : tie.Need-row-in-reach-requires-3 Inv-loop μ-loop
 row-in-reach-requires-3 c κs =
     let l = c .before .before .before .before in
-    asked (start l) (l .before .before .before .column-codes .ensures) (omega (arith, c .before .row-in-reach2 .ensures .low, l .loop .inv .3))
+    asked (start l) (l .before .before .before .codes-of .ensures) (omega (arith, c .before .row-in-reach2 .ensures .low, l .loop .inv .3))
 
 add-t : tie.Need-add-t Inv-loop μ-loop
 add-t c = omega arith
@@ -80,7 +80,7 @@ rows-least-spec =
     (tie.spec
     Inv-loop
     μ-loop
-    column-codes-requires
+    codes-of-requires
     row-in-reach-requires
     loop-holds
     row-in-reach-requires-2

@@ -1,19 +1,24 @@
--- `column_codes`: after j turns the first j codes are stored.
-use Prim.Native.Nat.{_-_, _≤_}
+-- `codes_of`: after j turns the first j codes are stored.
+use Prim.Native.Nat.{_-_, _*_, _≤_, _<_}
 use mathlib.Core.Path.{_≡_, refl, _∙_}
 use mathlib.Core.List.{append-nil}
+use native.Mathlib.Nat.{mul-le-mul}
 use native.Mathlib.Omega.{arith}
 use lib.ListN.{length, length-set}
 use Rattle.base.specs.Lists.{fillTo, fill-none, fill-front, fill-zero}
-use Rattle.full.specs.Rows.{columnCode}
-use Rattle.full.proofs.column_codes.Statement.{statement}
-use Rattle.full.proofs.column_codes.Tie as tie
+use Rattle.full.specs.Rows.{codeOf}
+use Rattle.full.proofs.codes_of.Statement.{statement}
+use Rattle.full.proofs.codes_of.Tie as tie
 
 abbrev Inv-loop : tie.InvT-loop
-Inv-loop codes₀ j₀ codes j = (j ≤ 33) × (length codes ≡ 33) × (codes ≡ fillTo codes₀ 0 columnCode j)
+Inv-loop weight codes₀ j₀ codes j = (j ≤ 33) × (length codes ≡ 33) × (codes ≡ fillTo codes₀ 0 (codeOf weight) j)
 
 abbrev μ-loop : tie.MeasureT-loop
-μ-loop codes₀ j₀ codes j = 33 - j
+μ-loop weight codes₀ j₀ codes j = 33 - j
+
+-- what the number of a row or column adds is small
+few : (l : tie.At-loop Inv-loop μ-loop) → l .loop .j < 33 → l .before .args .weight * l .loop .j ≤ 2112
+few l h = mul-le-mul {n₂ = 64} {m₂ = 33} (l .before .pre) (omega arith)
 
 loop-holds : tie.Need-loop-holds Inv-loop μ-loop
 loop-holds c = (omega arith, refl, fill-none _ _ _)
@@ -21,11 +26,14 @@ loop-holds c = (omega arith, refl, fill-none _ _ _)
 away-requires : tie.Need-away-requires Inv-loop μ-loop
 away-requires c κs = omega arith
 
-add-codes : tie.Need-add-codes Inv-loop μ-loop
-add-codes c = omega arith
-
 mul-codes : tie.Need-mul-codes Inv-loop μ-loop
-mul-codes c = omega arith
+mul-codes c = omega (arith, few (c .before .before) (omega arith))
+
+add-codes : tie.Need-add-codes Inv-loop μ-loop
+add-codes c = omega (arith, few (c .before .before) (omega arith))
+
+mul-codes-2 : tie.Need-mul-codes-2 Inv-loop μ-loop
+mul-codes-2 c = omega arith
 
 array-write-codes : tie.Need-array-write-codes Inv-loop μ-loop
 array-write-codes c = omega arith
@@ -39,7 +47,7 @@ loop-less c = omega arith
 loop-again : tie.Need-loop-again Inv-loop μ-loop
 loop-again c =
     let l = c .before .before .loop in
-    (omega arith, simp length-set (omega arith), rw (l .inv .2, c .away .ensures) (fill-front _ columnCode (l .j) (omega (arith, l .inv .1))))
+    (omega arith, simp length-set (omega arith), rw (l .inv .2, c .away .ensures) (fill-front _ _ (l .j) (omega (arith, l .inv .1))))
 
 returns : tie.Need-returns Inv-loop μ-loop
 returns c =
@@ -47,16 +55,17 @@ returns c =
     let e : l .j ≡ 33 = omega arith in
     l .inv .2 ∙ (rw (e, fill-zero) (append-nil _))
 
-pub column-codes-spec : {M : Type 1} → statement M
-column-codes-spec =
+pub codes-of-spec : {M : Type 1} → statement M
+codes-of-spec =
     tie.close
     (tie.spec
     Inv-loop
     μ-loop
     loop-holds
     away-requires
-    add-codes
     mul-codes
+    add-codes
+    mul-codes-2
     array-write-codes
     add-j
     loop-less
