@@ -1,5 +1,4 @@
 -- The candidates of a block row by row of window 16, over copies of the block and of its search window in rows of 64 places, and the least of their keys.
---   codeOf       what a row or column of window 16 adds to a key, whose number counts so much: 64 for rows, 1 for columns
 --   keyInCopy    the key of row i, column j by the copies: their distortion, then the order
 --   keyAt        the key of row i, column j: the distortion of its vector, then the order
 --   windowCopy   the copy of the search window: row i and column j of window 16 begin the older block of their vector
@@ -12,7 +11,6 @@ use Prim.Native.Nat.{ℕ, zero, suc, _+_, _-_, _*_, _≤_, _<_, min}
 use mathlib.Core.Path.{_≡_}
 use mathlib.Core.Logic.{_⊎_}
 use mathlib.Core.List.{List}
-use Rattle.signed.specs.Values.{absDiff}
 use Rattle.measures.specs.Measures.{measureOf}
 use Rattle.frame.specs.Pictures.{pairOf}
 use Rattle.frame.specs.declared.Region.{Region}
@@ -22,9 +20,6 @@ use Rattle.search.specs.Exhaustive.{gridVector}
 use Rattle.window_copy.specs.Copy.{copiedRows}
 use Rattle.reach.specs.Reach.{reach, InReach}
 use Rattle.reach.specs.Keys.{keyOf}
-
-abbrev pub codeOf : ℕ → ℕ → ℕ
-codeOf weight j = absDiff j 16 * 4096 + weight * j
 
 abbrev pub keyInCopy : ℕ → ℕ → List ℕ → List ℕ → ℕ → ℕ → ℕ
 keyInCopy measure n window block i j = keyOf (rowsFrom (measureOf measure) window block 64 0 (64 * i + j) n n) i j

@@ -7,27 +7,24 @@ ghost use Prim.Native.Nat.{_+_, _-_, _*_, _≤_, _<_, min};
 ghost use lib.Dec.{T};
 ghost use lib.ListN.{length};
 ghost use Rattle.base.specs.Lists.{listTo};
-ghost use Rattle.signed.specs.Values.{absDiff};
 ghost use Rattle.measures.specs.Measures.{measureOf};
 ghost use Rattle.frame.specs.Pictures.{pairOf};
 ghost use Rattle.refusals.specs.Refusals.{blockSizeOk};
 ghost use Rattle.distortion.specs.Blocks.{UpTo, rowsFrom, kernelOf, sizeBy, measureBy};
 ghost use Rattle.search.specs.Target.{Ready};
 ghost use Rattle.reach.specs.Reach.{Standing, reach};
-ghost use Rattle.reach.specs.Keys.{orderCode};
+ghost use Rattle.reach.specs.Keys.{orderCode, codeOf};
 ghost use Rattle.full.specs.Full.{fullSearch};
-ghost use Rattle.full.specs.Rows.{codeOf, keyInCopy, leastFrom, windowCopy, keyAt, Around, Lowered, LeastKey};
+ghost use Rattle.full.specs.Rows.{keyInCopy, leastFrom, windowCopy, keyAt, Around, Lowered, LeastKey};
 ghost use Rattle.full.specs.Columns.{stripOf, Twice, keyInStrip, keyByColumn};
 use frame::Region;
 use frame::SearchBlock;
 use search::SearchResult;
 
-// The copies of a block and its search window, in rows of window_copy::ROW places, and the rows or columns of window 16.
+// The copies of a block and its search window, in rows of window_copy::ROW places.
 const WINDOW: usize = window_copy::ROW * window_copy::ROW;
 
 const BLOCK: usize = frame::LARGEST_N * window_copy::ROW;
-
-const SIDE: usize = 33;
 
 // Eight columns of the copied window, row after row, and a copied block of N 8 twice.
 const STRIP: usize = 320;
@@ -35,31 +32,6 @@ const STRIP: usize = 320;
 const TWICE: usize = 128;
 
 // ---- keys
-
-// How far row or column i of window 16 lies from the middle, as a part of a key.
-fn away(i: usize) -> u64
-    requires { ⌜ i < 33 ⌝ }
-    ensures { λ r. ⌜ r ≡ absDiff i 16 * 4096 ⌝ }
-{
-    if i < 16 {
-        return (16 - i) as u64 * 4096;
-    }
-    (i - 16) as u64 * 4096
-}
-
-// What each row or column adds to a key, whose number counts `weight`: 64 for rows, 1 for columns.
-fn codes_of(weight: u64) -> [u64; SIDE]
-    requires { ⌜ weight ≤ 64 ⌝ }
-    ensures { λ r. ⌜ r ≡ listTo (codeOf weight) 33 ⌝ }
-{
-    let mut codes = [0u64; SIDE];
-    let mut j: usize = 0;
-    while j < SIDE {
-        codes[j] = away(j) + weight * j as u64;
-        j += 1;
-    }
-    codes
-}
 
 // The lesser of the two.
 fn lesser(a: u64, b: u64) -> u64
@@ -97,14 +69,14 @@ fn row_least(
     i: usize,
     from: usize,
     to: usize,
-    codes: &[u64; SIDE],
+    codes: &[u64; reach::SIDE],
     best: u64,
 ) -> u64
     requires { ⌜ (length (now window) ≡ 4096) × (length (now block) ≡ 2048) × (kernel < 128) × T (blockSizeOk (sizeBy kernel)) × (i < 33) × (from ≤ to) × (to ≤ 33)
         × (now codes ≡ listTo (codeOf 1) 33) × (best < 1125899906842624) ⌝ }
     ensures { λ r. ⌜ r ≡ leastFrom best (keyInCopy (measureBy kernel) (sizeBy kernel) (now (window .entry)) (now (block .entry)) i) from (to - from) ⌝ }
 {
-    let down = away(i) + 64 * i as u64;
+    let down = reach::code_of(64, i);
     let mut least = best;
     let mut j = from;
     while j < to {
@@ -128,7 +100,7 @@ fn row_in_reach(
     kernel: usize,
     i: usize,
     r: Region,
-    codes: &[u64; SIDE],
+    codes: &[u64; reach::SIDE],
     best: u64,
 ) -> u64
     requires { ⌜ (length (now window) ≡ 4096) × (length (now block) ≡ 2048) × (kernel < 128) × T (blockSizeOk (sizeBy kernel)) × Around r
@@ -165,7 +137,7 @@ fn rows_least(
         × (first ≡ keyInCopy (measureBy kernel) (sizeBy kernel) (now window) (now block) 16 16) × (first < 1125899906842624) ⌝ }
     ensures { λ k. ⌜ LeastKey (keyInCopy (measureBy kernel) (sizeBy kernel) (now (window .entry)) (now (block .entry))) r k ⌝ }
 {
-    let codes = codes_of(1);
+    let codes = reach::codes_of(1);
     let mut best = row_in_reach(window, block, kernel, 16, r, &codes, first);
     let mut t: usize = 1;
     while t <= 16 {
@@ -267,14 +239,14 @@ fn column_least(
     j: usize,
     from: usize,
     to: usize,
-    codes: &[u64; SIDE],
+    codes: &[u64; reach::SIDE],
     best: u64,
 ) -> u64
     requires { ⌜ (length (now strip) ≡ 320) × (length (now block) ≡ 128) × Twice (now block) × (j < 33) × (from ≤ to) × (to ≤ 33)
         × (now codes ≡ listTo (codeOf 64) 33) ⌝ }
     ensures { λ r. ⌜ r ≡ leastFrom best (keyInStrip (now (strip .entry)) (now (block .entry)) j) from (to - from) ⌝ }
 {
-    let across = away(j) + j as u64;
+    let across = reach::code_of(1, j);
     let middle = (from + to) / 2;
     let mut least = best;
     let mut other = best;
@@ -305,7 +277,7 @@ fn columns_least(window: &[u8; WINDOW], block: &[u8; TWICE], r: Region, first: u
 {
     let bottom = r.top + r.rows;
     let right = r.left + r.columns;
-    let codes = codes_of(64);
+    let codes = reach::codes_of(64);
     let mut strip = [0u8; STRIP];
     let mut best = first;
     let mut j = r.left;

@@ -2,7 +2,9 @@
 --   code-precedes   the vector of the smaller number precedes; code-same: no two vectors have one number
 --   code-small      the number stays below the part of a key that is compared first
 --   still-code      (0,0) has the least number; still-is: which one
---   key-parts       what was compared first, the row and the column, read from a key
+--   key-parts       what was compared first, the row and the column, read from a key; key-spot: row and column as one number
+--   key-anew        a key with another number above the same order
+--   code-parts      the order's number is what the row and the column add
 use Prim.Native.Nat.{ℕ, _+_, _*_, _/_, _%_, _≤_, _<_}
 use mathlib.Core.Path.{_≡_, refl, sym, ap, ap₂, _∙_}
 use native.Mathlib.Omega.{arith}
@@ -15,7 +17,7 @@ use Rattle.signed.specs.Values.{absDiff, unbias, unbias-is, abs-diff-is}
 use Rattle.order.specs.Vectors.{cityBlock, Precedes}
 use Rattle.order.specs.Vectors.Precedes.{nearer, higher, lefter}
 use Rattle.search.specs.Exhaustive.{gridVector}
-use Rattle.reach.specs.Keys.{orderCode, keyOf}
+use Rattle.reach.specs.Keys.{orderCode, keyOf, codeOf}
 
 -- |dy| + |dx|, and which of two parts is smaller
 city : (i j : ℕ) → cityBlock (gridVector i j) ≡ absDiff i 16 + absDiff j 16
@@ -81,3 +83,15 @@ module _ (i j : ℕ) (hi : i < 33) (hj : j < 33) where
   pub key-parts : (d : ℕ) → (keyOf d i j / 262144 ≡ d) × (keyOf d i j / 64 % 64 ≡ i) × (keyOf d i j % 64 ≡ j)
   unfolding keyOf orderCode
   key-parts d = (omega arith, omega arith, omega arith)
+
+  pub key-spot : (d : ℕ) → keyOf d i j % 4096 ≡ 64 * i + j
+  unfolding keyOf orderCode
+  key-spot d = omega arith
+
+  pub key-anew : (d e : ℕ) → e * 262144 + keyOf d i j % 262144 ≡ keyOf e i j
+  unfolding keyOf
+  key-anew d e = omega (arith, code-small)
+
+pub code-parts : (i j : ℕ) → codeOf 64 i + codeOf 1 j ≡ orderCode i j
+unfolding orderCode
+code-parts i j = omega arith

@@ -6,9 +6,9 @@ use denote.Ref.{now}
 use mathlib.Core.List.{List}
 use lib.ListN.{getD}
 use Rattle.base.specs.Lists.{getD-listTo}
-use Rattle.reach.specs.Keys.{orderCode}
+use Rattle.reach.specs.Keys.{orderCode, codeOf}
 use Rattle.reach.proofs.Keys.{code-small}
-use Rattle.full.specs.Rows.{codeOf, leastFrom}
+use Rattle.full.specs.Rows.{leastFrom}
 use Rattle.full.specs.Columns.{keyInStrip}
 use Rattle.full.proofs.Keys.{least-first, least-next, least-cut}
 use Rattle.full.proofs.Strips.{strip-key}
@@ -43,21 +43,18 @@ halves best g from middle to n m least other a b at all = rw (a, b, at, all) (sy
 
 -- what row i adds to the column's part of a key is their place in the order
 code-is : (l : tie.At-loop Inv-loop μ-loop) (i : ℕ) → i < 33 → let a = start l .args in
-    l .before .away .result + a .j + getD (now (a .codes)) i 0 ≡ orderCode i (a .j)
+    l .before .code-of .result + getD (now (a .codes)) i 0 ≡ orderCode i (a .j)
 unfolding orderCode
 code-is l i h =
     let row = ap (λ (k : List ℕ). getD k i 0) (start l .pre .6) ∙ getD-listTo (codeOf 64) 33 i 0 h in
-    omega (arith, row, l .before .away .ensures)
+    omega (arith, row, l .before .code-of .ensures)
 
 code-low : (l : tie.At-loop Inv-loop μ-loop) (i : ℕ) → i < 33 → let a = start l .args in
-    l .before .away .result + a .j + getD (now (a .codes)) i 0 < 262144
+    l .before .code-of .result + getD (now (a .codes)) i 0 < 262144
 code-low l i h = rw (code-is l i h) (code-small i (start l .args .j) h (start l .pre .3))
 
-away-requires : tie.Need-away-requires Inv-loop μ-loop
-away-requires c κs = c .before .before .pre .3
-
-add-across : tie.Need-add-across Inv-loop μ-loop
-add-across c = omega arith
+code-of-requires : tie.Need-code-of-requires Inv-loop μ-loop
+code-of-requires c κs = (omega arith, c .before .before .pre .3)
 
 add-middle : tie.Need-add-middle Inv-loop μ-loop
 add-middle c = omega arith
@@ -179,8 +176,7 @@ column-least-spec =
     (tie.spec
     Inv-loop
     μ-loop
-    away-requires
-    add-across
+    code-of-requires
     add-middle
     loop-holds
     mul-at

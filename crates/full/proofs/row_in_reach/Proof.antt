@@ -1,5 +1,5 @@
 -- `row_in_reach`: a row out of reach adds nothing; of one in reach all columns in reach are looked at.
-use Prim.Native.Nat.{_+_, _-_, _≤_, _<_}
+use Prim.Native.Nat.{_+_, _-_}
 use mathlib.Core.Path.{_≡_}
 use native.Mathlib.Omega.{arith}
 use borrow.Author.Needs.{needs}

@@ -1,5 +1,5 @@
 -- `row_least`: after the columns before j the least is that of their keys.
-use Prim.Native.Nat.{ℕ, _+_, _-_, _*_, _≤_, _<_}
+use Prim.Native.Nat.{ℕ, _+_, _-_, _≤_, _<_}
 use mir.Syntax.{w32}
 use mathlib.Core.Path.{_≡_, refl, ap, _∙_}
 use native.Mathlib.Omega.{arith}
@@ -9,9 +9,9 @@ use mathlib.Core.List.{List}
 use lib.ListN.{getD}
 use Rattle.base.specs.Lists.{getD-listTo}
 use Rattle.distortion.specs.Blocks.{sizeBy, measureBy}
-use Rattle.reach.specs.Keys.{orderCode, keyOf}
+use Rattle.reach.specs.Keys.{orderCode, keyOf, codeOf}
 use Rattle.reach.proofs.Keys.{code-small}
-use Rattle.full.specs.Rows.{codeOf, keyInCopy, leastFrom}
+use Rattle.full.specs.Rows.{keyInCopy, leastFrom}
 use Rattle.full.proofs.Keys.{least-first, least-more, least-low, least-enough}
 use Rattle.full.proofs.row_least.Statement.{statement}
 use Rattle.full.proofs.row_least.Tie as tie
@@ -28,28 +28,22 @@ start l = l .before .before
 
 -- what row i and column j add to a key is their place in the order
 code-is : (l : tie.At-loop Inv-loop μ-loop) → l .loop .j < 33 → let a = start l .args in
-    l .before .away .result + 64 * a .i + getD (now (a .codes)) (l .loop .j) 0 ≡ orderCode (a .i) (l .loop .j)
+    l .before .code-of .result + getD (now (a .codes)) (l .loop .j) 0 ≡ orderCode (a .i) (l .loop .j)
 unfolding orderCode
 code-is l h =
     let column = ap (λ (k : List ℕ). getD k (l .loop .j) 0) (start l .pre .7) ∙ getD-listTo (codeOf 1) 33 (l .loop .j) 0 h in
-    omega (arith, column, l .before .away .ensures)
+    omega (arith, column, l .before .code-of .ensures)
 
 code-low : (l : tie.At-loop Inv-loop μ-loop) → l .loop .j < 33 → let a = start l .args in
-    l .before .away .result + 64 * a .i + getD (now (a .codes)) (l .loop .j) 0 < 262144
+    l .before .code-of .result + getD (now (a .codes)) (l .loop .j) 0 < 262144
 code-low l h = rw (code-is l h) (code-small (start l .args .i) (l .loop .j) (start l .pre .4) h)
 
 -- the least is no more than what it began with
 low : (l : tie.At-loop Inv-loop μ-loop) → l .loop .least ≤ start l .args .best
 low l = let a = start l .args in omega (arith, l .loop .inv .2, least-low (a .best) (keyInCopy (measureBy (a .kernel)) (sizeBy (a .kernel)) (now (a .window)) (now (a .block)) (a .i)) (a .from) (l .loop .j - a .from))
 
-away-requires : tie.Need-away-requires Inv-loop μ-loop
-away-requires c κs = c .pre .4
-
-mul-down : tie.Need-mul-down Inv-loop μ-loop
-mul-down c = omega (arith, c .before .pre .4)
-
-add-down : tie.Need-add-down Inv-loop μ-loop
-add-down c = omega arith
+code-of-requires : tie.Need-code-of-requires Inv-loop μ-loop
+code-of-requires c κs = (omega arith, c .pre .4)
 
 loop-holds : tie.Need-loop-holds Inv-loop μ-loop
 loop-holds c =
@@ -117,9 +111,7 @@ row-least-spec =
     (tie.spec
     Inv-loop
     μ-loop
-    away-requires
-    mul-down
-    add-down
+    code-of-requires
     loop-holds
     mul-sum-at
     add-sum-at

@@ -9,7 +9,8 @@ use lib.ListN.{length}
 use Rattle.base.specs.Lists.{listTo}
 use Rattle.refusals.specs.Refusals.{blockSizeOk}
 use Rattle.distortion.specs.Blocks.{sizeBy, measureBy}
-use Rattle.full.specs.Rows.{codeOf, keyInCopy, Around}
+use Rattle.reach.specs.Keys.{codeOf}
+use Rattle.full.specs.Rows.{keyInCopy, Around}
 use Rattle.full.proofs.Reached.{Led, led-first, led-more, led-last}
 use Rattle.full.proofs.rows_least.Statement.{statement}
 use Rattle.full.proofs.rows_least.Tie as tie

@@ -1,9 +1,6 @@
 -- `sum_at`: both ways sum as far as the ceiling goes; a block of N 32 in the last row and column of window 16 ends where the window does.
-use Prim.Native.Nat.{_+_, _*_, _≤_}
-use mathlib.Core.Path.{_≡_}
 use native.Mathlib.Omega.{arith}
 use Rattle.refusals.specs.Refusals.{block-size}
-use Rattle.distortion.specs.Blocks.{UpTo}
 use Rattle.window_copy.proofs.Half.{copy-up-to}
 use Rattle.full.proofs.sum_at.Statement.{statement}
 use Rattle.full.proofs.sum_at.Tie as tie
