@@ -1,5 +1,4 @@
 -- The copies of a block and its search window have the distortions of the frames.
---   older-at       where the older block of row i, column j of window 16 stands
 --   window-pel     what a place of the copied window holds
 --   copies-long    they are as long as the arrays
 --   in-frames      in reach, the rows of the two blocks in the frames have the distortion of that vector
@@ -10,26 +9,18 @@ use mathlib.Core.Path.{_≡_, refl, sym, ap, ap₂, _∙_}
 use mathlib.Core.List.{List}
 use native.Mathlib.Nat.{add-mul}
 use native.Mathlib.Omega.{arith}
-use lib.IntN.{pos}
 use lib.ListN.{length, getD}
 use Rattle.base.specs.Sum.{sumOver-ext}
-use Rattle.signed.specs.Int.{added}
-use Rattle.signed.specs.Values.{unbias, unbias-is}
 use Rattle.measures.specs.Measures.{measureOf}
 use Rattle.frame.specs.Pictures.{pairOf}
-use Rattle.frame.specs.Candidates.{olderRow, olderColumn}
 use Rattle.frame.specs.declared.SearchBlock.{SearchBlock}
 use Rattle.distortion.specs.Blocks.{rowFrom, rowsFrom, distortion, block-rows, Kernel, sizeBy, measureBy}
 use Rattle.search.specs.Exhaustive.{gridVector}
 use Rattle.reach.specs.Reach.{Standing, reach, InReach}
 use Rattle.reach.specs.Keys.{keyOf}
-use Rattle.reach.proofs.Candidates.{reach-bounds}
+use Rattle.reach.proofs.Candidates.{reach-bounds, older-at}
 use Rattle.window_copy.proofs.Copies.{copied-pel, copied-long}
 use Rattle.full.specs.Rows.{windowCopy, blockCopy, keyInCopy, keyAt}
-
-pub older-at : (y x i j : ℕ) → 16 ≤ y + i → 16 ≤ x + j → (olderRow y (gridVector i j) ≡ y + i - 16) × (olderColumn x (gridVector i j) ≡ x + j - 16)
-older-at y x i j hy hx =
-    (omega (arith, added (pos y) (unbias 16 i), unbias-is 16 i), omega (arith, added (pos x) (unbias 16 j), unbias-is 16 j))
 
 -- p rows and q columns on from a place that is i rows and j columns on
 further : (width row column i j p q : ℕ) → row * width + column + (i + p) * width + (j + q) ≡ (row + i) * width + (column + j) + p * width + q

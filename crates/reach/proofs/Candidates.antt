@@ -3,6 +3,7 @@
 --   reach-bounds     rows and columns of window 16, the middle ones among them, whose older blocks lie wholly inside the frame: Bounds
 --   reach-small      each is below 33
 --   reach-yes        what stands there is a candidate; reach-in: nothing else is; reach-all: each candidate stands there
+--   older-at         where the older block of a row and column stands
 --   reach-count      how many candidates there are
 use Prim.Native.Nat.{ℕ, _+_, _*_, _-_, _≤_, _<_, min}
 use mathlib.Core.Path.{_≡_, refl, ap, ap₂, subst, _∙_}
@@ -11,17 +12,17 @@ use mathlib.Core.List.{List}
 use native.Mathlib.Nat.{le-trans, mul-one}
 use native.Mathlib.Omega.{arith}
 use lib.Dec.{T}
-use lib.IntN.{ℤ, natAbs}
+use lib.IntN.{ℤ, pos, natAbs}
 use lib.ListN.{length}
 use Rattle.base.specs.Tests.{T-true, true-T}
 use Rattle.base.specs.Sum.{sumTo, sumTo-ext, sumTo-zero, sumTo-const, sumTo-cut}
-use Rattle.signed.specs.Int.{up, dn, parts, same}
+use Rattle.signed.specs.Int.{up, dn, parts, same, added}
 use Rattle.signed.specs.Values.{bias, unbias, bias-is, unbias-is}
 use Rattle.order.specs.declared.Vector.{Vector}
 use Rattle.order.specs.Vectors.{vec, Within}
 use Rattle.frame.specs.declared.SearchBlock.{SearchBlock}
 use Rattle.frame.specs.declared.Region.{Region}
-use Rattle.frame.specs.Candidates.{candidate, candidate-older, candidate-at}
+use Rattle.frame.specs.Candidates.{olderRow, olderColumn, candidate, candidate-older, candidate-at}
 use Rattle.search.specs.Exhaustive.{places, gridVector, candidates}
 use Rattle.search.specs.Target.{Ready}
 use Rattle.search.proofs.Counted.{places-counted}
@@ -46,6 +47,11 @@ pub ready-standing : (older newer : List ℕ) (b : SearchBlock) → Ready older 
 ready-standing older newer b r =
     let p = r .placed in
     record { down = p .down; across = p .across; high = p .paired .fitting .high; wide = p .paired .fitting .wide; window = r .window }
+
+-- where the older block of row i, column j of window 16 stands
+pub older-at : (y x i j : ℕ) → 16 ≤ y + i → 16 ≤ x + j → (olderRow y (gridVector i j) ≡ y + i - 16) × (olderColumn x (gridVector i j) ≡ x + j - 16)
+older-at y x i j hy hx =
+    (omega (arith, added (pos y) (unbias 16 i), unbias-is 16 i), omega (arith, added (pos x) (unbias 16 j), unbias-is 16 j))
 
 -- ---- rows alone, or columns: i stands in reach where (i - 16) is a candidate's part
 

@@ -8,10 +8,9 @@ use Rattle.frame.specs.Pictures.{pairOf}
 use Rattle.search.specs.Exhaustive.{gridVector}
 use Rattle.distortion.specs.Blocks.{distortion}
 use Rattle.reach.specs.Keys.{keyOf}
-use Rattle.reach.proofs.Candidates.{ready-standing, reach-small}
+use Rattle.reach.proofs.Candidates.{ready-standing, reach-small, older-at}
 use Rattle.reach.proofs.Keys.{still-is, still-code}
 use Rattle.full.specs.Rows.{keyAt}
-use Rattle.full.proofs.Copies.{older-at}
 use Rattle.full.proofs.Ready.{size, middle}
 use Rattle.full.proofs.least_key.Statement.{statement}
 use Rattle.full.proofs.least_key.Tie as tie

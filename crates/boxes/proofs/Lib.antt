@@ -1,0 +1,6 @@
+pub mod Box
+pub mod Rooms
+pub mod Walk
+pub mod Pels
+pub mod Squares
+pub mod Whole
