@@ -1,0 +1,4 @@
+pub mod Sides
+pub mod Places
+pub mod Looked
+pub mod Renewed
