@@ -8,7 +8,7 @@ use lib.ListN.{length, getD, take}
 use Rattle.base.specs.Least.{take-more}
 use Rattle.pruned_rule.specs.Sift.{kept}
 
-kept-append : (v : ℕ → ℕ) (l : ℕ) (ks ls : List ℕ) → kept v l (ks ++ ls) ≡ kept v l ks ++ kept v l ls
+pub kept-append : (v : ℕ → ℕ) (l : ℕ) (ks ls : List ℕ) → kept v l (ks ++ ls) ≡ kept v l ks ++ kept v l ls
 unfolding kept
 kept-append v l [] ls = refl
 kept-append v l (k ∷ ks) ls = step (leb (v k) l) (kept-append v l ks ls)

@@ -1,0 +1,89 @@
+-- Rows of numbers, and how many of them are within a limit.
+--   row-room         a row lies in the array; place-small: where it begins is no large number
+--   lowered-over     a row with no number as low as the best adds nothing
+--   kept-row         how many of a list by a rule are within a limit; kept-lists: of lists one behind the other; kept-all: of all spots
+--   number-on        the number on the spot of a row and a column of the region
+use Prim.Native.Nat.{ℕ, zero, suc, _+_, _*_, _-_, _/_, _≤_, _<_}
+use mathlib.Core.Path.{_≡_, refl, sym, ap, ap₂, _∙_}
+use mathlib.Core.Logic.{inl}
+use mathlib.Core.Bool.{Bool, true, false, cond}
+use mathlib.Core.List.{List, [], _∷_}
+use native.Mathlib.Nat.{mul-le-mul, le-refl}
+use native.Mathlib.Omega.{arith}
+use lib.Dec.{leb}
+use lib.ListN.{length, getD, length-append}
+use Rattle.base.specs.Sum.{sumTo, sumTo-ext, sumOver}
+use Rattle.base.specs.Lists.{listTo, concatTo}
+use Rattle.base.specs.Tests.{one}
+use Rattle.frame.specs.declared.Region.{Region}
+use Rattle.reach.specs.Keys.{keyOf}
+use Rattle.full.specs.Rows.{leastFrom, Lowered}
+use Rattle.full.proofs.Keys.{least-least}
+use Rattle.pruned_rule.specs.Sift.{kept}
+use Rattle.pruned_rule.specs.Spots.{spots}
+use Rattle.pruned_rule.proofs.Loops.{kept-append}
+use Rattle.pruned_rule.proofs.Spots.{spot-row, spot-column}
+use Rattle.pruned_sift.specs.Laid.{Laid, numberOn, keyIn}
+
+module _ {part : List ℕ} {pitch : ℕ} {r : Region} (l : Laid part pitch r) where
+  pub row-room : (i : ℕ) → i < r .rows → pitch * i + r .columns ≤ length part
+  row-room i h =
+      let e : i ≤ r .rows - 1 = omega arith in
+      omega (arith, l .room, mul-le-mul (le-refl pitch) e)
+
+  pub place-small : (i : ℕ) → i < r .rows → pitch * i ≤ 2112
+  place-small i h =
+      let e : i ≤ 33 = omega (arith, l .around .few-rows) in
+      mul-le-mul (l .narrow) e
+
+  pub lowered-over : (i best least : ℕ) → least ≡ leastFrom 65535 (λ k. getD part k 0) (pitch * (i - r .top)) (r .columns) → best / 262144 < least
+      → Lowered (keyIn part pitch r) r i best best
+  unfolding keyOf
+  lowered-over i best least e o = record {
+    low = le-refl best;
+    least = λ j h.
+        let from = pitch * (i - r .top) in
+        let m = least-least 65535 (λ k. getD part k 0) from (r .columns) (from + (j - r .left)) (omega arith) (omega (arith, h .left, h .right)) in
+        omega (arith, e);
+    some = inl refl;
+  }
+
+-- ---- how many
+
+kept-one : (v : ℕ → ℕ) (l t : ℕ) → length (kept v l (t ∷ [])) ≡ one (leb (v t) l)
+unfolding kept
+kept-one v l t = go (leb (v t) l)
+  where
+    go : (b : Bool) → length (cond b (t ∷ []) []) ≡ cond b 1 0
+    go true = refl
+    go false = refl
+
+pub kept-row : (v : ℕ → ℕ) (l : ℕ) (g : ℕ → ℕ) (n : ℕ) → length (kept v l (listTo g n)) ≡ sumTo (λ j. one (leb (v (g j)) l)) n
+unfolding listTo sumTo kept
+kept-row v l g zero = refl
+kept-row v l g (suc n) =
+    rw kept-append (length-append (kept v l (listTo g n)) (kept v l (g n ∷ [])) ∙ ap₂ _+_ (kept-row v l g n) (kept-one v l (g n)))
+
+pub kept-lists : (v : ℕ → ℕ) (l : ℕ) (f : ℕ → List ℕ) (n : ℕ) → length (kept v l (concatTo f n)) ≡ sumTo (λ i. length (kept v l (f i))) n
+unfolding concatTo sumTo kept
+kept-lists v l f zero = refl
+kept-lists v l f (suc n) =
+    rw kept-append (length-append (kept v l (concatTo f n)) (kept v l (f n)) ∙ ap (λ (m : ℕ). m + length (kept v l (f n))) (kept-lists v l f n))
+
+-- the number on the spot of row i, column j of the region
+pub number-on : (part : List ℕ) (pitch : ℕ) (r : Region) (i j : ℕ) → r .left + r .columns ≤ 33 → j < r .columns
+    → numberOn part pitch r (64 * (r .top + i) + (r .left + j)) ≡ getD part (pitch * i + j) 0
+number-on part pitch r i j few h =
+    let small : r .left + j < 64 = omega arith in
+    let p : r .top + i - r .top ≡ i = omega arith in
+    let q : r .left + j - r .left ≡ j = omega arith in
+    rw (spot-row (r .top + i) (r .left + j) small, spot-column (r .top + i) (r .left + j) small, p, q)
+
+pub kept-all : (part : List ℕ) (pitch : ℕ) (r : Region) (most : ℕ) → r .left + r .columns ≤ 33
+    → sumOver (r .rows) (r .columns) (λ i j. one (leb (getD part (pitch * i + j) 0) most)) ≡ length (kept (numberOn part pitch r) most (spots r))
+unfolding spots
+kept-all part pitch r most few =
+    sym (kept-lists (numberOn part pitch r) most _ (r .rows)
+    ∙ sumTo-ext _ _ (r .rows) (λ i hi.
+    kept-row (numberOn part pitch r) most _ (r .columns)
+    ∙ sumTo-ext _ _ (r .columns) (λ j hj. ap (λ (d : ℕ). one (leb d most)) (number-on part pitch r i j few hj))))
