@@ -1,0 +1,4 @@
+pub mod Sums
+pub mod Rows
+pub mod Whole
+pub mod Levels
