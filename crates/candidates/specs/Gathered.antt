@@ -1,4 +1,4 @@
--- The candidates of a block, with which searches 1 and 2 begin, in an array of places in the preference table.
+-- The candidates of a block, with which search 2 begins, in an array of places in the preference table.
 --   candidateAt        the vector at place k of the preference table is a candidate of the block
 --   isInterior         the block has w 16 and stands 16 pels from each side (hasMargin: from both ends of a row or a column): then every vector is one
 --   Front              ks stand in front of what the array held before; there are r of them

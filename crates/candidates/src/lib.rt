@@ -1,4 +1,4 @@
-// The candidates of a block, as searches 1 and 2 take them: gathered as places in the preference table, measured, and the first of least distortion chosen.
+// The candidates of a block, as search 2 takes them: gathered as places in the preference table, measured, and the first of least distortion chosen.
 
 ghost use mathlib.Core.Path.{_≡_};
 ghost use Prim.Native.Nat.{_<_};

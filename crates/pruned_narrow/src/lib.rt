@@ -12,7 +12,7 @@ ghost use Rattle.boxes.specs.Boxes.{Cut, area};
 ghost use Rattle.pruned_narrow.specs.Narrow.{places, rowSum, rowMore, turned, distanceOf, distanceAt, Runs, Inside, Squared, Filled, Narrow};
 use boxes::Level;
 
-// The places of all candidates, with N up to 32: a row of the reach is read 40 places wide.
+// Room for the places of all candidates, with N up to 32.
 pub const PLACES: usize = 64 * 32 + 40;
 
 // a - b, or 0.

@@ -17,7 +17,7 @@ use native.Mathlib.Omega.{arith}
 use lib.Dec.{leb}
 use lib.ListN.{length}
 use Rattle.base.specs.Tests.{T-true, true-T}
-use Rattle.base.specs.Sum.{sumTo, sumTo-ext, sumTo-zero, sumTo-cut, sumOver}
+use Rattle.base.specs.Sum.{sumTo, sumTo-ext, sumTo-zero, sumOver}
 use Rattle.base.specs.Lists.{listTo, concatTo, length-listTo, length-concatTo}
 use Rattle.base.specs.Least.{_∈_, leastOf, leastOf-mem, leastOf-le, mem-length}
 use Rattle.order.specs.declared.Vector.{Vector}
@@ -30,7 +30,7 @@ use Rattle.search.specs.Exhaustive.{gridVector}
 use Rattle.search.proofs.Counted.{table-grid}
 use Rattle.reach.specs.Reach.{Standing, reach, InReach}
 use Rattle.reach.specs.Keys.{keyOf}
-use Rattle.reach.proofs.Candidates.{Bounds, reach-bounds, reach-small, reach-yes, reach-in, reach-count}
+use Rattle.reach.proofs.Candidates.{Bounds, reach-bounds, reach-small, reach-yes, reach-in, reach-count, sum-span}
 use Rattle.reach.proofs.Choice.{least-key}
 use Rattle.pruned_rule.specs.Sift.{kept, total}
 use Rattle.pruned_rule.specs.Spots.{placesOf, choiceOf, spots, vectorOn, keyOn, Chosen}
@@ -90,13 +90,6 @@ total-concatTo : (h : ℕ → ℕ) (f : ℕ → List ℕ) (n : ℕ) → total h 
 unfolding concatTo sumTo total
 total-concatTo h f zero = refl
 total-concatTo h f (suc n) = let ih = total-concatTo h f n in omega (arith, total-append h (concatTo f n) (f n))
-
--- a sum of n terms that are 0 but for the m from place a on
-sum-span : (f : ℕ → ℕ) (n a m : ℕ) → a + m ≤ n → ((i : ℕ) → (a ≤ i → i < a + m → ⊥) → f i ≡ 0) → sumTo f n ≡ sumTo (λ i. f (a + i)) m
-sum-span f n a m h outside =
-    let none = sumTo-zero f a (λ i l. outside i (λ p q. omega arith)) in
-    let rest = sumTo-zero (λ i. f (a + m + i)) (n - (a + m)) (λ i l. outside (a + m + i) (λ p q. omega arith)) in
-    ap (sumTo f) (omega arith) ∙ sumTo-cut f (a + m) (n - (a + m)) ∙ omega (arith, sumTo-cut f a m)
 
 -- ---- the spots
 

@@ -4,6 +4,7 @@
 --   reach-small      each is below 33
 --   reach-yes        what stands there is a candidate; reach-in: nothing else is; reach-all: each candidate stands there
 --   older-at         where the older block of a row and column stands
+--   sum-span         a sum whose terms are 0 but for some in a row
 --   reach-count      how many candidates there are
 use Prim.Native.Nat.{ℕ, _+_, _*_, _-_, _≤_, _<_, min}
 use mathlib.Core.Path.{_≡_, refl, ap, ap₂, subst, _∙_}
@@ -82,23 +83,12 @@ module _ (at w n side i : ℕ) (fits : at + n ≤ side) (small : w ≤ 16) where
       let inside : r + 16 ≡ at + i = omega (arith, unbias-is 16 i) in
       (omega arith, omega arith)
 
--- as many terms c as stand between place a and place a + m, and nothing elsewhere
-sum-span : (f : ℕ → ℕ) (n a m c : ℕ) → a + m ≤ n → ((i : ℕ) → i < n → i < a → f i ≡ 0) → ((i : ℕ) → a ≤ i → i < a + m → f i ≡ c)
-    → ((i : ℕ) → i < n → a + m ≤ i → f i ≡ 0) → sumTo f n ≡ m * c
-sum-span f n a m c h before inside behind =
-    ap (sumTo f) (omega arith)
-    ∙ sumTo-cut f (a + m) (n - (a + m))
-    ∙ ap₂ _+_ (sumTo-cut f a m ∙ ap₂ _+_ none some) rest
-    ∙ omega arith
-  where
-    none : sumTo f a ≡ 0
-    none = sumTo-zero f a (λ i l. before i (omega arith) l)
-
-    some : sumTo (λ i. f (a + i)) m ≡ m * c
-    some = sumTo-ext _ (λ i. c) m (λ i l. inside (a + i) (omega arith) (omega arith)) ∙ sumTo-const c m
-
-    rest : sumTo (λ i. f (a + m + i)) (n - (a + m)) ≡ 0
-    rest = sumTo-zero _ _ (λ i l. behind (a + m + i) (omega arith) (omega arith))
+-- a sum of n terms that are 0 but for the m from place a on
+pub sum-span : (f : ℕ → ℕ) (n a m : ℕ) → a + m ≤ n → ((i : ℕ) → (a ≤ i → i < a + m → ⊥) → f i ≡ 0) → sumTo f n ≡ sumTo (λ i. f (a + i)) m
+sum-span f n a m h outside =
+    let none = sumTo-zero f a (λ i l. outside i (λ p q. omega arith)) in
+    let rest = sumTo-zero (λ i. f (a + m + i)) (n - (a + m)) (λ i l. outside (a + m + i) (λ p q. omega arith)) in
+    ap (sumTo f) (omega arith) ∙ sumTo-cut f (a + m) (n - (a + m)) ∙ omega (arith, sumTo-cut f a m)
 
 module _ (b : SearchBlock) (s : Standing b) where
   -- a candidate, as a test
@@ -158,14 +148,15 @@ module _ (b : SearchBlock) (s : Standing b) where
   unfolding candidates
   reach-count =
       places-counted (b .setting) (b .w) (b .y) (b .x)
-      ∙ sum-span _ 33 (r .top) (r .rows) (r .columns) (k .few-rows)
-      (λ i hi l. sumTo-zero _ 33 (λ j hj. outside i j (λ q. omega (arith, q .top))))
-      (λ i l m.
-      sum-span _ 33 (r .left) (r .columns) 1 (k .few-columns) (λ j hj q. outside i j (λ p. omega (arith, p .left)))
-      (λ j q p. ap (λ t. cond t 1 0) (T-true (passes (gridVector i j)) (reach-yes i j (record { top = l; bottom = m; left = q; right = p }))))
-      (λ j hj q. outside i j (λ p. omega (arith, p .right)))
+      ∙ sum-span _ 33 (r .top) (r .rows) (k .few-rows) (λ i n. sumTo-zero _ 33 (λ j hj. outside i j (λ q. n (q .top) (q .bottom))))
+      ∙ sumTo-ext _ (λ i. r .columns) (r .rows) (λ i hi.
+      sum-span _ 33 (r .left) (r .columns) (k .few-columns) (λ j n. outside _ j (λ q. n (q .left) (q .right)))
+      ∙ sumTo-ext _ (λ j. 1) (r .columns) (λ j hj.
+      let q : InReach (reach b) (r .top + i) (r .left + j) = record { top = omega arith; bottom = omega arith; left = omega arith; right = omega arith } in
+      ap (λ t. cond t 1 0) (T-true (passes _) (reach-yes (r .top + i) (r .left + j) q)))
+      ∙ sumTo-const 1 (r .columns)
       ∙ mul-one (r .columns))
-      (λ i hi l. sumTo-zero _ 33 (λ j hj. outside i j (λ q. omega (arith, q .bottom))))
+      ∙ sumTo-const (r .columns) (r .rows)
     where
       r : Region
       r = reach b
