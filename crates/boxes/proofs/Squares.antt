@@ -145,16 +145,18 @@ module _ (older newer : List ℕ) (b : SearchBlock) (ready : Ready older newer b
 
     pub boxed : Boxed older newer b boxes
     boxed = record {
-      levels = record {
-        window = λ m t c h. levels .window m t c h ∙ box-ext _ (n + 32) _ m t (λ p q hp hq. sym (kept _ (window-area m t p q c h hp hq)));
-        own = λ m t c h. levels .own m t c h ∙ box-ext _ n _ m t (λ p q hp hq. sym (kept _ (own-area m t p q c h hp hq)));
+      filled = record {
+        levels = record {
+          window = λ m t c h. levels .window m t c h ∙ box-ext _ (n + 32) _ m t (λ p q hp hq. sym (kept _ (window-area m t p q c h hp hq)));
+          own = λ m t c h. levels .own m t c h ∙ box-ext _ n _ m t (λ p q hp hq. sym (kept _ (own-area m t p q c h hp hq)));
+        };
+        window-small = λ m t c h.
+            rw (levels .window m t c h, ← most-is m)
+            (box-most _ (n + 32) 255 m t (λ p q hp hq. first-small _ (window-area m t p q c h hp hq)));
+        own-small = λ m t c h.
+            rw (levels .own m t c h, ← most-is m)
+            (box-most _ n 255 m t (λ p q hp hq. first-small _ (own-area m t p q c h hp hq)));
       };
-      window-small = λ m t c h.
-          rw (levels .window m t c h, ← most-is m)
-          (box-most _ (n + 32) 255 m t (λ p q hp hq. first-small _ (window-area m t p q c h hp hq)));
-      own-small = λ m t c h.
-          rw (levels .own m t c h, ← most-is m)
-          (box-most _ n 255 m t (λ p q hp hq. first-small _ (own-area m t p q c h hp hq)));
       older-square = older-is;
       newer-square = newer-is;
     }

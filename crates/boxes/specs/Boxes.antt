@@ -10,6 +10,7 @@
 --   levelOf        the places of m in numbers
 --   wholeOf        the sum of 32 × 32 pels by four boxes of 16
 --   Levels         an array has the boxes of what stands in it at m = 1
+--   Filled         an array has its own boxes, of numbers as small as pels
 --   Boxed          it has those of a block and its search window, and they are the pel sums of squares of the block and of its candidates' older blocks
 use Prim.Native.Nat.{ℕ, _+_, _-_, _*_, _/_, _^_, _≤_, _<_}
 use mathlib.Core.Path.{_≡_}
@@ -82,12 +83,15 @@ pub record Levels (f : ℕ → ℕ) (n span : ℕ) (boxes : List ℕ) : Type 0 w
   pub window : (m t : ℕ) → Cut n m → t < windowPlaces n span m → getD boxes (levelAt n m + t) 0 ≡ box f (n + 32) m t
   pub own : (m t : ℕ) → Cut n m → t < ownPlaces n m → getD boxes (ownAt n m + t) 0 ≡ box (λ u. f ((n + 32) * (n + 32) + u)) n m t
 
+-- and they are as small as those of pels
+pub record Filled (n span : ℕ) (boxes : List ℕ) : Type 0 where
+  pub levels : Levels (λ u. getD boxes u 0) n span boxes
+  pub window-small : (m t : ℕ) → Cut n m → t < windowPlaces n span m → getD boxes (levelAt n m + t) 0 ≤ 255 * m * m
+  pub own-small : (m t : ℕ) → Cut n m → t < ownPlaces n m → getD boxes (ownAt n m + t) 0 ≤ 255 * m * m
+
 pub record Boxed (older newer : List ℕ) (b : SearchBlock) (boxes : List ℕ) : Type 0 where
-  -- the boxes of what the array has at m = 1, also at places that no candidate has
-  pub levels : Levels (λ u. getD boxes u 0) (b .setting .n) (spanOf (b .setting .n) (reach b)) boxes
-  pub window-small : (m t : ℕ) → Cut (b .setting .n) m → t < windowPlaces (b .setting .n) (spanOf (b .setting .n) (reach b)) m
-      → getD boxes (levelAt (b .setting .n) m + t) 0 ≤ 255 * m * m
-  pub own-small : (m t : ℕ) → Cut (b .setting .n) m → t < ownPlaces (b .setting .n) m → getD boxes (ownAt (b .setting .n) m + t) 0 ≤ 255 * m * m
+  -- also at places that no candidate has
+  pub filled : Filled (b .setting .n) (spanOf (b .setting .n) (reach b)) boxes
   -- the squares of the older block of a candidate, and of the block itself
   pub older-square : (i j m p q : ℕ) → InReach (reach b) i j → Cut (b .setting .n) m → p < b .setting .n / m → q < b .setting .n / m
       → getD boxes (levelAt (b .setting .n) m + ((b .setting .n + 32) * (i - reach b .top + p * m) + (j - reach b .left + q * m))) 0

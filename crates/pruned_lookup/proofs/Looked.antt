@@ -20,9 +20,10 @@ use Rattle.reach.specs.Reach.{reach, InReach}
 use Rattle.pruned_rule.specs.Distance.{squareSum, distanceBy}
 use Rattle.pruned_rule.specs.Spots.{vectorOn}
 use Rattle.boxes.specs.Boxes.{Cut, levelAt, ownAt, levelOf, wholeOf, Boxed}
+use Rattle.boxes.specs.Distances.{distanceTo}
 use Rattle.boxes.proofs.Whole.{whole-older, whole-newer}
 use Rattle.pruned_list.specs.Listed.{spotOf, renewed}
-use Rattle.pruned_lookup.specs.Lookup.{boxRows, boxWhole, sideOf, placeOn, lookedUp, distanceTo, Distanced, Near}
+use Rattle.pruned_lookup.specs.Lookup.{boxRows, boxWhole, sideOf, placeOn, lookedUp, Distanced, Near}
 use Rattle.pruned_lookup.proofs.Sides.{side-whole, side-other, box-whole, box-other}
 
 -- a block of 32 is one square of 32

@@ -13,9 +13,10 @@ use Rattle.frame.specs.declared.SearchBlock.{SearchBlock}
 use Rattle.reach.specs.Reach.{reach, InReach}
 use Rattle.pruned_rule.specs.Spots.{keyOn}
 use Rattle.boxes.specs.Boxes.{Boxed}
+use Rattle.boxes.specs.Distances.{distanceTo}
 use Rattle.pruned_list.specs.Listed.{keysOf, spotOf}
 use Rattle.pruned_list.proofs.Listed.{OnGrid, spot-on, keys-at, listed-many, renewed-listed}
-use Rattle.pruned_lookup.specs.Lookup.{distanceTo, Distanced}
+use Rattle.pruned_lookup.specs.Lookup.{Distanced}
 
 module _ (old : Vector → ℕ) (ts keys : List ℕ) (count : ℕ) (few : count ≤ length keys) (e : take count keys ≡ keysOf old ts) (g : OnGrid ts) where
   pub listed-reach : (r : Region) → ((t : ℕ) → t ∈ ts → InReach r (t / 64) (t % 64))

@@ -6,7 +6,7 @@
 --   sideOf        the side of the boxes that are looked up for m
 --   boxDistance   the distance at m of the candidate at place t
 --   placeOn       the place of a spot; lookedUp: its candidate's distance at m
---   distanceTo    the distance at m of a vector for a block; Distanced: keys with the distances of their candidates, where the boxes are a block's
+--   Distanced     keys with the distances of their candidates, where the boxes are a block's
 --   Covered       all squares of the candidate at place t lie in the array
 --   Near          an array with the boxes of N, an m that is looked up in them, and a place that a candidate may have
 use Prim.Native.Nat.{ℕ, _+_, _-_, _*_, _/_, _%_, _≤_, _<_}
@@ -18,15 +18,12 @@ use lib.ListN.{length, getD}
 use Rattle.base.specs.Sum.{sumTo}
 use Rattle.base.specs.Lists.{fillTo}
 use Rattle.measures.specs.Measures.{measureOf}
-use Rattle.order.specs.declared.Vector.{Vector}
-use Rattle.frame.specs.Pictures.{pairOf}
 use Rattle.frame.specs.declared.Region.{Region}
 use Rattle.frame.specs.declared.SearchBlock.{SearchBlock}
-use Rattle.distortion.specs.Blocks.{newerBlock, olderBlock}
 use Rattle.reach.specs.Reach.{reach}
-use Rattle.pruned_rule.specs.Distance.{distanceBy}
 use Rattle.pruned_rule.specs.Spots.{vectorOn}
 use Rattle.boxes.specs.Boxes.{Cut, area, levelOf, wholeOf, Boxed}
+use Rattle.boxes.specs.Distances.{distanceTo}
 use Rattle.boxes.specs.declared.Level.{Level}
 use Rattle.pruned_list.specs.Listed.{spotOf, renewed}
 
@@ -51,11 +48,6 @@ placeOn pitch r spot = pitch * (spot / 64 - r .top) + (spot % 64 - r .left)
 
 abbrev pub lookedUp : ℕ → List ℕ → ℕ → ℕ → Region → ℕ → ℕ
 lookedUp measure boxes n m r spot = boxDistance measure boxes m (levelOf n (sideOf m)) (placeOn (n + 32) r spot)
-
-abbrev pub distanceTo : List ℕ → List ℕ → SearchBlock → ℕ → ℕ → Vector → ℕ
-distanceTo older newer b measure m v =
-    let p = pairOf older newer (b .setting) in
-    distanceBy (measureOf measure) (b .setting .n) m (newerBlock p (b .y) (b .x)) (olderBlock p (b .y) (b .x) v)
 
 abbrev pub Distanced : ℕ → List ℕ → ℕ → ℕ → Region → List ℕ → ℕ → List ℕ → Type 0
 Distanced measure boxes n m r keys count after =
