@@ -1,8 +1,9 @@
--- The boxes of a block and its search window are what the loops need, and what they compute are its candidates' distances.
---   parts        a block of N is N / m squares a side, that are 1, 2, or some times 4
---   squared      the squares of a part of a block lie in the array and add up to its own sum
---   filled       what is filled of a block is filled of its numbers
---   narrow       distances in the array are those of the rules
+-- The boxes of a block and its search window are what the loops need.
+--   parts          a block of N is N / m squares a side, that are 1, 2, or some times 4
+--   turned-about   p times x rows of m, as so many places
+--   squared        the squares of a part of a block lie in the array and add up to its own sum
+--   quarter        so do those of a quarter of a block of 32
+--   quarters-are   the distances of four quarters add up to that of the block
 use Prim.Native.Nat.{ℕ, zero, suc, _+_, _-_, _*_, _/_, _^_, _≤_, _<_}
 use mathlib.Core.Path.{_≡_, refl, sym, ap, ap₂, _∙_, subst}
 use mathlib.Core.Logic.{inl, inr}
@@ -12,23 +13,15 @@ use native.Mathlib.Omega.{arith}
 use lib.Dec.{T}
 use Rattle.base.specs.Index.{row-fits}
 use lib.ListN.{length, getD}
-use Rattle.base.specs.Lists.{fillTo}
-use Rattle.base.specs.Sum.{sumOver-ext, sumOver-bound}
+use Rattle.base.specs.Sum.{sumOver, sumOver-ext, sumOver-bound, sumOver-group}
 use Rattle.signed.specs.Values.{absDiff}
-use Rattle.measures.specs.Measures.{measureOf, measure-absolute}
-use Rattle.frame.specs.Pictures.{pairOf}
-use Rattle.frame.specs.declared.SearchBlock.{SearchBlock}
 use Rattle.refusals.specs.Refusals.{blockSizeOk, block-size-elim}
-use Rattle.distortion.specs.Blocks.{newerBlock, olderBlock}
-use Rattle.search.specs.Exhaustive.{gridVector}
-use Rattle.reach.specs.Reach.{reach, InReach}
-use Rattle.pruned_rule.specs.Distance.{distanceBy}
-use Rattle.boxes.specs.Boxes.{box, Cut, area, levelAt, ownAt, spanOf, windowPlaces, levelOf, Boxed, ownPlaces}
+use Rattle.boxes.specs.Boxes.{box, Cut, area, levelAt, ownAt, windowPlaces, levelOf, Filled, ownPlaces}
 use Rattle.boxes.proofs.Box.{box-parts}
-use Rattle.boxes.proofs.Rooms.{cut-at, area-small, square-small}
+use Rattle.boxes.proofs.Rooms.{cut-at, cut-sixteen, area-small, square-small}
 use Rattle.boxes.proofs.Squares.{window-in-array, own-in-array}
-use Rattle.pruned_narrow.specs.Narrow.{Runs, Squared, Filled, Narrow, distanceAt}
-use Rattle.pruned_narrow.proofs.Sums.{filled-at}
+use Rattle.pruned_narrow.specs.Narrow.{Runs, Squared, distanceOf, distanceAt}
+use Rattle.pruned_narrow.proofs.Sums.{two-by-two}
 
 -- ---- squares of a block
 
@@ -60,6 +53,21 @@ parts-16 (suc (suc (suc zero))) f = record { runs = inr (inl refl); whole = refl
 parts-16 (suc (suc (suc (suc zero)))) f = record { runs = inl refl; whole = refl }
 parts-16 (suc (suc (suc (suc (suc e))))) f = absurd (omega arith)
 
+half-of : (e : ℕ) → e ≤ 4 → (32 / 2 ^ e / 2 ≡ 16 / 2 ^ e) × (32 / 2 ^ e ≡ 2 * (16 / 2 ^ e))
+half-of zero f = (refl, refl)
+half-of (suc zero) f = (refl, refl)
+half-of (suc (suc zero)) f = (refl, refl)
+half-of (suc (suc (suc zero))) f = (refl, refl)
+half-of (suc (suc (suc (suc zero)))) f = (refl, refl)
+half-of (suc (suc (suc (suc (suc e))))) f = absurd (omega arith)
+
+-- a block of 32 has twice as many squares a side as a quarter of it
+halves : (m : ℕ) → Cut 32 m → (32 / m / 2 ≡ 16 / m) × (32 / m ≡ 2 * (16 / m))
+halves m c = subst (λ (x : ℕ). (32 / x / 2 ≡ 16 / x) × (32 / x ≡ 2 * (16 / x))) (sym (c .power)) (half-of (c .exponent) (c .few))
+
+quarter-parts : (m : ℕ) → Cut 32 m → Parts 16 m
+quarter-parts m c = subst (λ (x : ℕ). Parts 16 x) (sym (c .power)) (parts-16 (c .exponent) (c .few))
+
 pub parts : (n : ℕ) → T (blockSizeOk n) → n ≤ 16 → (m : ℕ) → Cut n m → Parts n m
 parts =
     block-size-elim (λ n. n ≤ 16 → (m : ℕ) → Cut n m → Parts n m)
@@ -68,8 +76,7 @@ parts =
     (λ h m c. subst (λ (x : ℕ). Parts 16 x) (sym (c .power)) (parts-16 (c .exponent) (c .few)))
     (λ h m c. absurd (omega arith))
 
--- p times x rows of m, as so many places
-turned-about : (p x m : ℕ) → p * (x * m) ≡ x * (p * m)
+pub turned-about : (p x m : ℕ) → p * (x * m) ≡ x * (p * m)
 turned-about p x m = sym (mul-assoc p x m) ∙ ap (λ (y : ℕ). y * m) (mul-comm p x) ∙ mul-assoc x p m
 
 -- a square part of a block, of side s in k × k squares, dy rows and dx columns from its corner
@@ -176,63 +183,48 @@ module _ (n m s k dy dx at own span : ℕ) (boxes : List ℕ) (few : n ≤ 32) (
         omega (arith, b, most-parts, most);
   }
 
--- ---- the distances
+-- ---- a block of 32
 
-pub filled : (older newer : List ℕ) (b : SearchBlock) (boxes : List ℕ) → Boxed older newer b boxes → Filled (b .setting .n) (spanOf (b .setting .n) (reach b)) boxes
-filled older newer b boxes x = record { levels = x .levels; window-small = x .window-small; own-small = x .own-small }
+pub quarter : (m dy dx at own span : ℕ) (boxes : List ℕ) → dy ≤ 16 → dx ≤ 16 → at ≡ 64 * dy + dx → own ≡ 32 * dy + dx → Cut 32 m → 0 < span → span ≤ 2081
+    → 5 * area 32 ≤ length boxes → Filled 32 span boxes → Runs (32 / m / 2) × Squared boxes (levelOf 32 m) (32 / m / 2) at own (levelOf 32 16) span
+quarter m dy dx at own span boxes hy hx at-is own-is cut some short room f =
+    let c = quarter-parts m cut in
+    rw (halves m cut .0) (
+      c .runs,
+      squared 32 m 16 (16 / m) dy dx at own span boxes (omega arith) (omega arith) cut (cut-sixteen 32 (omega arith)) (c .whole) (omega arith)
+          (omega arith) at-is own-is some short room f,
+    )
 
-module _ (older newer : List ℕ) (b : SearchBlock) (boxes : List ℕ) (x : Boxed older newer b boxes) (m : ℕ) (i j : ℕ) (h : InReach (reach b) i j) where
-  abbrev n : ℕ
-  n = b .setting .n
+module _ (boxes : List ℕ) (m : ℕ) (cut : Cut 32 m) (t : ℕ) where
+  abbrev pub quarterOf : ℕ → ℕ → ℕ
+  quarterOf at own = distanceOf boxes (levelAt 32 m + at) (64 * m) (ownAt 32 m + own) (32 * m) m (32 / m / 2) t
 
-  abbrev y : ℕ
-  y = i - reach b .top
+  abbrev k : ℕ
+  k = 16 / m
 
-  abbrev z : ℕ
-  z = j - reach b .left
+  abbrev term : ℕ → ℕ → ℕ
+  term p q = absDiff (getD boxes (ownAt 32 m + p * (32 * m) + m * q) 0) (getD boxes (levelAt 32 m + p * (64 * m) + t + m * q) 0)
 
-  place-in : (n + 32) * y + z < spanOf n (reach b)
-  place-in =
-      omega (
-        arith,
-        mul-le-mul-left (n + 32) (let e : y ≤ reach b .rows - 1 = omega (arith, h .top, h .bottom) in e),
-        h .left,
-        h .right,
-      )
+  -- p quarters down and q across, in places of rows of x
+  quarter-at : (x p q i j : ℕ) → (p * k + i) * (x * m) + m * (q * k + j) ≡ p * (x * 16) + q * 16 + (i * (x * m) + m * j)
+  quarter-at x p q i j =
+      let a : p * k * (x * m) ≡ p * (x * 16) = mul-assoc p k (x * m) ∙ ap (λ (y : ℕ). p * y) (turned-about k x m ∙ ap (λ (y : ℕ). x * y) (quarter-parts m cut .whole)) in
+      let b : m * (q * k) ≡ q * 16 = mul-comm m (q * k) ∙ mul-assoc q k m ∙ ap (λ (y : ℕ). q * y) (quarter-parts m cut .whole) in
+      omega (arith, add-mul (p * k) i (x * m), mul-add m (q * k) j, a, b)
 
-  older-index : (p q : ℕ) → levelAt n m + p * ((n + 32) * m) + ((n + 32) * y + z) + m * q ≡ levelAt n m + ((n + 32) * (y + p * m) + (z + q * m))
-  older-index p q = omega (arith, turned-about p (n + 32) m, mul-add (n + 32) y (p * m), mul-comm m q)
+  quarter-is : (p q at own : ℕ) → at ≡ p * 1024 + q * 16 → own ≡ p * 512 + q * 16 → sumOver k k (λ i j. term (p * k + i) (q * k + j)) ≡ quarterOf at own
+  quarter-is p q at own e f =
+      rw (halves m cut .0)
+      (sumOver-ext k k _ _ (λ i j hi hj.
+      ap₂ (λ (u v : ℕ). absDiff (getD boxes u 0) (getD boxes v 0))
+      (omega (arith, quarter-at 32 p q i j, f))
+      (omega (arith, quarter-at 64 p q i j, e))))
 
-  newer-index : (p q : ℕ) → ownAt n m + p * (n * m) + m * q ≡ ownAt n m + (n * (p * m) + q * m)
-  newer-index p q = omega (arith, turned-about p n m, mul-comm m q)
-
-  distance-is : Cut n m → distanceAt boxes n m ((n + 32) * y + z)
-      ≡ distanceBy (measureOf 1) n m (newerBlock (pairOf older newer (b .setting)) (b .y) (b .x))
-      (olderBlock (pairOf older newer (b .setting)) (b .y) (b .x) (gridVector i j))
-  unfolding distanceBy
-  distance-is cut =
-      rw (measure-absolute 1 refl)
-      (sumOver-ext (n / m) (n / m) _ _ (λ p q hp hq.
-      ap₂ absDiff (ap (λ (u : ℕ). getD boxes u 0) (newer-index p q) ∙ x .newer-square m p q cut hp hq)
-      (ap (λ (u : ℕ). getD boxes u 0) (older-index p q) ∙ x .older-square i j m p q h cut hp hq)))
-
-  distance-at : (d part : List ℕ) (span : ℕ) → span ≤ length d → (N : ℕ) → N ≡ n → Cut N m → part ≡ fillTo d 0 (distanceAt boxes N m) span
-      → span ≡ spanOf N (reach b)
-      → getD part ((N + 32) * y + z) 0
-      ≡ distanceBy (measureOf 1) N m (newerBlock (pairOf older newer (b .setting)) (b .y) (b .x))
-      (olderBlock (pairOf older newer (b .setting)) (b .y) (b .x) (gridVector i j))
-  distance-at d part span long N e =
-      subst
-      (λ (k : ℕ). Cut k m → part ≡ fillTo d 0 (distanceAt boxes k m) span → span ≡ spanOf k (reach b)
-      → getD part ((k + 32) * y + z) 0
-      ≡ distanceBy (measureOf 1) k m (newerBlock (pairOf older newer (b .setting)) (b .y) (b .x))
-      (olderBlock (pairOf older newer (b .setting)) (b .y) (b .x) (gridVector i j)))
-      (sym e)
-      (λ cut g s.
-      ap (λ (xs : List ℕ). getD xs ((n + 32) * y + z) 0) g
-      ∙ filled-at d (distanceAt boxes n m) span long ((n + 32) * y + z) (omega (arith, place-in, s))
-      ∙ distance-is cut)
-
-pub narrow : (boxes d part : List ℕ) (n m span : ℕ) → Cut n m → span ≤ length d → part ≡ fillTo d 0 (distanceAt boxes n m) span → Narrow boxes n m span part
-narrow boxes d part n m span cut long g =
-    record { distance = λ older newer b e s x i j h. distance-at older newer b boxes x m i j h d part span long n e cut g s }
+  pub quarters-are : quarterOf 0 0 + quarterOf 16 16 + (quarterOf 1024 512 + quarterOf 1040 528) ≡ distanceAt boxes 32 m t
+  quarters-are =
+      sym
+      (ap (λ (c : ℕ). sumOver c c term) (halves m cut .1)
+      ∙ sumOver-group 2 k term
+      ∙ two-by-two (λ p q. sumOver k k (λ i j. term (p * k + i) (q * k + j)))
+      ∙ ap₂ _+_ (ap₂ _+_ (quarter-is 0 0 0 0 (omega arith) (omega arith)) (quarter-is 0 1 16 16 (omega arith) (omega arith)))
+      (ap₂ _+_ (quarter-is 1 0 1024 512 (omega arith) (omega arith)) (quarter-is 1 1 1040 528 (omega arith) (omega arith))))

@@ -1,6 +1,8 @@
 -- Sums of what one number has more than another.
 --   filled-at     what stands in an array that a loop fills from place 0; filled-next: at the place that is next
 --   fill-turn     a turn of such a loop; fill-same: one that stores what is there; fill-again: two loops
+--   fill-added    two loops, of which the second adds
+--   two-by-two    a sum of two rows and two columns
 --   minus-le      what numbers have more is at most the numbers; prefix-le: the first of them are; next-le: also with the next
 --   more-le       the same of squares; less-le: what they have more and the others are at least the squares
 --   absolute-is   absolute differences by what the one has more and the sums of both
@@ -12,7 +14,7 @@ use native.Mathlib.Omega.{arith}
 use lib.ListN.{length, getD, set}
 use lib.Seq.{set-getD}
 use native.Mathlib.Numerals.{add-one}
-use Rattle.base.specs.Lists.{fillTo, fill-none, fill-front, listTo, length-listTo, fill-in, fill-after, fill-zero, drop-over}
+use Rattle.base.specs.Lists.{fillTo, fill-none, fill-front, fill-ext, listTo, length-listTo, fill-in, fill-after, fill-zero, drop-over}
 use Rattle.base.specs.Sum.{sumTo, sumTo-ext, sumTo-mono, sumTo-add, sumTo-more, sumTo-cut, sumOver, sumOver-ext, sumOver-mono}
 use Rattle.signed.specs.Values.{absDiff}
 use Rattle.pruned_narrow.specs.Narrow.{turned}
@@ -46,7 +48,20 @@ pub fill-again : (d : List ℕ) (g h : ℕ → ℕ) (n : ℕ) → fillTo (fillTo
 fill-again d g h n =
     fill-zero (fillTo d 0 g n) h n ∙ rw (fill-zero d g n, drop-over (listTo g n) d n n (length-listTo g n) (omega arith)) (sym (fill-zero d h n))
 
+-- filled, then added to
+pub fill-added : (d xs ys : List ℕ) (g h : ℕ → ℕ) (n : ℕ) → n ≤ length d → xs ≡ fillTo d 0 g n → ys ≡ fillTo xs 0 (λ i. getD xs i 0 + h i) n
+    → ys ≡ fillTo d 0 (λ i. g i + h i) n
+fill-added d xs ys g h n room e f =
+    f
+    ∙ ap (λ (zs : List ℕ). fillTo zs 0 (λ i. getD zs i 0 + h i) n) e
+    ∙ fill-again d g _ n
+    ∙ fill-ext d 0 _ _ n (λ i l. ap (λ (x : ℕ). x + h i) (filled-at d g n room i l))
+
 -- ---- sums
+
+pub two-by-two : (f : ℕ → ℕ → ℕ) → sumOver 2 2 f ≡ f 0 0 + f 0 1 + (f 1 0 + f 1 1)
+unfolding sumTo
+two-by-two f = omega arith
 
 sumOver-add : (k l : ℕ) (f g : ℕ → ℕ → ℕ) → sumOver k l (λ p q. f p q + g p q) ≡ sumOver k l f + sumOver k l g
 sumOver-add k l f g = sumTo-ext _ _ k (λ p hp. sumTo-add (f p) (g p) l) ∙ sumTo-add (λ p. sumTo (f p) l) (λ p. sumTo (g p) l) k

@@ -4,27 +4,23 @@
 --   places       of the array of distances
 --   rowSum       the sums of so many squares in a row, m places apart; rowMore: what they have more than the newer ones
 --   turned       from what the older squares have more, x, and the sums of both blocks, to the distance
+--   carried      what a number so far counts for: nothing where the numbers start afresh
 --   distanceOf   the distance of k × k squares from the place `at` on, distanceAt: that of the candidate at place t
+--   wholeAt      the same of whole blocks of 32, by four boxes of 16
+--   numberOf     the distance at m of the candidate at place t, at every m
 --   Runs         k squares are 1, 2, or some times 4
 --   Inside       the squares of a row lie inside the array, for all places
 --   Squared      the squares of a block do, they add up to its own sum, and sums and distances have 16 bits
---   Filled       an array has the boxes of what stands in it at m = 1, and they are as small as those of pels
---   Narrow       an array has the distances at m of all candidates
 use Prim.Native.Nat.{ℕ, _+_, _-_, _*_, _/_, _≤_, _<_}
 use mathlib.Core.Path.{_≡_}
 use mathlib.Core.Logic.{_⊎_}
+use mathlib.Core.Bool.{Bool, cond}
 use mathlib.Core.List.{List}
+use lib.Dec.{eqb}
 use lib.ListN.{length, getD}
 use Rattle.base.specs.Sum.{sumTo, sumOver}
 use Rattle.signed.specs.Values.{absDiff}
-use Rattle.measures.specs.Measures.{measureOf}
-use Rattle.frame.specs.Pictures.{pairOf}
-use Rattle.frame.specs.declared.SearchBlock.{SearchBlock}
-use Rattle.distortion.specs.Blocks.{newerBlock, olderBlock}
-use Rattle.search.specs.Exhaustive.{gridVector}
-use Rattle.reach.specs.Reach.{reach, InReach}
-use Rattle.pruned_rule.specs.Distance.{distanceBy}
-use Rattle.boxes.specs.Boxes.{Cut, levelAt, ownAt, spanOf, windowPlaces, ownPlaces, Levels, Boxed}
+use Rattle.boxes.specs.Boxes.{levelAt, ownAt, wholeOf}
 use Rattle.boxes.specs.declared.Level.{Level}
 
 abbrev pub places : ℕ
@@ -39,6 +35,9 @@ rowMore boxes at own m count = sumTo (λ q. getD boxes (at + m * q) 0 - getD box
 abbrev pub turned : ℕ → ℕ → ℕ → ℕ
 turned x s v = x + (v - (s - x))
 
+abbrev pub carried : Bool → ℕ → ℕ
+carried fresh x = cond fresh 0 x
+
 -- rows of older squares are `below` places apart, those of newer ones `under`
 abbrev pub distanceOf : List ℕ → ℕ → ℕ → ℕ → ℕ → ℕ → ℕ → ℕ → ℕ
 distanceOf boxes at below own under m k t =
@@ -46,6 +45,12 @@ distanceOf boxes at below own under m k t =
 
 abbrev pub distanceAt : List ℕ → ℕ → ℕ → ℕ → ℕ
 distanceAt boxes n m t = distanceOf boxes (levelAt n m) ((n + 32) * m) (ownAt n m) (n * m) m (n / m) t
+
+abbrev pub wholeAt : List ℕ → ℕ → ℕ
+wholeAt boxes t = absDiff (wholeOf boxes (ownAt 32 16) 512) (wholeOf boxes (levelAt 32 16 + t) 1024)
+
+unfoldable pub numberOf : List ℕ → ℕ → ℕ → ℕ → ℕ
+numberOf boxes n m t = cond (eqb m 32) (wholeAt boxes t) (distanceAt boxes n m t)
 
 pub record Fours (k : ℕ) : Type 0 where
   pub fours : ℕ
@@ -69,15 +74,3 @@ pub record Squared (boxes : List ℕ) (l : Level) (k at own : ℕ) (w : Level) (
   pub newer-sum : sumTo (λ p. rowSum boxes (l .own + own + p * (l .n * l .m)) (l .m) k) k ≡ getD boxes (w .own + own) 0
   pub older-small : (t : ℕ) → t < size → getD boxes (w .at + at + t) 0 ≤ 65535
   pub narrow : (t : ℕ) → t < size → distanceOf boxes (l .at + at) (l .pitch * l .m) (l .own + own) (l .n * l .m) (l .m) k t ≤ 65535
-
-pub record Filled (n span : ℕ) (boxes : List ℕ) : Type 0 where
-  pub levels : Levels (λ u. getD boxes u 0) n span boxes
-  pub window-small : (m t : ℕ) → Cut n m → t < windowPlaces n span m → getD boxes (levelAt n m + t) 0 ≤ 255 * m * m
-  pub own-small : (m t : ℕ) → Cut n m → t < ownPlaces n m → getD boxes (ownAt n m + t) 0 ≤ 255 * m * m
-
-pub record Narrow (boxes : List ℕ) (n m span : ℕ) (part : List ℕ) : Type 0 where
-  pub distance : (older newer : List ℕ) (b : SearchBlock) → n ≡ b .setting .n → span ≡ spanOf n (reach b) → Boxed older newer b boxes
-      → (i j : ℕ) → InReach (reach b) i j
-      → getD part ((n + 32) * (i - reach b .top) + (j - reach b .left)) 0
-      ≡ distanceBy (measureOf 1) n m (newerBlock (pairOf older newer (b .setting)) (b .y) (b .x))
-      (olderBlock (pairOf older newer (b .setting)) (b .y) (b .x) (gridVector i j))
