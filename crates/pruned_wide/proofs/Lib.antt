@@ -1,0 +1,4 @@
+pub mod Sums
+pub mod Rows
+pub mod Blocks
+pub mod Levels
