@@ -1,12 +1,11 @@
 -- Keys stored behind one another, and that there is room for them.
 --   added-first, added-yes, added-no   none yet; one more that is within the limit; one that is not, stored and not counted
 --   added-as                           the same spots in other words
---   row-yes, row-no                    one spot more of a row; rows-more: one row more
---   row-none                           where all exceed the limit none is within it; none-within: as in a row whose least number does
+--   row-yes, row-no                    one spot more of a row; rows-more: one row more; rows-none: one that has none within
 --   row-few, rows-few                  there are no more in a part of a row than in the whole, and none more in some rows than in all
 --   added-join, added-last             a further row, and all; spots-rows: all rows have all spots
 --   key-of-spot                        the key of a spot with distance 0
-use Prim.Native.Nat.{ℕ, zero, suc, _+_, _*_, _-_, _≤_, _<_}
+use Prim.Native.Nat.{ℕ, _+_, _*_, _-_, _≤_, _<_}
 use mathlib.Core.Path.{_≡_, refl, sym, ap, ap₂, _∙_, subst}
 use mathlib.Core.Bool.{Bool, cond}
 use mathlib.Core.List.{List, [], _∷_, _++_, map-append, append-nil, append-assoc}
@@ -15,22 +14,20 @@ use native.Mathlib.Numerals.{add-one}
 use native.Mathlib.Omega.{arith}
 use borrow.Author.Tests.{le-leb, lt-leb}
 use lib.Dec.{leb}
-use lib.ListN.{length, getD, take, drop, set, length-append, length-set}
+use lib.ListN.{length, take, drop, set, length-append, length-set}
 use lib.Seq.{take-set-le, take-suc-set, drop-set-lt, drop-drop}
 use Rattle.base.specs.Sum.{sumTo-cut}
 use Rattle.base.specs.Lists.{listTo, listTo-more, concatTo, concatTo-more}
 use Rattle.base.specs.Tests.{one}
 use Rattle.frame.specs.declared.Region.{Region}
 use Rattle.reach.specs.Keys.{orderCode, keyOf}
-use Rattle.full.specs.Rows.{leastFrom}
-use Rattle.full.proofs.Keys.{least-least}
 use Rattle.pruned_rule.specs.Sift.{kept}
 use Rattle.pruned_rule.specs.Spots.{spots, keyOn}
 use Rattle.pruned_rule.proofs.Loops.{kept-append}
 use Rattle.pruned_rule.proofs.Spots.{spot-row, spot-column}
 use Rattle.pruned_list.specs.Listed.{keysOf}
-use Rattle.pruned_sift.specs.Laid.{numberOn, rowSpots, within, Added}
-use Rattle.pruned_sift.proofs.Sifted.{kept-row, kept-lists, number-on}
+use Rattle.pruned_sift.specs.Laid.{rowSpots, Added}
+use Rattle.pruned_sift.proofs.Sifted.{kept-row, kept-lists}
 
 pub added-first : (keys : List ℕ) (at : ℕ) → Added [] keys at keys at
 added-first keys at = record { many = omega arith; front = sym (append-nil _); long = refl; behind = refl }
@@ -105,16 +102,17 @@ module _ (v : ℕ → ℕ) (l : ℕ) (g : ℕ → ℕ) (n : ℕ) where
       let c = rw e at (sumTo-cut (λ j. one (leb (v (g j)) l)) n (m - n)) in
       omega (arith, kept-row v l g n, kept-row v l g m, c)
 
-pub row-none : (v : ℕ → ℕ) (l : ℕ) (g : ℕ → ℕ) (n : ℕ) → ((j : ℕ) → j < n → l < v (g j)) → kept v l (listTo g n) ≡ []
-unfolding listTo kept
-row-none v l g zero h = refl
-row-none v l g (suc n) h =
-    kept-append v l (listTo g n) (g n ∷ [])
-    ∙ ap₂ _++_ (row-none v l g n (λ j k. h j (omega arith))) (kept-no v l (g n) (h n (omega arith)))
+-- a list with no member
+none : (ts : List ℕ) → length ts ≡ 0 → [] ≡ ts
+none [] e = refl
+none (t ∷ ts) e = absurd (omega (arith, e))
 
 module _ (v : ℕ → ℕ) (l : ℕ) (f : ℕ → List ℕ) where
   pub rows-more : (n : ℕ) → kept v l (concatTo f n) ++ kept v l (f n) ≡ kept v l (concatTo f (n + 1))
   rows-more n = rw (concatTo-more, kept-append)
+
+  pub rows-none : (n : ℕ) → length (kept v l (f n)) ≡ 0 → kept v l (concatTo f n) ≡ kept v l (concatTo f (n + 1))
+  rows-none n e = sym (append-nil _) ∙ ap (_++_ (kept v l (concatTo f n))) (none (kept v l (f n)) e) ∙ rows-more n
 
   pub rows-few : (n m : ℕ) → n < m → length (kept v l (concatTo f n)) + length (kept v l (f n)) ≤ length (kept v l (concatTo f m))
   rows-few n m h =
@@ -123,14 +121,6 @@ module _ (v : ℕ → ℕ) (l : ℕ) (f : ℕ → List ℕ) where
       omega (arith, kept-lists v l f (n + 1), kept-lists v l f m, c, ap length (rows-more n), length-append (kept v l (concatTo f n)) (kept v l (f n)))
 
 -- ---- the spots of a row
-
--- none within
-pub none-within : (part : List ℕ) (pitch : ℕ) (r : Region) (most i least : ℕ) → r .left + r .columns ≤ 33
-    → least ≡ leastFrom 65535 (λ k. getD part k 0) (pitch * i) (r .columns) → most < least → within part pitch r most (rowSpots r i) ≡ []
-none-within part pitch r most i least few e o =
-    row-none (numberOn part pitch r) most _ (r .columns) (λ j h.
-    rw (number-on part pitch r i j few h)
-    (let m = least-least 65535 (λ k. getD part k 0) (pitch * i) (r .columns) (pitch * i + j) (omega arith) (omega arith) in omega (arith, e)))
 
 -- its key
 pub key-of-spot : (i j : ℕ) → j < 64 → orderCode i j ≡ keyOn (λ v. 0) (64 * i + j)

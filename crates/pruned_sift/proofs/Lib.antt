@@ -1,2 +1,4 @@
 pub mod Sifted
+pub mod Rows
 pub mod Added
+pub mod Distances

@@ -1,32 +1,27 @@
 -- Rows of numbers, and how many of them are within a limit.
 --   row-room         a row lies in the array; place-small: where it begins is no large number
---   lowered-over     a row with no number as low as the best adds nothing
---   kept-row         how many of a list by a rule are within a limit; kept-lists: of lists one behind the other; kept-all: of all spots
+--   kept-row         how many of a list by a rule are within a limit; kept-lists: of lists one behind the other; kept-in-row: of a row; kept-all: of all
 --   number-on        the number on the spot of a row and a column of the region
-use Prim.Native.Nat.{ℕ, zero, suc, _+_, _*_, _-_, _/_, _≤_, _<_}
+use Prim.Native.Nat.{ℕ, zero, suc, _+_, _*_, _-_, _≤_, _<_}
 use mathlib.Core.Path.{_≡_, refl, sym, ap, ap₂, _∙_}
-use mathlib.Core.Logic.{inl}
 use mathlib.Core.Bool.{Bool, true, false, cond}
 use mathlib.Core.List.{List, [], _∷_}
 use native.Mathlib.Nat.{mul-le-mul, le-refl}
 use native.Mathlib.Omega.{arith}
 use lib.Dec.{leb}
 use lib.ListN.{length, getD, length-append}
-use Rattle.base.specs.Sum.{sumTo, sumTo-ext, sumOver}
+use Rattle.base.specs.Sum.{sumTo, sumTo-ext}
 use Rattle.base.specs.Lists.{listTo, concatTo}
 use Rattle.base.specs.Tests.{one}
 use Rattle.frame.specs.declared.Region.{Region}
-use Rattle.reach.specs.Keys.{keyOf}
-use Rattle.full.specs.Rows.{leastFrom, Lowered}
-use Rattle.full.proofs.Keys.{least-least}
 use Rattle.pruned_rule.specs.Sift.{kept}
 use Rattle.pruned_rule.specs.Spots.{spots}
 use Rattle.pruned_rule.proofs.Loops.{kept-append}
 use Rattle.pruned_rule.proofs.Spots.{spot-row, spot-column}
-use Rattle.pruned_sift.specs.Laid.{Laid, numberOn, keyIn}
+use Rattle.pruned_sift.specs.Laid.{Laid, numberOn, rowSpots, within}
 
-module _ {part : List ℕ} {pitch : ℕ} {r : Region} (l : Laid part pitch r) where
-  pub row-room : (i : ℕ) → i < r .rows → pitch * i + r .columns ≤ length part
+module _ {numbers : List ℕ} {pitch : ℕ} {r : Region} (l : Laid numbers pitch r) where
+  pub row-room : (i : ℕ) → i < r .rows → pitch * i + r .columns ≤ length numbers
   row-room i h =
       let e : i ≤ r .rows - 1 = omega arith in
       omega (arith, l .room, mul-le-mul (le-refl pitch) e)
@@ -35,18 +30,6 @@ module _ {part : List ℕ} {pitch : ℕ} {r : Region} (l : Laid part pitch r) wh
   place-small i h =
       let e : i ≤ 33 = omega (arith, l .around .few-rows) in
       mul-le-mul (l .narrow) e
-
-  pub lowered-over : (i best least : ℕ) → least ≡ leastFrom 65535 (λ k. getD part k 0) (pitch * (i - r .top)) (r .columns) → best / 262144 < least
-      → Lowered (keyIn part pitch r) r i best best
-  unfolding keyOf
-  lowered-over i best least e o = record {
-    low = le-refl best;
-    least = λ j h.
-        let from = pitch * (i - r .top) in
-        let m = least-least 65535 (λ k. getD part k 0) from (r .columns) (from + (j - r .left)) (omega arith) (omega (arith, h .left, h .right)) in
-        omega (arith, e);
-    some = inl refl;
-  }
 
 -- ---- how many
 
@@ -71,19 +54,22 @@ kept-lists v l f (suc n) =
     rw kept-append (length-append (kept v l (concatTo f n)) (kept v l (f n)) ∙ ap (λ (m : ℕ). m + length (kept v l (f n))) (kept-lists v l f n))
 
 -- the number on the spot of row i, column j of the region
-pub number-on : (part : List ℕ) (pitch : ℕ) (r : Region) (i j : ℕ) → r .left + r .columns ≤ 33 → j < r .columns
-    → numberOn part pitch r (64 * (r .top + i) + (r .left + j)) ≡ getD part (pitch * i + j) 0
-number-on part pitch r i j few h =
+pub number-on : (numbers : List ℕ) (pitch : ℕ) (r : Region) (i j : ℕ) → r .left + r .columns ≤ 33 → j < r .columns
+    → numberOn numbers pitch r (64 * (r .top + i) + (r .left + j)) ≡ getD numbers (pitch * i + j) 0
+number-on numbers pitch r i j few h =
     let small : r .left + j < 64 = omega arith in
     let p : r .top + i - r .top ≡ i = omega arith in
     let q : r .left + j - r .left ≡ j = omega arith in
     rw (spot-row (r .top + i) (r .left + j) small, spot-column (r .top + i) (r .left + j) small, p, q)
 
-pub kept-all : (part : List ℕ) (pitch : ℕ) (r : Region) (most : ℕ) → r .left + r .columns ≤ 33
-    → sumOver (r .rows) (r .columns) (λ i j. one (leb (getD part (pitch * i + j) 0) most)) ≡ length (kept (numberOn part pitch r) most (spots r))
+-- those of a row that are within
+pub kept-in-row : (numbers : List ℕ) (pitch : ℕ) (r : Region) (most i : ℕ) → r .left + r .columns ≤ 33
+    → sumTo (λ j. one (leb (getD numbers (pitch * i + j) 0) most)) (r .columns) ≡ length (within numbers pitch r most (rowSpots r i))
+kept-in-row numbers pitch r most i few =
+    sym (kept-row (numberOn numbers pitch r) most _ (r .columns)
+    ∙ sumTo-ext _ _ (r .columns) (λ j h. ap (λ (d : ℕ). one (leb d most)) (number-on numbers pitch r i j few h)))
+
+pub kept-all : (numbers : List ℕ) (pitch : ℕ) (r : Region) (most : ℕ)
+    → sumTo (λ i. length (within numbers pitch r most (rowSpots r i))) (r .rows) ≡ length (within numbers pitch r most (spots r))
 unfolding spots
-kept-all part pitch r most few =
-    sym (kept-lists (numberOn part pitch r) most _ (r .rows)
-    ∙ sumTo-ext _ _ (r .rows) (λ i hi.
-    kept-row (numberOn part pitch r) most _ (r .columns)
-    ∙ sumTo-ext _ _ (r .columns) (λ j hj. ap (λ (d : ℕ). one (leb d most)) (number-on part pitch r i j few hj))))
+kept-all numbers pitch r most = sym (kept-lists (numberOn numbers pitch r) most (rowSpots r) (r .rows))

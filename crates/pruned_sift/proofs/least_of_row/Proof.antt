@@ -12,10 +12,10 @@ use Rattle.pruned_sift.proofs.least_of_row.Statement.{statement}
 use Rattle.pruned_sift.proofs.least_of_row.Tie as tie
 
 abbrev Inv-loop : tie.InvT-loop
-Inv-loop part from columns least₀ j₀ least j = (j ≤ columns) × (least ≡ leastFrom 65535 (λ k. getD part k 0) from j)
+Inv-loop numbers from columns least₀ j₀ least j = (j ≤ columns) × (least ≡ leastFrom 4294967295 (λ k. getD numbers k 0) from j)
 
 abbrev μ-loop : tie.MeasureT-loop
-μ-loop part from columns least₀ j₀ least j = columns - j
+μ-loop numbers from columns least₀ j₀ least j = columns - j
 
 loop-holds : tie.Need-loop-holds Inv-loop μ-loop
 loop-holds c = (omega arith, least-first _ _ _)
@@ -40,7 +40,7 @@ loop-again c =
     let o = c .before .before .before in
     let l = o .loop in
     let a = o .before .args in
-    let m = least-more 65535 (λ k. getD (now (a .part)) k 0) (a .from) (l .j) in (
+    let m = least-more 4294967295 (λ k. getD (now (a .numbers)) k 0) (a .from) (l .j) in (
       omega arith,
       ⊎-elim (λ w. omega (arith, m, l .inv .1, w .1, w .0 .taken)) (λ w. omega (arith, m, l .inv .1, w .1, w .0 .left)) (c .if1 .came),
     )

@@ -23,11 +23,11 @@ abbrev spotsTo : Region → ℕ → ℕ → List ℕ
 spotsTo r i j = listTo (λ k. 64 * (r .top + i) + (r .left + k)) j
 
 abbrev Inv-loop : tie.InvT-loop
-Inv-loop part pitch i r most codes keys₀ at from down n₀ j₀ keys n j =
-    (j ≤ r .columns) × Added (within part pitch r most (spotsTo r i j)) keys₀ at keys n
+Inv-loop numbers pitch i r most codes keys₀ at from down n₀ j₀ keys n j =
+    (j ≤ r .columns) × Added (within numbers pitch r most (spotsTo r i j)) keys₀ at keys n
 
 abbrev μ-loop : tie.MeasureT-loop
-μ-loop part pitch i r most codes keys₀ at from down n₀ j₀ keys n j = r .columns - j
+μ-loop numbers pitch i r most codes keys₀ at from down n₀ j₀ keys n j = r .columns - j
 
 abbrev start : tie.At-loop Inv-loop μ-loop → tie.Start Inv-loop μ-loop
 start l = l .before .before .before .before .before
@@ -52,12 +52,12 @@ room l h =
       arith,
       l .loop .inv .1 .many,
       start l .pre .3,
-      row-few (numberOn (now (a .part)) (a .pitch) (a .r)) (a .most) (λ k. 64 * (a .r .top + a .i) + (a .r .left + k)) (l .loop .j) (a .r .columns) (l .loop .inv .0),
+      row-few (numberOn (now (a .numbers)) (a .pitch) (a .r)) (a .most) (λ k. 64 * (a .r .top + a .i) + (a .r .left + k)) (l .loop .j) (a .r .columns) (l .loop .inv .0),
     )
 
 -- its number lies in the array
 inside : (l : tie.At-loop Inv-loop μ-loop) → l .loop .j < start l .args .r .columns → let a = start l .args in
-    (a .pitch * a .i ≤ 2112) × (a .pitch * a .i + l .loop .j < length (now (a .part)))
+    (a .pitch * a .i ≤ 2112) × (a .pitch * a .i + l .loop .j < length (now (a .numbers)))
 inside l h =
     let s = start l in
     (place-small (s .pre .0) (s .args .i) (s .pre .1), omega (arith, row-room (s .pre .0) (s .args .i) (s .pre .1)))
@@ -127,10 +127,10 @@ loop-again c =
     let o = c .before .before .before .before .before .before in
     let l = o .loop in
     let a = start o .args in
-    let v = numberOn (now (a .part)) (a .pitch) (a .r) in
+    let v = numberOn (now (a .numbers)) (a .pitch) (a .r) in
     let g : ℕ → ℕ = λ k. 64 * (a .r .top + a .i) + (a .r .left + k) in
     let h : l .j < a .r .columns = omega arith in
-    let d = number-on (now (a .part)) (a .pitch) (a .r) (a .i) (l .j) (start o .pre .0 .around .few-columns) h in
+    let d = number-on (now (a .numbers)) (a .pitch) (a .r) (a .i) (l .j) (start o .pre .0 .around .few-columns) h in
     let k = code-is o (column o h) ∙ key-of-spot (a .r .top + a .i) (a .r .left + l .j) (omega (arith, column o h)) in
     ⊎-elim
     (λ w.

@@ -1,108 +1,95 @@
--- `nearest`: before turn t the least is that of the rows nearer than t to the middle (`Led`).
-use Prim.Native.Nat.{ℕ, _+_, _*_, _-_, _≤_, _<_}
+-- `nearest`: after i turns the least of the key that it begins with and those of the first i rows.
+use Prim.Native.Nat.{_+_, _-_, _*_, _≤_}
 use mathlib.Core.Path.{_≡_}
+use mathlib.Core.Logic.{⊎-elim}
 use native.Mathlib.Omega.{arith}
-use mathlib.Core.List.{List}
-use lib.ListN.{length}
-use Rattle.frame.specs.declared.Region.{Region}
-use Rattle.reach.specs.Keys.{keyOf}
-use Rattle.reach.proofs.Keys.{still-is}
-use Rattle.full.proofs.Reached.{Led, led-first, led-more, led-last}
-use Rattle.pruned_sift.specs.Laid.{Laid, keyIn}
+use borrow.Author.Needs.{needs}
+use denote.Ref.{now}
+use lib.ListN.{getD}
+use Rattle.full.proofs.Keys.{least-least}
+use Rattle.pruned_sift.specs.Laid.{keyIn}
 use Rattle.pruned_sift.proofs.Sifted.{row-room, place-small}
+use Rattle.pruned_sift.proofs.Rows.{Passed, passed-first, passed-more, passed-last, lowered-keys, lowered-over, leasts-bound, bottom-some}
 use Rattle.pruned_sift.proofs.nearest.Statement.{statement}
 use Rattle.pruned_sift.proofs.nearest.Tie as tie
 
 abbrev Inv-loop : tie.InvT-loop
-Inv-loop part pitch r codes first best₀ t₀ best t = (0 < t) × (t ≤ 17) × Led (keyIn part pitch r) r t best
+Inv-loop numbers pitch r least codes bottom best₀ i₀ best i = (i ≤ r .rows) × Passed (keyIn numbers pitch r) r (bottom * 262144 + 262143) i best
 
 abbrev μ-loop : tie.MeasureT-loop
-μ-loop part pitch r codes first best₀ t₀ best t = 17 - t
+μ-loop numbers pitch r least codes bottom best₀ i₀ best i = r .rows - i
 
 abbrev start : tie.At-loop Inv-loop μ-loop → tie.Start Inv-loop μ-loop
-start l = l .before .before .before .before .before .before .before .before
-
--- the middle lies in the array
-middle : {part : List ℕ} {pitch : ℕ} {r : Region} → Laid part pitch r
-    → (pitch * (16 - r .top) ≤ 2112) × (pitch * (16 - r .top) + (16 - r .left) < length part)
-middle {r = r} l =
-    let h : 16 - r .top < r .rows = omega (arith, l .around .above, l .around .below) in
-    (place-small l (16 - r .top) h, omega (arith, row-room l (16 - r .top) h, l .around .before, l .around .behind))
+start l = l .before .before .before .before .before
 
 codes-of-requires : tie.Need-codes-of-requires Inv-loop μ-loop
 codes-of-requires c κs = omega arith
 
-sub-first : tie.Need-sub-first Inv-loop μ-loop
-sub-first c = c .before .before .before .pre .around .above
+least-of-row-requires : tie.Need-least-of-row-requires Inv-loop μ-loop
+least-of-row-requires c κs =
+    omega (arith, c .least-of-row-arg .given .0, c .before .before .before .pre .0 .around .few-rows)
 
-mul-first : tie.Need-mul-first Inv-loop μ-loop
-mul-first c = omega (arith, middle (c .before .before .before .pre) .0)
+cast-best : tie.Need-cast-best Inv-loop μ-loop
+cast-best c = search needs
 
-sub-first-2 : tie.Need-sub-first-2 Inv-loop μ-loop
-sub-first-2 c = c .before .before .before .before .pre .around .before
+mul-best : tie.Need-mul-best Inv-loop μ-loop
+mul-best c = search needs
 
-add-first : tie.Need-add-first Inv-loop μ-loop
-add-first c = omega (arith, middle (c .before .before .before .before .pre) .0)
-
-mul-first-2 : tie.Need-mul-first-2 Inv-loop μ-loop
-mul-first-2 c = omega (arith, middle (c .before .before .before .before .pre) .0)
-
-shared-slice-read-first : tie.Need-shared-slice-read-first Inv-loop μ-loop
-shared-slice-read-first c = middle (c .before .before .before .before .before .pre) .1
-
-cast-first : tie.Need-cast-first Inv-loop μ-loop
-cast-first c =
-    let a = c .before .before .before .before .before .args in
-    omega (arith, c .shared-slice-known2 .given (a .pitch * (16 - a .r .top) + (16 - a .r .left)))
-
-mul-first-3 : tie.Need-mul-first-3 Inv-loop μ-loop
-mul-first-3 c =
-    let a = c .before .before .before .before .before .args in
-    omega (arith, c .shared-slice-known2 .given (a .pitch * (16 - a .r .top) + (16 - a .r .left)))
-
-add-first-2 : tie.Need-add-first-2 Inv-loop μ-loop
-add-first-2 c =
-    let a = c .before .before .before .before .before .args in
-    omega (arith, c .shared-slice-known2 .given (a .pitch * (16 - a .r .top) + (16 - a .r .left)))
-
-row-nearest-requires : tie.Need-row-nearest-requires Inv-loop μ-loop
-row-nearest-requires c κs = (c .before .before .before .before .before .before .pre, c .before .before .before .before .codes-of .ensures)
+add-best : tie.Need-add-best Inv-loop μ-loop
+add-best c = search needs
 
 loop-holds : tie.Need-loop-holds Inv-loop μ-loop
-unfolding keyOf
-loop-holds c =
-    let s = c .before .before .before .before .before .before .before in
-    (omega arith, omega arith, led-first _ _ (s .pre .around) _ _ (rw still-is) (c .row-nearest .ensures))
+loop-holds c = (omega arith, passed-first _ _ _)
 
-row-nearest-requires-2 : tie.Need-row-nearest-requires-2 Inv-loop μ-loop
-row-nearest-requires-2 c κs =
-    let l = c .before .before in
-    (start l .pre, l .before .before .before .before .before .before .codes-of .ensures)
+mul-if2 : tie.Need-mul-if2 Inv-loop μ-loop
+mul-if2 c = omega (arith, start (c .before .before) .pre .0 .around .few-rows)
 
-add-row-nearest : tie.Need-add-row-nearest Inv-loop μ-loop
-add-row-nearest c = omega arith
+element-copy-out-if2 : tie.Need-element-copy-out-if2 Inv-loop μ-loop
+element-copy-out-if2 c = omega (arith, start (c .before .before) .pre .0 .around .few-rows)
 
-row-nearest-requires-3 : tie.Need-row-nearest-requires-3 Inv-loop μ-loop
-row-nearest-requires-3 c κs =
-    let l = c .before .before .before .before in
-    (start l .pre, l .before .before .before .before .before .before .codes-of .ensures)
+mul-row-keys : tie.Need-mul-row-keys Inv-loop μ-loop
+mul-row-keys c = let l = c .before .before .before .before in omega (arith, place-small (start l .pre .0) (l .loop .i) (omega arith))
 
-add-t : tie.Need-add-t Inv-loop μ-loop
-add-t c = omega arith
+add-row-keys : tie.Need-add-row-keys Inv-loop μ-loop
+add-row-keys c = let l = c .before .before .before .before .before in omega (arith, start l .pre .0 .around .few-rows)
+
+row-keys-requires : tie.Need-row-keys-requires Inv-loop μ-loop
+row-keys-requires c κs =
+    let l = c .before .before .before .before .before .before in
+    let d = start l .pre .0 in
+    (row-room d (l .loop .i) (omega arith), omega (arith, d .around .few-rows), d .around .few-columns, l .before .before .before .codes-of .ensures)
+
+add-i : tie.Need-add-i Inv-loop μ-loop
+add-i c = omega arith
 
 loop-less : tie.Need-loop-less Inv-loop μ-loop
 loop-less c = omega arith
 
 loop-again : tie.Need-loop-again Inv-loop μ-loop
 loop-again c =
-    let l = c .before .before .before .before .before in
-    (omega arith, omega arith, led-more _ _ (l .loop .t) _ _ _ (omega arith) (l .loop .inv .2) (c .before .before .row-nearest2 .ensures) (c .row-nearest3 .ensures))
+    let o = c .before .before .before .before in
+    let l = o .loop in
+    let s = start o in
+    let a = s .args in
+    let low = lowered-over (now (a .numbers)) (a .pitch) (a .r) (now (a .least)) (l .i) (l .best) _ (omega arith) (leasts-bound (now (a .numbers)) (a .pitch) (a .r) (now (a .least)) (s .pre .1)) (l .inv .1 .low) in
+    let least = least-least 4294967295 (λ k. getD (now (a .least)) k 0) 0 (a .r .rows) (l .i) (omega arith) (omega arith) in
+    ⊎-elim
+    (λ w.
+    rw (w .4)
+    (omega arith, passed-more _ _ _ (l .i) (l .best) _ (lowered-keys (now (a .numbers)) (a .pitch) (a .r) (l .i) (l .best) _ (omega arith) (w .3 .ensures)) (l .inv .1)))
+    (λ w.
+    rw (w .1)
+    (omega arith, passed-more _ _ _ (l .i) (l .best) _ (low (omega (arith, least, o .before .least-of-row .ensures, w .0 .left))) (l .inv .1)))
+    (c .if2 .came)
 
 returns : tie.Need-returns Inv-loop μ-loop
 returns c =
-    let l = c .before in
-    let e : l .loop .t ≡ 17 = omega arith in
-    led-last _ _ (start l .pre .around) _ (rw e at (l .loop .inv .2))
+    let o = c .before .before in
+    let s = start o in
+    let a = s .args in
+    let e : o .loop .i ≡ a .r .rows = omega arith in
+    let low = bottom-some (now (a .numbers)) (a .pitch) (a .r) (now (a .least)) (s .pre .0) (λ k. omega (arith, o .before .before .before .before .shared-slice-known .given k)) (s .pre .1) _ (o .before .least-of-row .ensures) in
+    passed-last _ _ _ _ (low .0) (low .1) (low .2) (low .3) (rw e at (o .loop .inv .1))
 
 pub nearest-spec : {M : Type 1} → statement M
 nearest-spec =
@@ -111,21 +98,17 @@ nearest-spec =
     Inv-loop
     μ-loop
     codes-of-requires
-    sub-first
-    mul-first
-    sub-first-2
-    add-first
-    mul-first-2
-    shared-slice-read-first
-    cast-first
-    mul-first-3
-    add-first-2
-    row-nearest-requires
+    least-of-row-requires
+    cast-best
+    mul-best
+    add-best
     loop-holds
-    row-nearest-requires-2
-    add-row-nearest
-    row-nearest-requires-3
-    add-t
+    mul-if2
+    element-copy-out-if2
+    mul-row-keys
+    add-row-keys
+    row-keys-requires
+    add-i
     loop-less
     loop-again
     returns)

@@ -15,11 +15,11 @@ use Rattle.pruned_sift.proofs.row_keys.Statement.{statement}
 use Rattle.pruned_sift.proofs.row_keys.Tie as tie
 
 abbrev Inv-loop : tie.InvT-loop
-Inv-loop part from i left columns codes best down least₀ j₀ least j =
-    (j ≤ columns) × (least ≡ leastFrom best (λ k. keyOf (getD part (from + (k - left)) 0) i k) left j)
+Inv-loop numbers from i left columns codes best down least₀ j₀ least j =
+    (j ≤ columns) × (least ≡ leastFrom best (λ k. keyOf (getD numbers (from + (k - left)) 0) i k) left j)
 
 abbrev μ-loop : tie.MeasureT-loop
-μ-loop part from i left columns codes best down least₀ j₀ least j = columns - j
+μ-loop numbers from i left columns codes best down least₀ j₀ least j = columns - j
 
 abbrev start : tie.At-loop Inv-loop μ-loop → tie.Start Inv-loop μ-loop
 start l = l .before .before .before
