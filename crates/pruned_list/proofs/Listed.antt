@@ -6,6 +6,7 @@
 --   nearest-chosen   the least key is that of a chosen spot; nearest-spot: which it holds, with its distance
 --   within-listed    those that stay are the keys of the spots within the limit
 --   renewed-listed   each key with a new distance: the keys of the same spots by another cost
+--   chosen-measured  the least of such keys holds a spot that is chosen by that cost, and the cost
 use Prim.Native.Nat.{ℕ, zero, suc, _+_, _*_, _/_, _%_, _≤_, _<_}
 use mathlib.Core.Path.{_≡_, refl, sym, ap, ap₂, _∙_}
 use mathlib.Core.Bool.{Bool, true, false, cond}
@@ -29,7 +30,7 @@ use Rattle.pruned_rule.specs.Sift.{kept}
 use Rattle.pruned_rule.specs.Spots.{spots, vectorOn, keyOn, Chosen}
 use Rattle.pruned_rule.proofs.Parts.{parted, parted-kept}
 use Rattle.pruned_rule.proofs.Spots.{spots-reach, spot-row, spot-column}
-use Rattle.pruned_list.specs.Listed.{keysOf, distanceOf, spotOf, renewed, nearestKey, KeptWithin}
+use Rattle.pruned_list.specs.Listed.{keysOf, distanceOf, spotOf, renewed, nearestKey, KeptWithin, measuredKey, leastMeasured}
 
 abbrev pub OnGrid : List ℕ → Type 0
 OnGrid ts = (t : ℕ) → t ∈ ts → (t / 64 < 33) × (t % 64 < 33)
@@ -120,22 +121,34 @@ unfolding leastOf
 least-keys cost [] h = absurd (omega arith)
 least-keys cost (t ∷ ts) h = least-keys-from cost t ts
 
+-- the least key is that of a chosen spot
+least-chosen : (cost : Vector → ℕ) (ts : List ℕ) → 0 < length ts → (r : ℕ) → r ≡ leastOf (λ k. k) (keysOf cost ts)
+    → (t : ℕ) × Chosen cost ts t × (r ≡ keyOn cost t)
+least-chosen cost ts some r e = (
+  leastOf (keyOn cost) ts,
+  record { member = leastOf-mem (keyOn cost) ts some; least = λ u m. leastOf-le (keyOn cost) ts m },
+  e ∙ least-keys cost ts some,
+)
+
+-- and holds it, with its distance
+least-spot : (cost : Vector → ℕ) (ts : List ℕ) → 0 < length ts → OnGrid ts → (r : ℕ) → r ≡ leastOf (λ k. k) (keysOf cost ts)
+    → Chosen cost ts (spotOf r) × (distanceOf r ≡ cost (vectorOn (spotOf r)))
+least-spot cost ts some g r e =
+    let (t, c, is) = least-chosen cost ts some r e in
+    let on = g t (c .member) in
+    rw (is, spot-on cost t on) (c, distance-on cost t on)
+
 pub nearest-chosen : (cost : Vector → ℕ) (ts keys : List ℕ) (count : ℕ) → 0 < count → count ≤ length keys → take count keys ≡ keysOf cost ts
     → (t : ℕ) × Chosen cost ts t × (nearestKey keys count ≡ keyOn cost t)
 unfolding nearestKey
 nearest-chosen cost ts keys count h few e =
-    let some : 0 < length ts = omega (arith, listed-many cost ts keys count few e) in (
-      leastOf (keyOn cost) ts,
-      record { member = leastOf-mem (keyOn cost) ts some; least = λ u m. leastOf-le (keyOn cost) ts m },
-      ap (leastOf (λ k. k)) e ∙ least-keys cost ts some,
-    )
+    least-chosen cost ts (omega (arith, listed-many cost ts keys count few e)) (nearestKey keys count) (ap (leastOf (λ k. k)) e)
 
 pub nearest-spot : (cost : Vector → ℕ) (ts keys : List ℕ) (count : ℕ) → 0 < count → count ≤ length keys → take count keys ≡ keysOf cost ts → OnGrid ts
     → let t = spotOf (nearestKey keys count) in Chosen cost ts t × (distanceOf (nearestKey keys count) ≡ cost (vectorOn t))
+unfolding nearestKey
 nearest-spot cost ts keys count h few e g =
-    let (t, c, is) = nearest-chosen cost ts keys count h few e in
-    let on = g t (c .member) in
-    rw (is, spot-on cost t on) (c, distance-on cost t on)
+    least-spot cost ts (omega (arith, listed-many cost ts keys count few e)) g (nearestKey keys count) (ap (leastOf (λ k. k)) e)
 
 kept-keys : (cost : Vector → ℕ) (limit : ℕ) (ts : List ℕ) → OnGrid ts
     → kept distanceOf limit (keysOf cost ts) ≡ keysOf cost (kept (λ t. cost (vectorOn t)) limit ts)
@@ -159,12 +172,11 @@ within-listed cost ts {limit} k g e =
     let same = ap (kept distanceOf limit) e ∙ kept-keys cost limit ts g in
     (k .front ∙ same, k .many ∙ ap length same ∙ length-map (kept (λ t. cost (vectorOn t)) limit ts) (keyOn cost))
 
-pub renewed-listed : (old cost : Vector → ℕ) (ts keys after : List ℕ) (count : ℕ) → count ≤ length keys → take count keys ≡ keysOf old ts → OnGrid ts
-    → after ≡ fillTo keys 0 (λ i. renewed (getD keys i 0) (cost (vectorOn (spotOf (getD keys i 0))))) count → take count after ≡ keysOf cost ts
-renewed-listed old cost ts keys after count few e g h =
-    ap (take count) (h ∙ fill-zero keys _ count)
-    ∙ take-at (listTo _ count) (drop count keys) count (length-listTo _ count)
-    ∙ listTo-ext _ (λ i. keyOn cost (getD ts i 0)) count each
+-- each key of the front with a new distance: the keys of the same spots by another cost
+measured-listed : (old cost : Vector → ℕ) (ts keys : List ℕ) (count : ℕ) → count ≤ length keys → take count keys ≡ keysOf old ts → OnGrid ts
+    → listTo (λ i. measuredKey cost (getD keys i 0)) count ≡ keysOf cost ts
+measured-listed old cost ts keys count few e g =
+    listTo-ext _ (λ i. keyOn cost (getD ts i 0)) count each
     ∙ sym (keys-listTo cost (λ i. getD ts i 0) count)
     ∙ ap (keysOf cost) (same ts count many)
   where
@@ -176,9 +188,24 @@ renewed-listed old cost ts keys after count few e g h =
         ext-getD 0 _ us (length-listTo _ n ∙ sym q)
         (λ i l. getD-listTo (λ k. getD us k 0) n i 0 (rw (length-listTo (λ k. getD us k 0) n) at l))
 
-    each : (i : ℕ) → i < count → renewed (getD keys i 0) (cost (vectorOn (spotOf (getD keys i 0)))) ≡ keyOn cost (getD ts i 0)
+    each : (i : ℕ) → i < count → measuredKey cost (getD keys i 0) ≡ keyOn cost (getD ts i 0)
     each i l =
         let t = getD ts i 0 in
         let on = g t (getD-mem ts i (rw many l)) in
         let there : getD keys i 0 ≡ keyOn old t = sym (getD-take count keys i 0 l) ∙ ap (λ (ks : List ℕ). getD ks i 0) e ∙ keys-at old ts i (rw many l) in
         rw (there, spot-on old t on) (renewed-on old t on (cost (vectorOn t)))
+
+pub renewed-listed : (old cost : Vector → ℕ) (ts keys after : List ℕ) (count : ℕ) → count ≤ length keys → take count keys ≡ keysOf old ts → OnGrid ts
+    → after ≡ fillTo keys 0 (λ i. renewed (getD keys i 0) (cost (vectorOn (spotOf (getD keys i 0))))) count → take count after ≡ keysOf cost ts
+renewed-listed old cost ts keys after count few e g h =
+    ap (take count) (h ∙ fill-zero keys _ count)
+    ∙ take-at (listTo _ count) (drop count keys) count (length-listTo _ count)
+    ∙ measured-listed old cost ts keys count few e g
+
+-- the least key of those measured is that of the candidate that is chosen
+pub chosen-measured : (old : Vector → ℕ) (ts keys : List ℕ) (count : ℕ) → 0 < count → count ≤ length keys → take count keys ≡ keysOf old ts → OnGrid ts
+    → (cost : Vector → ℕ) (r : ℕ) → r ≡ leastMeasured cost keys count
+    → Chosen cost ts (spotOf r) × (distanceOf r ≡ cost (vectorOn (spotOf r)))
+chosen-measured old ts keys count h few e g cost r is =
+    least-spot cost ts (omega (arith, listed-many old ts keys count few e)) g r
+    (is ∙ ap (leastOf (λ k. k)) (measured-listed old cost ts keys count few e g))

@@ -6,14 +6,23 @@
 --   nearestKey   the least of the first count of an array of keys
 --   swept        the array after n turns: each of the first n was stored behind those before it that stay
 --   KeptWithin   those of the first count that are within the limit stand in front in their order, so many there are, and the array is the swept one
-use Prim.Native.Nat.{ℕ, zero, suc, _+_, _*_, _/_, _%_}
+-- "Measure the rest and choose as full does":
+--   SpotIn          the spot is that of a candidate; SpotsIn: each of the first count of an array of keys has such a spot
+--   distortionTo    the distortion of a block's vector, of two lent frames
+--   measuredKey     the key with a cost for its distance; leastMeasured: the least of those of the first count of an array of keys
+use Prim.Native.Nat.{ℕ, zero, suc, _+_, _*_, _/_, _%_, _<_}
 use mathlib.Core.Path.{_≡_}
 use mathlib.Core.List.{List, map}
 use lib.ListN.{length, getD, take, drop, set}
 use Rattle.base.specs.Least.{leastOf}
+use Rattle.base.specs.Lists.{listTo}
 use Rattle.order.specs.declared.Vector.{Vector}
+use Rattle.frame.specs.declared.SearchBlock.{SearchBlock}
+use Rattle.frame.specs.Pictures.{pairOf}
+use Rattle.distortion.specs.Blocks.{distortion}
+use Rattle.reach.specs.Reach.{reach, InReach}
 use Rattle.pruned_rule.specs.Sift.{kept}
-use Rattle.pruned_rule.specs.Spots.{keyOn}
+use Rattle.pruned_rule.specs.Spots.{keyOn, vectorOn}
 
 abbrev pub keysOf : (Vector → ℕ) → List ℕ → List ℕ
 keysOf cost ts = map (keyOn cost) ts
@@ -39,3 +48,18 @@ pub record KeptWithin (limit : ℕ) (before : List ℕ) (count : ℕ) (after : L
   pub front : take r after ≡ kept distanceOf limit (take count before)
   pub list : after ≡ swept limit before count
   pub behind : drop (r + 1) after ≡ drop (r + 1) before
+
+abbrev pub SpotIn : SearchBlock → ℕ → Type 0
+SpotIn b t = InReach (reach b) (t / 64) (t % 64)
+
+abbrev pub SpotsIn : SearchBlock → List ℕ → ℕ → Type 0
+SpotsIn b keys count = (i : ℕ) → i < count → SpotIn b (spotOf (getD keys i 0))
+
+abbrev pub distortionTo : List ℕ → List ℕ → SearchBlock → Vector → ℕ
+distortionTo older newer b v = distortion (pairOf older newer (b .setting)) (b .y) (b .x) v
+
+abbrev pub measuredKey : (Vector → ℕ) → ℕ → ℕ
+measuredKey cost key = renewed key (cost (vectorOn (spotOf key)))
+
+abbrev pub leastMeasured : (Vector → ℕ) → List ℕ → ℕ → ℕ
+leastMeasured cost keys count = leastOf (λ k. k) (listTo (λ i. measuredKey cost (getD keys i 0)) count)

@@ -1,15 +1,20 @@
 // The candidates that remain in search 2, listed as keys in front of a lent array. A key is distance × 2^18 + order, and the order ends in the
-// candidate's spot, 64 × row + column of window 16. So the least key is the nearest's, and equals go by the preference order.
+// candidate's spot, 64 × row + column of window 16. So the least key is the nearest's, and equals go by the preference order. Those that remain to the
+// end are measured, and the one of least distortion chosen.
 
 ghost use mathlib.Core.Path.{_≡_};
-ghost use Prim.Native.Nat.{_+_, _*_, _≤_, _<_};
+ghost use Prim.Native.Nat.{_+_, _*_, _≤_, _<_, min};
 ghost use mathlib.Core.List.{_++_};
 ghost use lib.ListN.{length, drop};
 ghost use Rattle.base.specs.Lists.{listTo, fillTo};
+ghost use Rattle.distortion.specs.Blocks.{capped};
+ghost use Rattle.search.specs.Target.{Ready};
 ghost use Rattle.reach.specs.Keys.{orderCode, codeOf};
-ghost use Rattle.pruned_rule.specs.Spots.{spots};
-ghost use Rattle.pruned_list.specs.Listed.{keysOf, spotOf, renewed, nearestKey, KeptWithin};
+ghost use Rattle.pruned_rule.specs.Spots.{spots, vectorOn};
+ghost use Rattle.pruned_list.specs.Listed.{keysOf, spotOf, renewed, nearestKey, KeptWithin, SpotIn, SpotsIn, distortionTo, measuredKey, leastMeasured};
+use distortion::Capped;
 use frame::Region;
+use frame::SearchBlock;
 
 // The keys of one row with distance 0, from place `at` on.
 fn list_row(
@@ -96,4 +101,57 @@ pub fn keep_within(keys: &mut [u64], count: usize, limit: u64) -> usize
         from += 1;
     }
     kept
+}
+
+// ---- measuring
+
+// The distortion of the candidate on a spot, as far as the ceiling goes.
+fn measured(older: &[u8], newer: &[u8], b: SearchBlock, spot: usize, ceiling: u32) -> Capped
+    requires { ⌜ Ready (now older) (now newer) b × SpotIn b spot ⌝ }
+    ensures { λ d. ⌜ d ≡ capped ceiling (distortionTo (now (older .entry)) (now (newer .entry)) b (vectorOn spot)) ⌝ }
+{
+    let row = b.y + spot / 64 - 16;
+    let column = b.x + spot % 64 - 16;
+    distortion::block_up_to(older, newer, b.setting, b.y, b.x, row, column, ceiling)
+}
+
+// E lowered to the distortion of the candidate on a spot, if that is less: measured with E as ceiling.
+pub fn lowered(older: &[u8], newer: &[u8], b: SearchBlock, spot: usize, e: u32) -> u32
+    requires { ⌜ Ready (now older) (now newer) b × SpotIn b spot ⌝ }
+    ensures { λ r. ⌜ r ≡ min e (distortionTo (now (older .entry)) (now (newer .entry)) b (vectorOn spot)) ⌝ }
+{
+    let Capped::Within(d) = measured(older, newer, b, spot, e) else {
+        return e;
+    };
+    d
+}
+
+// The lesser of a key and that of a listed candidate by its distortion, which is measured as far as the least so far goes.
+fn lesser_measured(older: &[u8], newer: &[u8], b: SearchBlock, key: u64, best: u64) -> u64
+    requires { ⌜ Ready (now older) (now newer) b × SpotIn b (spotOf key) × (best < 1125899906842624) ⌝ }
+    ensures { λ r. ⌜ r ≡ min best (measuredKey (distortionTo (now (older .entry)) (now (newer .entry)) b) key) ⌝ }
+{
+    let ceiling = (best / 262144) as u32;
+    let Capped::Within(d) = measured(older, newer, b, spot_of(key), ceiling) else {
+        return best;
+    };
+    let k = renewed(key, d as u64);
+    if k < best {
+        return k;
+    }
+    best
+}
+
+// Of the listed, the key of the least distortion, equals by the preference order. It begins with 2^50 - 1, which is more than any such key.
+pub fn choose(older: &[u8], newer: &[u8], b: SearchBlock, keys: &[u64], count: usize) -> u64
+    requires { ⌜ Ready (now older) (now newer) b × (0 < count) × (count ≤ length (now keys)) × SpotsIn b (now keys) count ⌝ }
+    ensures { λ r. ⌜ (r ≡ leastMeasured (distortionTo (now (older .entry)) (now (newer .entry)) b) (now (keys .entry)) count) × (r < 1125899906842624) ⌝ }
+{
+    let mut best: u64 = 1125899906842623;
+    let mut i: usize = 0;
+    while i < count {
+        best = lesser_measured(older, newer, b, keys[i], best);
+        i += 1;
+    }
+    best
 }
