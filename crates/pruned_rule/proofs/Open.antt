@@ -4,21 +4,23 @@
 --   open-first   after the test at N
 --   open-more    one turn: E is lowered to the distortion of the nearest of all at m, and those of all within its limit are counted
 --   open-last    after the turn at 2: what is known of the search's end, Closed
+--   all-last     where E is 0 and all are within the limit at each resolution: all remain to the end
 --   open-left    those that remain: so they can be listed after any turn; open-some, open-few: at least one, at most all
 --   open-tested  how many counts are still to come; open-divides: at resolutions that divide N
-use Prim.Native.Nat.{ℕ, _+_, _-_, _/_, _≤_, _<_, _∣_, min}
+use Prim.Native.Nat.{ℕ, zero, suc, _+_, _-_, _/_, _^_, _≤_, _<_, _∣_, min}
 use mathlib.Core.Path.{_≡_, refl, sym, ap, _∙_}
-use mathlib.Core.List.{List, [], _∷_, _++_, List·Memᴰ·tail}
-use native.Mathlib.Nat.{dvd-refl, dvd-trans}
+use mathlib.Core.List.{List, [], _∷_, _++_, append-nil, List·Memᴰ·tail}
+use native.Mathlib.Nat.{dvd-refl, dvd-trans, pow-suc, one-le-pow}
 use native.Mathlib.Omega.{arith}
 use lib.ListN.{length, replicate}
+use lib.Seq.{append-snoc}
 use Rattle.base.specs.Least.{_∈_, leastOf, leastOf-unique}
 use Rattle.frame.specs.Pictures.{countNumber}
 use Rattle.pruned_rule.specs.Sift.{kept}
 use Rattle.pruned_rule.specs.Prune.{Pruning, allRemaining, lower, sift, rounds, prune, counts, halvings, resolutions}
 use Rattle.pruned_rule.proofs.Counts.{Counted, counted-length, all-remaining-counted, lower-counted, sift-counted, tested-rounds}
 use Rattle.pruned_rule.proofs.Pruned.{Attained, Holds, Safe, holds-some, all-remaining-holds, lower-holds, sift-holds}
-use Rattle.pruned_rule.proofs.Search.{PowerOfTwo, resolutions-divide, rounds-more, rounds-none}
+use Rattle.pruned_rule.proofs.Search.{PowerOfTwo, resolutions-divide, half-pow, halvings-more, halvings-none, rounds-more, rounds-none}
 use Rattle.pruned_rule.proofs.Nested.{Nests, Within, Along, start-within, round-within, lower-of-all, along-first, along-more, along-last}
 
 -- E began as `first`
@@ -126,3 +128,25 @@ module _ {first : ℕ} {D : ℕ → ℕ} {d limit : ℕ → ℕ → ℕ} {N : �
         all-counts = rw (o .tested, o .many);
         best = leastOf-unique (o .holds .best);
       })
+
+-- where E is 0 and all candidates are within the limit at each resolution, none is dropped
+module _ {D : ℕ → ℕ} {d limit : ℕ → ℕ → ℕ} {N : ℕ} {ks : List ℕ} where
+  all-on : (j : ℕ) {k m count : ℕ} {t : List ℕ} → k ≡ 2 ^ suc j → Open 0 D d limit N ks k m 0 count t
+      → ((i : ℕ) → i ∣ N → Safe D d limit i) → ((i j : ℕ) → i ∣ j → j ∣ N → Nests d limit i j)
+      → ((i : ℕ) → i ∣ N → length (kept (d i) (limit i 0) ks) ≡ count)
+      → Closed D d limit ks 0 count (t ++ replicate (length (halvings m)) count) (prune 0 D d limit N (resolutions N) ks)
+  all-on zero {k} {m} q o safe nests all =
+      let last : m < 2 = omega (arith, o .along .1) in
+      rw (halvings-none m last, append-nil) (open-last o last)
+  all-on (suc j) {k} {m} {count} {t} q o safe nests all =
+      let half : m ≡ 2 ^ suc j = o .along .1 ∙ ap (λ (x : ℕ). x / 2) q ∙ half-pow (suc j) in
+      let two : 2 ≤ m = omega (arith, pow-suc 2 j, one-le-pow j 2 (omega arith)) in
+      let divides = dvd-trans m (along-more two (o .along) .0) (o .divides) in
+      rw (halvings-more m two, ← append-snoc t count (replicate (length (halvings (m / 2))) count))
+      (all-on j half (open-more o safe nests two 0 (omega arith) count (sym (all m divides))) safe nests all)
+
+  pub all-last : {k m count : ℕ} {t : List ℕ} → Open 0 D d limit N ks k m 0 count t
+      → ((i : ℕ) → i ∣ N → Safe D d limit i) → ((i j : ℕ) → i ∣ j → j ∣ N → Nests d limit i j)
+      → ((i : ℕ) → i ∣ N → length (kept (d i) (limit i 0) ks) ≡ count)
+      → Closed D d limit ks 0 count (t ++ replicate (length (halvings m)) count) (prune 0 D d limit N (resolutions N) ks)
+  all-last o = all-on (o .along .0 .0) (o .along .0 .1) o

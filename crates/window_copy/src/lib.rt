@@ -1,11 +1,12 @@
 // Rows of a frame copied into an array: a block's search window, or the block itself, 64 places to a row. A copy is read faster than its frame where it
-// is measured many times.
+// is measured many times. And whether such rows have one grey.
 
 ghost use mathlib.Core.Path.{_≡_};
-ghost use Prim.Native.Nat.{_+_, _*_, _≤_};
+ghost use Prim.Native.Nat.{_+_, _*_, _≤_, _<_};
 ghost use lib.ListN.{length, getD};
 ghost use Rattle.base.specs.Lists.{fillTo};
 ghost use Rattle.window_copy.specs.Copy.{copiedRows, copyUpTo};
+ghost use Rattle.window_copy.specs.Grey.{greyRow, oneGrey};
 
 // The places of a copy's row: a search window has N + 2 × 16 columns at most.
 pub const ROW: usize = 64;
@@ -70,4 +71,37 @@ pub fn copy_sum(window: &[u8], block: &[u8], at: usize, ceiling: u32) -> u32
         g += 1;
     }
     sum
+}
+
+// Whether so many pels from place `from` on have this grey: those that have not are counted, which takes no branch.
+fn grey_row(frame: &[u8], from: usize, columns: usize, grey: u8) -> bool
+    requires { ⌜ (from + columns ≤ length (now frame)) × (columns ≤ 64) ⌝ }
+    ensures { λ r. ⌜ r ≡ greyRow (now (frame .entry)) from columns grey ⌝ }
+{
+    let mut others: u8 = 0;
+    let mut j: usize = 0;
+    while j < columns {
+        others += if frame[from + j] == grey { 0 } else { 1 };
+        j += 1;
+    }
+    others == 0
+}
+
+// Whether so many rows of a frame, from place `from` on, have one grey.
+pub fn one_grey(frame: &[u8], width: usize, from: usize, rows: usize, columns: usize) -> bool
+    requires { ⌜ (0 < rows) × (0 < columns) × (from + rows * width + columns ≤ length (now frame) + width)
+        × (width ≤ 1024) × (rows ≤ 64) × (columns ≤ 64) ⌝ }
+    ensures { λ r. ⌜ r ≡ oneGrey (now (frame .entry)) width from rows columns ⌝ }
+{
+    let grey = frame[from];
+    let mut at = from;
+    let mut row: usize = 0;
+    while row < rows {
+        if !grey_row(frame, at, columns, grey) {
+            return false;
+        }
+        at += width;
+        row += 1;
+    }
+    true
 }
