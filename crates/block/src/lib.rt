@@ -1,11 +1,7 @@
 // The single-block call: refusals 1 to 7 and 51, then the requested search, of a block at any pel row and column.
 
 ghost use mathlib.Core.Path.{_≡_};
-ghost use Rattle.order.specs.Preference.{preference, flat};
-ghost use Rattle.frame.specs.Pictures.{pairOf};
 ghost use Rattle.search.specs.SearchResult.{refusedSearch};
-ghost use Rattle.search.specs.Target.{Ready};
-ghost use Rattle.pruned.specs.Answer.{prunedSearch};
 ghost use Rattle.block.specs.Block.{searchRefusal, searchBlock};
 use frame::SearchBlock;
 use refusals::Request;
@@ -38,23 +34,6 @@ fn refused_search(refusal: u32) -> SearchResult
     }
 }
 
-// Search 2 of a block by itself: the sums of the older squares come from a table of its search window alone.
-fn pruned_alone(
-    older: &[u8],
-    newer: &[u8],
-    order: &[i32; order::NUMBERS],
-    b: SearchBlock,
-) -> SearchResult
-    requires { ⌜ Ready (now older) (now newer) b × (now order ≡ flat preference) ⌝ }
-    ensures { λ r. ⌜ r ≡ prunedSearch (pairOf (now (older .entry)) (now (newer .entry)) (b .setting)) (b .w) (b .y) (b .x) ⌝ }
-{
-    let s = b.setting;
-    let a = pruned_region::search_window(b);
-    let mut table = [0u32; pruned_sums::WINDOW_TABLE];
-    pruned_sums::fill_sums(older, s.width, a, &mut table);
-    pruned::search(older, newer, order, b, &table, a)
-}
-
 // Searches the block at row y, column x.
 pub fn search_block(older: &[u8], newer: &[u8], q: Request, y: usize, x: usize) -> SearchResult
     ensures { λ r. ⌜ r ≡ searchBlock (now (older .entry)) (now (newer .entry)) q y x ⌝ }
@@ -76,8 +55,7 @@ pub fn search_block(older: &[u8], newer: &[u8], q: Request, y: usize, x: usize) 
         return cross::search(older, newer, b, q.t);
     }
     if q.search == 2 {
-        let order = order::table();
-        return pruned_alone(older, newer, &order, b);
+        return pruned::search(older, newer, b);
     }
     full::search(older, newer, b)
 }

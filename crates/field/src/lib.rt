@@ -3,17 +3,18 @@
 ghost use mathlib.Core.Path.{_≡_};
 ghost use Prim.Native.Nat.{_≤_};
 ghost use lib.ListN.{length, replicate};
-ghost use Rattle.order.specs.Preference.{preference, flat};
 ghost use Rattle.order.specs.Vectors.{vectorCount};
 ghost use Rattle.frame.specs.Pictures.{pairOf};
 ghost use Rattle.frame.specs.Grid.{blocks};
-ghost use Rattle.refusals.specs.Refusals.{settingOf};
+ghost use Rattle.refusals.specs.Refusals.{requestRefusal, settingOf};
+ghost use Rattle.pruned_sums.specs.Filling.{wholeFrame};
 ghost use Rattle.voter.specs.Voter.{voting};
 ghost use Rattle.field_rules.specs.Rules.{listSize, HasRoom};
-ghost use Rattle.field_block.specs.Blocks.{searchAt, Prepared};
+ghost use Rattle.field_block.specs.Blocks.{searchAt};
 ghost use Rattle.field.specs.Field.{refusedField, filledTable, fieldResult, acceptedField, field};
 ghost use Rattle.field.specs.Filling.{Summable, BlocksFilled};
 use field_block::Total;
+use frame::Region;
 use order::Vector;
 use refusals::Request;
 
@@ -43,13 +44,25 @@ pub fn refused_field(refusal: u32) -> FieldAnswer
     }
 }
 
+// The whole of the older frame, which the table is of.
+fn whole_frame(q: Request) -> Region
+    ensures { λ r. ⌜ r ≡ wholeFrame (settingOf q) ⌝ }
+{
+    Region {
+        top: 0,
+        left: 0,
+        rows: q.height,
+        columns: q.width,
+    }
+}
+
 // The table of sums, which search 2 alone fills.
 fn fill_table(older: &[u8], q: Request, table: &mut [u32])
     requires { ⌜ Summable (length (now older)) q (length (now table)) ⌝ }
     ensures { λ _. ⌜ now (table .exit) ≡ filledTable (now (older .entry)) q (now (table .entry)) ⌝ }
 {
     if q.search == 2 {
-        pruned_sums::fill_sums(older, q.width, field_block::whole_frame(q), table);
+        pruned_sums::fill_sums(older, q.width, whole_frame(q), table);
     }
 }
 
@@ -57,13 +70,11 @@ fn fill_table(older: &[u8], q: Request, table: &mut [u32])
 fn fill_list(
     older: &[u8],
     newer: &[u8],
-    order: &[i32; order::NUMBERS],
     q: Request,
-    table: &[u32],
     list: &mut [i32],
     votes: &mut [u32; order::VECTORS],
 ) -> Total
-    requires { ⌜ Prepared (now older) (now newer) q (now table) × (now order ≡ flat preference) ⌝ }
+    requires { ⌜ requestRefusal (length (now older)) (length (now newer)) q ≡ 0 ⌝ }
     requires { ⌜ (listSize (settingOf q) ≤ length (now list)) × (now votes ≡ replicate vectorCount 0) ⌝ }
     ensures { λ r. ⌜ (let p = pairOf (now (older .entry)) (now (newer .entry)) (settingOf q) in
         BlocksFilled (voting p) (searchAt p q) (blocks (settingOf q)) (now (list .entry)) (now (list .exit)) (now (votes .exit)) r) ⌝ }
@@ -77,7 +88,7 @@ fn fill_list(
     };
     let mut k: usize = 0;
     while k < n {
-        let f = field_block::search_at(older, newer, order, q, table, k);
+        let f = field_block::search_at(older, newer, q, k);
         put::put_entry(list, 3 * k, f.dy, f.dx, f.distortion);
         let v = Vector { dy: f.dy, dx: f.dx };
         let voting = voter::is_voter_at(newer, s, k);
@@ -94,10 +105,10 @@ fn fill(older: &[u8], newer: &[u8], q: Request, list: &mut [i32], table: &mut [u
     ensures { λ r. ⌜ fieldResult r (now (list .exit)) (now (table .exit))
         ≡ acceptedField (now (older .entry)) (now (newer .entry)) q (now (list .entry)) (now (table .entry)) ⌝ }
 {
-    let order = order::table();
     fill_table(older, q, table);
     let mut votes = [0u32; order::VECTORS];
-    let total = fill_list(older, newer, &order, q, &*table, list, &mut votes);
+    let total = fill_list(older, newer, q, list, &mut votes);
+    let order = order::table();
     let r = reading::reading_of(&order, &votes);
     let counts = total.counts;
     FieldAnswer {

@@ -1,6 +1,5 @@
 -- A field's grid blocks, one by one.
 --   searchAt    what the requested search answers at grid block k; vectorOf: its vector
---   Prepared    what a block's search asks: frames, request, and for search 2 the table of sums
 --   Sound       what holds of each block's result, whatever the search: a vector of window 16, and numbers that are small
 --   join        the sums with one block more, a voter or not; Bounded: small enough for that
 use Prim.Native.Nat.{ℕ, _+_, _*_, _≤_}
@@ -16,11 +15,8 @@ use Rattle.measures.specs.Measures.{squares}
 use Rattle.frame.specs.Pictures.{Pair, largestN, countNumber}
 use Rattle.frame.specs.Grid.{blockRow, blockColumn}
 use Rattle.refusals.specs.declared.Request.{Request}
-use Rattle.refusals.specs.Refusals.{requestRefusal}
-use Rattle.distortion.specs.Blocks.{blockAt}
 use Rattle.search.specs.declared.SearchResult.{SearchResult}
 use Rattle.search.specs.SearchResult.{vectorIn}
-use Rattle.pruned_sums.specs.Area.{SumsOf}
 use Rattle.block.specs.Block.{searchBy}
 use Rattle.field_block.specs.declared.Total.{Total}
 
@@ -30,10 +26,6 @@ module _ (p : Pair) (q : Request) where
 
   abbrev pub vectorOf : ℕ → Vector
   vectorOf k = vectorIn (searchAt k)
-
-pub record Prepared (older newer : List ℕ) (q : Request) (table : List ℕ) : Type 0 where
-  pub fine : requestRefusal (length older) (length newer) q ≡ 0
-  pub sums : q .search ≡ 2 → SumsOf (blockAt older (q .width) 0 0) (q .height) (q .width) table
 
 pub record Sound (f : SearchResult) : Type 0 where
   pub within : Within 16 (vectorIn f)

@@ -2,14 +2,11 @@
 
 ghost use mathlib.Core.Path.{_≡_};
 ghost use Prim.Native.Nat.{_<_};
-ghost use Rattle.order.specs.Preference.{preference, flat};
+ghost use lib.ListN.{length};
 ghost use Rattle.frame.specs.Pictures.{pairOf};
 ghost use Rattle.frame.specs.Grid.{blocks};
-ghost use Rattle.refusals.specs.Refusals.{settingOf};
-ghost use Rattle.pruned_region.specs.Reach.{wholeFrame};
-ghost use Rattle.field_block.specs.Blocks.{searchAt, Prepared, Sound, join, Bounded};
-use frame::Region;
-use frame::SearchBlock;
+ghost use Rattle.refusals.specs.Refusals.{requestRefusal, settingOf};
+ghost use Rattle.field_block.specs.Blocks.{searchAt, Sound, join, Bounded};
 use refusals::Request;
 use search::SearchResult;
 
@@ -20,42 +17,14 @@ pub struct Total {
     pub voters: u32,
 }
 
-// The whole of the older frame, which the table is of.
-pub fn whole_frame(q: Request) -> Region
-    ensures { λ r. ⌜ r ≡ wholeFrame (settingOf q) ⌝ }
-{
-    Region {
-        top: 0,
-        left: 0,
-        rows: q.height,
-        columns: q.width,
-    }
-}
-
 // What the requested search answers at grid block k.
-pub fn search_at(
-    older: &[u8],
-    newer: &[u8],
-    order: &[i32; order::NUMBERS],
-    q: Request,
-    table: &[u32],
-    k: usize,
-) -> SearchResult
-    requires { ⌜ Prepared (now older) (now newer) q (now table) × (now order ≡ flat preference) × (k < blocks (settingOf q)) ⌝ }
+pub fn search_at(older: &[u8], newer: &[u8], q: Request, k: usize) -> SearchResult
+    requires { ⌜ (requestRefusal (length (now older)) (length (now newer)) q ≡ 0) × (k < blocks (settingOf q)) ⌝ }
     ensures { λ r. ⌜ (r ≡ searchAt (pairOf (now (older .entry)) (now (newer .entry)) (settingOf q)) q k) × Sound r ⌝ }
 {
     let s = refusals::setting_of(q);
     let y = frame::block_row(s, k);
     let x = frame::block_column(s, k);
-    if q.search == 2 {
-        let b = SearchBlock {
-            setting: s,
-            w: q.w,
-            y,
-            x,
-        };
-        return pruned::search(older, newer, order, b, table, whole_frame(q));
-    }
     block::search_block(older, newer, q, y, x)
 }
 

@@ -19,8 +19,7 @@ use Rattle.pruned_rule.proofs.Blocks.{measure-lawful}
 use Rattle.pruned_rule.proofs.Counts.{Counted, prune-counted, search-counts, counts-few, dropped-few, last-count}
 use Rattle.pruned_rule.proofs.Pruned.{Attained, still-attained, Holds, prune-holds}
 use Rattle.pruned_rule.proofs.Search.{PowerOfTwo, resolutions-divide, search-best, search-drops}
-use Rattle.pruned_steps.specs.Memory.{stillDistortion}
-use Rattle.pruned.specs.Answer.{placeDistortion, pruning, prunedPlace, prunedSearch}
+use Rattle.pruned.specs.Answer.{stillDistortion, placeDistortion, pruning, prunedPlace, prunedSearch}
 use Rattle.pruned.proofs.Blocks.{few-rounds, safe-at}
 
 -- whatever the block is
@@ -59,13 +58,13 @@ module _ (p : Pair) (w y x : ℕ) (power : PowerOfTwo (p .setting .n)) (small : 
   still-is : placeDistortion p y x 0 ≡ stillDistortion p y x
   still-is = ap (distortion p y x) first-still
 
-  given : Attained (placeDistortion p y x) (places (p .setting) w y x) (stillDistortion p y x)
-  given = still-attained (placeDistortion p y x) _ 1088 (stillDistortion p y x) (still-passes p w y x small down across) still-is
+  pub still-given : Attained (placeDistortion p y x) (places (p .setting) w y x) (stillDistortion p y x)
+  still-given = still-attained (placeDistortion p y x) _ 1088 (stillDistortion p y x) (still-passes p w y x small down across) still-is
 
   -- what holds of the candidates left and those dropped
   pub pruned-holds : Holds (placeDistortion p y x) (places (p .setting) w y x) (pruning p w y x)
   unfolding pruning
-  pruned-holds = prune-holds _ _ _ _ _ _ _ given (λ m i. safe-at p y x m (resolutions-divide (p .setting .n) power m i))
+  pruned-holds = prune-holds _ _ _ _ _ _ _ still-given (λ m i. safe-at p y x m (resolutions-divide (p .setting .n) power m i))
 
   -- the answer is the exhaustive best
   pub pruned-best : Best p w y x (vectorIn (prunedSearch p w y x))
@@ -85,7 +84,7 @@ module _ (p : Pair) (w y x : ℕ) (power : PowerOfTwo (p .setting .n)) (small : 
   unfolding prunedSearch prunedPlace pruning distortion
   pruned-drops i =
       search-drops (measureIn p) (measure-lawful (p .setting .measure)) (p .setting .n) (newerBlock p y x) (λ k. olderBlock p y x (preferred k))
-      (resolutions (p .setting .n)) (places (p .setting) w y x) (stillDistortion p y x) given (resolutions-divide (p .setting .n) power) i
+      (resolutions (p .setting .n)) (places (p .setting) w y x) (stillDistortion p y x) still-given (resolutions-divide (p .setting .n) power) i
 
 -- the N that are allowed
 module _ (p : Pair) (w y x : ℕ) (allowed : T (blockSizeOk (p .setting .n))) where

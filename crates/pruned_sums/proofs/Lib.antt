@@ -1,3 +1,2 @@
 pub mod Row
 pub mod Rows
-pub mod Squares

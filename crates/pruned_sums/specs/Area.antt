@@ -3,12 +3,11 @@
 --   area     the sum of the pels in rows before r and columns before c
 --   sumsTo   the first n rows of the table
 --   summed   the whole table
---   SumsOf   what a list that begins with the table has at each place
 use Prim.Native.Nat.{ℕ, _+_, _*_, _≤_, _<_}
 use mathlib.Core.Path.{_≡_}
 use mathlib.Core.List.{List, _++_}
 use native.Mathlib.Omega.{arith}
-use lib.ListN.{length, getD, length-append}
+use lib.ListN.{length, getD}
 use Rattle.base.specs.Sum.{sumOver}
 use Rattle.base.specs.Lists.{listTo, concatTo, length-listTo, length-concatTo}
 use Rattle.base.specs.Rows.{in-rows-at}
@@ -27,21 +26,9 @@ sumsTo g columns n = concatTo (λ r. sumsRow g columns r) n
 unfoldable pub summed : Block → ℕ → ℕ → List ℕ
 summed g rows columns = sumsTo g columns (rows + 1)
 
-pub record SumsOf (g : Block) (rows columns : ℕ) (table : List ℕ) : Type 0 where
-  pub long : (rows + 1) * (columns + 1) ≤ length table
-  pub at : (r c : ℕ) → r ≤ rows → c ≤ columns → getD table (r * (columns + 1) + c) 0 ≡ area g r c
-
 module _ (g : Block) (columns : ℕ) where
   pub length-sums : (n : ℕ) → length (sumsTo g columns n) ≡ n * (columns + 1)
   length-sums n = length-concatTo _ (columns + 1) (λ r. length-listTo _ (columns + 1)) n
 
   pub sums-at : (n r c : ℕ) (d : List ℕ) → r < n → c ≤ columns → getD (sumsTo g columns n ++ d) (r * (columns + 1) + c) 0 ≡ area g r c
   sums-at n r c d h l = in-rows-at (area g) (columns + 1) n r c d h (omega arith)
-
--- a list that begins with the table
-pub sums-of : (g : Block) (rows columns : ℕ) (d table : List ℕ) → table ≡ summed g rows columns ++ d → SumsOf g rows columns table
-unfolding summed
-sums-of g rows columns d table e = record {
-  long = rw (e, length-append, length-sums) (omega arith);
-  at = λ r c hr hc. rw e (sums-at g columns (rows + 1) r c d (omega arith) hc);
-}

@@ -1,19 +1,16 @@
 -- How the summed-area table is filled: a first row of zeros, then row by row from the one above.
---   blockTable   how long the table of a block of the largest N is; windowTable: that of its search window, 16 pels more on each side
+--   wholeFrame   all of a frame
 --   Fillable     the part of the frame lies in it, and the table has room
 --   nextRow      entry c of the row that is made from the one above and the pels of a row
 use Prim.Native.Nat.{ℕ, _+_, _*_, _≤_}
 use mathlib.Core.List.{List}
 use lib.ListN.{length, getD}
 use Rattle.base.specs.Sum.{sumTo}
-use Rattle.frame.specs.Pictures.{largestN}
+use Rattle.frame.specs.declared.Setting.{Setting}
 use Rattle.frame.specs.declared.Region.{Region}
 
-abbrev pub blockTable : ℕ
-blockTable = (largestN + 1) * (largestN + 1)
-
-abbrev pub windowTable : ℕ
-windowTable = (largestN + 32 + 1) * (largestN + 32 + 1)
+abbrev pub wholeFrame : Setting → Region
+wholeFrame s = record { top = 0; left = 0; rows = s .height; columns = s .width }
 
 pub record Fillable (frame : List ℕ) (width : ℕ) (a : Region) (room : ℕ) : Type 0 where
   pub across : a .left + a .columns ≤ width

@@ -1,3 +1,2 @@
 pub mod Area
-pub mod Square
 pub mod Filling

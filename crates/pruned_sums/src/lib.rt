@@ -1,4 +1,4 @@
-// The summed-area table of a part of a frame, and the sum of a square of pels by four look-ups in it.
+// The summed-area table of a part of a frame.
 
 ghost use mathlib.Core.Path.{_≡_};
 ghost use mathlib.Core.List.{_++_};
@@ -7,14 +7,8 @@ ghost use lib.ListN.{length, getD, drop};
 ghost use Rattle.base.specs.Lists.{fillTo};
 ghost use Rattle.distortion.specs.Blocks.{blockAt};
 ghost use Rattle.pruned_sums.specs.Area.{summed};
-ghost use Rattle.pruned_sums.specs.Square.{largestSquareSum, squareSumAt, HasSquare, IsSquare};
 ghost use Rattle.pruned_sums.specs.Filling.{nextRow, Fillable};
 use frame::Region;
-
-// The lengths of the summed-area tables of a block of the largest N, and of its search window.
-pub const BLOCK_TABLE: usize = (frame::LARGEST_N + 1) * (frame::LARGEST_N + 1);
-
-pub const WINDOW_TABLE: usize = (frame::LARGEST_N + 32 + 1) * (frame::LARGEST_N + 32 + 1);
 
 // The first n places are 0.
 fn clear(table: &mut [u32], n: usize)
@@ -67,14 +61,4 @@ pub fn fill_sums(frame: &[u8], width: usize, a: Region, table: &mut [u32])
         here = next;
         r += 1;
     }
-}
-
-// The sum of the square at place `at` of the table, by four look-ups; its lower edge stands `rowoffset` places behind its upper one.
-pub fn square_sum_at(sums: &[u32], rowoffset: usize, m: usize, at: usize) -> u32
-    requires { ⌜ HasSquare (now sums) rowoffset m at ⌝ }
-    ensures { λ r. ⌜ (r ≡ squareSumAt (now (sums .entry)) rowoffset m at) × (r ≤ largestSquareSum m) × IsSquare (now (sums .entry)) rowoffset m at r ⌝ }
-{
-    let right = sums[at + rowoffset + m] - sums[at + m];
-    let beside = sums[at + rowoffset] - sums[at];
-    right - beside
 }

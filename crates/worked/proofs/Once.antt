@@ -31,8 +31,7 @@ use Rattle.four_step.specs.FourStep.{fourStep}
 use Rattle.cross.specs.Cross.{cross}
 use Rattle.pruned_rule.specs.Prune.{Pruning, prune, prunedBest, counts, resolutions}
 use Rattle.full.specs.Full.{fullSearch}
-use Rattle.pruned_steps.specs.Memory.{stillDistortion}
-use Rattle.pruned.specs.Answer.{placeDistortion, placeDistance, pruning, prunedPlace, prunedSearch}
+use Rattle.pruned.specs.Answer.{stillDistortion, placeDistortion, placeDistance, pruning, prunedPlace, prunedSearch}
 use Rattle.block.specs.Block.{searchRefusal, searchBy, searchBlock}
 use Rattle.voter.specs.Voter.{voting}
 use Rattle.reading.specs.Reading.{voters, votes, majority}

@@ -67,20 +67,17 @@ returns-3 c =
     let z = c .before .before .before .before .before in
     (rw (z .setting-of .ensures) at (c .search2 .ensures)) ∙ sym (accepted z ∙ searched-cross _ _ _ _ (c .before .if3 .taken))
 
-table-requires : tie.Need-table-requires
-table-requires c κs = search needs
-
-pruned-alone-requires : tie.Need-pruned-alone-requires
-pruned-alone-requires c κs = (ready (sized (c .before .before .before)), c .before .table .ensures)
+search-requires-3 : tie.Need-search-requires-3
+search-requires-3 c κs = ready (sized (c .before))
 
 returns-4 : tie.Need-returns-4
 returns-4 c =
-    let t = c .before .before .before in
-    let z = sized (t .before) in
-    (rw (z .setting-of .ensures) at (c .pruned-alone .ensures)) ∙ sym (accepted z ∙ searched-pruned _ _ _ _ (t .if4 .taken))
+    let d = c .before in
+    let z = sized (d .before) in
+    (rw (z .setting-of .ensures) at (c .search3 .ensures)) ∙ sym (accepted z ∙ searched-pruned _ _ _ _ (d .if4 .taken))
 
-search-requires-3 : tie.Need-search-requires-3
-search-requires-3 c κs = ready (sized (c .before))
+search-requires-4 : tie.Need-search-requires-4
+search-requires-4 c κs = ready (sized (c .before))
 
 returns-5 : tie.Need-returns-5
 returns-5 c =
@@ -96,7 +93,7 @@ returns-5 c =
       d .before .before .if3 .left,
       d .before .before .before .before .if2 .left,
     ) in
-    (rw (z .setting-of .ensures) at (c .search3 .ensures)) ∙ sym (accepted z ∙ searched-full _ _ _ _ one)
+    (rw (z .setting-of .ensures) at (c .search4 .ensures)) ∙ sym (accepted z ∙ searched-full _ _ _ _ one)
 
 pub search-block-spec : {M : Type 1} → statement M
 search-block-spec =
@@ -110,8 +107,7 @@ search-block-spec =
     returns-2
     search-requires-2
     returns-3
-    table-requires
-    pruned-alone-requires
-    returns-4
     search-requires-3
+    returns-4
+    search-requires-4
     returns-5)

@@ -21,16 +21,16 @@ use Rattle.field.proofs.fill_list.Statement.{statement}
 use Rattle.field.proofs.fill_list.Tie as tie
 
 abbrev Inv-loop : tie.InvT-loop
-Inv-loop older newer order q table list₀ votes₀ s n total₀ k₀ list votes total k =
+Inv-loop older newer q list₀ votes₀ s n total₀ k₀ list votes total k =
     let p = pairOf older newer (settingOf q) in
     (k ≤ n) × (n ≡ blocks (settingOf q)) × BlocksFilled (voting p) (searchAt p q) k list₀ list votes total
 
 abbrev μ-loop : tie.MeasureT-loop
-μ-loop older newer order q table list₀ votes₀ s n total₀ k₀ list votes total k = n - k
+μ-loop older newer q list₀ votes₀ s n total₀ k₀ list votes total k = n - k
 
 -- the points that the facts below come from
 abbrev start : tie.At-loop Inv-loop μ-loop → tie.Start Inv-loop μ-loop
-start l = let z = l .before .before in z .before .before .before .before
+start l = let z = l .before .before in z .before .before .before
 
 abbrev put : tie.After-is-voter-at Inv-loop μ-loop → tie.After-put-entry Inv-loop μ-loop
 put c = c .before .before .before
@@ -39,21 +39,21 @@ abbrev found : tie.After-put-entry Inv-loop μ-loop → tie.After-search-at Inv-
 found c = c .before .before .before .before
 
 fitting : (s : tie.Start Inv-loop μ-loop) → Fitting (settingOf (s .args .q))
-fitting s = requested _ _ _ (s .pre .0 .0 .fine) .paired .fitting
+fitting s = requested _ _ _ (s .pre .0) .paired .fitting
 
 setting-of-requires : tie.Need-setting-of-requires Inv-loop μ-loop
 setting-of-requires c κs = search needs
 
 block-count-requires : tie.Need-block-count-requires Inv-loop μ-loop
-block-count-requires c κs = rw (c .setting-of .ensures) (fitting (c .before .before .before .before))
+block-count-requires c κs = rw (c .setting-of .ensures) (fitting (c .before .before .before))
 
 loop-holds : tie.Need-loop-holds Inv-loop μ-loop
 loop-holds c =
-    let s = c .before .before .before .before .before in
+    let s = c .before .before .before .before in
     (omega arith, c .block-count .ensures ∙ ap blocks (c .before .setting-of .ensures), filled-first _ _ _ _ (s .pre .1 .1))
 
 search-at-requires : tie.Need-search-at-requires Inv-loop μ-loop
-search-at-requires c κs = let s = start (c .before) in (s .pre .0 .0, s .pre .0 .1, omega (arith, c .before .loop .inv .1))
+search-at-requires c κs = (start (c .before) .pre .0, omega (arith, c .before .loop .inv .1))
 
 -- a turn stores inside the list, and there are not too many
 room : (c : tie.After-search-at Inv-loop μ-loop) → let k = c .before .before .loop .k in
@@ -84,7 +84,7 @@ is-voter-at-requires c κs =
     let d = found (c .before .before) in
     let l = d .before .before in
     let s = start l in
-    let q = requested _ _ _ (s .pre .0 .0 .fine) .paired in
+    let q = requested _ _ _ (s .pre .0) .paired in
     rw (l .before .before .setting-of .ensures)
     (record { fitting = q .fitting; allowed = q .allowed; whole = q .newer-whole }, omega (arith, l .loop .inv .1))
 

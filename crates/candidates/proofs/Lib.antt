@@ -1,5 +1,0 @@
-pub mod Interior
-pub mod Listing
-pub mod Gathering
-pub mod Older
-pub mod Choosing
