@@ -1,5 +1,6 @@
 -- The loop over the resolutions.
 --   Turning          before a turn at m, or after the last: where the search stands, and that m is the next resolution, or 1 where one candidate remains
+--   next-either      the next resolution is half of m, or one candidate remains
 --   turning-first    after the test at N; turning-more: after a turn
 --   turning-search   what a turn asks for; turning-facing: and what it finds in memory; turning-slot: its count has a place
 --   turning-few      at most all candidates remain
@@ -10,7 +11,9 @@ use mathlib.Core.Logic.{_⊎_, ⊎-elim, inl, inr}
 use mathlib.Core.List.{List, [], _∷_, _++_}
 use native.Mathlib.Nat.{not-suc-le-zero, le-of-suc-le-suc}
 use native.Mathlib.Numerals.{add-one}
+use native.Mathlib.Decide.{ℕ-discrete}
 use native.Mathlib.Omega.{arith}
+use borrow.Author.Tests.{eq-eqb, ne-eqb}
 use lib.ListN.{length, take, set, replicate, length-set}
 use lib.Seq.{take-suc-set}
 use Rattle.frame.specs.Pictures.{pairOf, countNumber, lastCount}
@@ -28,7 +31,7 @@ use Rattle.pruned_rule.proofs.Open.{open-some, open-few}
 use Rattle.pruned_list.specs.Listed.{distortionTo}
 use Rattle.pruned.specs.declared.Remaining.{Remaining}
 use Rattle.pruned.specs.Answer.{stillDistortion, prunedSearch}
-use Rattle.pruned.specs.Flow.{few, firstSlot, Held, Facing, Leveled, Search, Closing}
+use Rattle.pruned.specs.Flow.{few, nextOf, firstSlot, Held, Facing, Leveled, Search, Closing}
 use Rattle.pruned.proofs.Flow.{Slots, Going, coarser, going-first, going-facing, going-more, going-among, going-chosen, ended-is}
 use Rattle.pruned.proofs.Levels.{reach-room}
 use Rattle.pruned.proofs.Blocks.{few-rounds}
@@ -40,6 +43,15 @@ pub record Turning (older newer : List ℕ) (b : SearchBlock) (r : Region) (boxe
   pub stands : (m ≡ next) ⊎ ((m ≡ 1) × (q .count ≡ 1))
   pub room : few < length keys
   pub numbers-long : length numbers ≡ 2088
+
+-- the next resolution
+pub next-either : (m count r : ℕ) → r ≡ nextOf m count → (r ≡ m / 2) ⊎ ((r ≡ 1) × (count ≡ 1))
+unfolding nextOf
+next-either m count r e = go (ℕ-discrete count 1)
+  where
+    go : Dec (count ≡ 1) → (r ≡ m / 2) ⊎ ((r ≡ 1) × (count ≡ 1))
+    go (yes one) = inr (rw (eq-eqb count 1 one) at e, one)
+    go (no more) = inl (rw (ne-eqb count 1 more) at e)
 
 take-zeros : (z n : ℕ) → z ≤ n → take {A = ℕ} z (replicate n 0) ≡ replicate z 0
 take-zeros zero n h = refl

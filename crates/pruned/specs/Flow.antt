@@ -1,4 +1,5 @@
--- How search 2 goes without a list while many candidates remain: after the test at m those remain that are within the limit at m, of all candidates.
+-- 01, "The four searches", search 2, as the code goes: without a list while many candidates remain, for after the test at m those remain that are
+-- within the limit at m, of all candidates. That this is search 2 of pruned_rule/specs/Prune.antt: proofs/Flow.antt.
 -- Candidates are known by their spots (pruned_rule/specs/Spots.antt).
 --   distOf      the distance at m of a vector for a block; limitOf: how far a distance may go
 --   leftAt      the spots of the candidates within the limit at m for E
@@ -12,9 +13,10 @@
 --   Search      a block to be searched at m, with its boxes
 --   isBlank     the paper is blank; blankAnswer: the answer then
 --   Closing     at the end, or where one candidate remains
+--   nextOf      the resolution after m, with so many candidates: 1 where one remains
 --   firstSlot   where the count at N stands among the six: they end with that, those at the resolutions after N and the one at m = 1
 --   Roomy       so many keys are room for the list: for few, and for all candidates where distances at N have no 32 bits
-use Prim.Native.Nat.{ℕ, _+_, _-_, _*_, _^_, _≤_, _<_, min}
+use Prim.Native.Nat.{ℕ, _+_, _-_, _*_, _/_, _^_, _≤_, _<_, min}
 use mathlib.Core.Path.{_≡_}
 use mathlib.Core.Bool.{Bool, true, false, cond, _||_, _&&_}
 use mathlib.Core.List.{List, _++_}
@@ -70,6 +72,9 @@ few = 64
 
 abbrev pub byAll : Setting → ℕ → ℕ → Bool
 byAll s m count = ltb few count && fits s m
+
+unfoldable pub nextOf : ℕ → ℕ → ℕ
+nextOf m count = cond (eqb count 1) 1 (m / 2)
 
 abbrev pub firstSlot : ℕ → ℕ
 firstSlot n = countNumber - (length (resolutions n) + 2)

@@ -2,10 +2,9 @@
 // remains after m is just those whose distance at m is within the limit, so no list is needed; the few are listed and looked up one by one.
 
 ghost use mathlib.Core.Path.{_≡_};
-ghost use mathlib.Core.Logic.{_⊎_};
 ghost use mathlib.Core.Bool.{true};
 ghost use mathlib.Core.List.{_++_};
-ghost use Prim.Native.Nat.{ℕ, _+_, _-_, _*_, _/_, _%_, _≤_, _<_, min};
+ghost use Prim.Native.Nat.{ℕ, _+_, _-_, _*_, _≤_, _<_, min};
 ghost use lib.Dec.{T};
 ghost use lib.ListN.{length, getD, take, replicate};
 ghost use Rattle.measures.specs.Measures.{measureOf};
@@ -14,7 +13,7 @@ ghost use Rattle.frame.specs.Pictures.{pairOf, countNumber};
 ghost use Rattle.refusals.specs.Refusals.{blockSizeOk};
 ghost use Rattle.search.specs.SearchResult.{searchResult};
 ghost use Rattle.search.specs.Target.{Ready};
-ghost use Rattle.reach.specs.Reach.{Standing, reach, InReach};
+ghost use Rattle.reach.specs.Reach.{Standing, reach};
 ghost use Rattle.pruned_rule.specs.Sift.{kept};
 ghost use Rattle.pruned_rule.specs.Spots.{spots, vectorOn, choiceOf};
 ghost use Rattle.boxes.specs.Boxes.{area, Filled};
@@ -22,7 +21,7 @@ ghost use Rattle.boxes.specs.Distances.{Resolution, Numbered};
 ghost use Rattle.pruned_list.specs.Listed.{spotOf, nearestKey, SpotIn, distortionTo};
 ghost use Rattle.pruned_sift.specs.Laid.{Laid, RowLeasts, LowerBounds};
 ghost use Rattle.pruned.specs.Answer.{stillDistortion, prunedSearch};
-ghost use Rattle.pruned.specs.Flow.{distOf, limitOf, boundBy, boundAt, fits, few, byAll, firstSlot, Roomy, isBlank, blankAnswer, Distances, Held, Facing, Leveled, Search, Closing};
+ghost use Rattle.pruned.specs.Flow.{distOf, limitOf, boundBy, boundAt, fits, few, byAll, nextOf, firstSlot, Roomy, isBlank, blankAnswer, Distances, Held, Facing, Leveled, Search, Closing};
 use frame::Region;
 use frame::SearchBlock;
 use frame::Setting;
@@ -97,7 +96,7 @@ fn fill_counts(before: [u32; frame::COUNTS], from: usize, count: usize) -> [u32;
 
 // The resolution after m. A candidate alone is the best: it stays, whatever E is.
 fn next(m: usize, count: usize) -> usize
-    ensures { λ r. ⌜ (r ≡ m / 2) ⊎ ((r ≡ 1) × (count ≡ 1)) ⌝ }
+    ensures { λ r. ⌜ r ≡ nextOf m count ⌝ }
 {
     if count == 1 {
         return 1;

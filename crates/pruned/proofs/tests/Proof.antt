@@ -10,7 +10,7 @@ use Rattle.reach.proofs.Candidates.{ready-standing}
 use Rattle.pruned_rule.specs.Spots.{placesOf}
 use Rattle.pruned.proofs.Flow.{first-facing}
 use Rattle.pruned.proofs.Steps.{size-small}
-use Rattle.pruned.proofs.Rounds.{Turning, total-places, places-few, turning-first, turning-search, turning-facing, turning-slot, turning-more, turning-few}
+use Rattle.pruned.proofs.Rounds.{Turning, next-either, total-places, places-few, turning-first, turning-search, turning-facing, turning-slot, turning-more, turning-few}
 use Rattle.pruned.proofs.Rounds.{turning-closing, turning-last}
 use Rattle.pruned.proofs.tests.Statement.{statement}
 use Rattle.pruned.proofs.tests.Tie as tie
@@ -65,7 +65,7 @@ loop-holds c =
     let e = g .begin .ensures in
     let l = c .before .before .before .level .ensures in
     let long = l .1 ∙ e .2 in
-    (turning-first (s .pre .0) _ _ _ _ (e .1 ∙ s .pre .2) (l .0) (c .next .ensures) (c .before .before .before .before .before .before .first-slot .ensures) (total-is g) (omega (arith, long, s .pre .1 .0)) (l .2), total-is g, refl)
+    (turning-first (s .pre .0) _ _ _ _ (e .1 ∙ s .pre .2) (l .0) (next-either _ _ _ (c .next .ensures)) (c .before .before .before .before .before .before .first-slot .ensures) (total-is g) (omega (arith, long, s .pre .1 .0)) (l .2), total-is g, refl)
 
 -- a turn
 cast-counts-2 : tie.Need-cast-counts-2 Inv-loop μ-loop
@@ -92,13 +92,13 @@ next-requires-2 c κs = search needs
 loop-less : tie.Need-loop-less Inv-loop μ-loop
 loop-less c =
     let h : 2 ≤ c .before .before .before .before .before .before .before .before .loop .m = omega (arith, c .before .before .before .before .before .before .before .loop-test .taken) in
-    ⊎-elim (λ (e : c .next2 .result ≡ c .before .before .before .before .before .before .before .before .loop .m / 2). omega (arith, e, h)) (λ (e : (c .next2 .result ≡ 1) × (c .before .before .before .level2 .result .count ≡ 1)). omega (arith, e .0, h)) (c .next2 .ensures)
+    ⊎-elim (λ (e : c .next2 .result ≡ c .before .before .before .before .before .before .before .before .loop .m / 2). omega (arith, e, h)) (λ (e : (c .next2 .result ≡ 1) × (c .before .before .before .level2 .result .count ≡ 1)). omega (arith, e .0, h)) (next-either _ _ _ (c .next2 .ensures))
 
 loop-again : tie.Need-loop-again Inv-loop μ-loop
 loop-again c =
     let i = c .before .before .before .before .before .before .before .before .loop .inv in
     let l = c .before .before .before .level2 .ensures in
-    (turning-more (i .0) (omega (arith, c .before .before .before .before .before .before .before .loop-test .taken)) _ (l .0) (c .next2 .ensures) (omega (arith, l .1, i .0 .room)) (l .2), i .1, l .1 ∙ i .2)
+    (turning-more (i .0) (omega (arith, c .before .before .before .before .before .before .before .loop-test .taken)) _ (l .0) (next-either _ _ _ (c .next2 .ensures)) (omega (arith, l .1, i .0 .room)) (l .2), i .1, l .1 ∙ i .2)
 
 -- the answer
 fill-counts-requires : tie.Need-fill-counts-requires Inv-loop μ-loop
