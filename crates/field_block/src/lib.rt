@@ -7,6 +7,7 @@ ghost use Rattle.frame.specs.Pictures.{pairOf};
 ghost use Rattle.frame.specs.Grid.{blocks};
 ghost use Rattle.refusals.specs.Refusals.{requestRefusal, settingOf};
 ghost use Rattle.field_block.specs.Blocks.{searchAt, Sound, join, Bounded};
+use frame::SearchBlock;
 use refusals::Request;
 use search::SearchResult;
 
@@ -17,7 +18,8 @@ pub struct Total {
     pub voters: u32,
 }
 
-// What the requested search answers at grid block k.
+// What the requested search answers at grid block k. Search 2 is called here and by the single-block call: so the compiler keeps its memory out of both,
+// and the other searches do not pay for it.
 pub fn search_at(older: &[u8], newer: &[u8], q: Request, k: usize) -> SearchResult
     requires { ⌜ (requestRefusal (length (now older)) (length (now newer)) q ≡ 0) × (k < blocks (settingOf q)) ⌝ }
     ensures { λ r. ⌜ (r ≡ searchAt (pairOf (now (older .entry)) (now (newer .entry)) (settingOf q)) q k) × Sound r ⌝ }
@@ -25,6 +27,15 @@ pub fn search_at(older: &[u8], newer: &[u8], q: Request, k: usize) -> SearchResu
     let s = refusals::setting_of(q);
     let y = frame::block_row(s, k);
     let x = frame::block_column(s, k);
+    if q.search == 2 {
+        let b = SearchBlock {
+            setting: s,
+            w: q.w,
+            y,
+            x,
+        };
+        return pruned::search(older, newer, b);
+    }
     block::search_block(older, newer, q, y, x)
 }
 

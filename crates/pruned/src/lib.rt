@@ -422,16 +422,28 @@ fn blank_answer(n: usize, r: Region) -> SearchResult
     }
 }
 
-// Search 2 with memory for the boxes and for the list.
+// The boxes in the memory lent for them, then all tests.
 fn search_with(
     older: &[u8],
     newer: &[u8],
     b: SearchBlock,
+    r: Region,
+    e: u32,
     boxes: &mut [u16],
     keys: &mut [u64],
 ) -> SearchResult
-    requires { ⌜ Ready (now older) (now newer) b × (5 * area (b .setting .n) ≤ length (now boxes))
-        × ((u : ℕ) → u < area (b .setting .n) → getD (now boxes) u 0 ≤ 255) × Roomy (b .setting) (length (now keys)) ⌝ }
+    requires { ⌜ Ready (now older) (now newer) b × (r ≡ reach b) × (5 * area (b .setting .n) ≤ length (now boxes))
+        × ((u : ℕ) → u < area (b .setting .n) → getD (now boxes) u 0 ≤ 255) × Roomy (b .setting) (length (now keys))
+        × (e ≡ stillDistortion (pairOf (now older) (now newer) (b .setting)) (b .y) (b .x)) ⌝ }
+    ensures { λ p. ⌜ p ≡ prunedSearch (pairOf (now (older .entry)) (now (newer .entry)) (b .setting)) (b .w) (b .y) (b .x) ⌝ }
+{
+    boxes::fill(older, newer, b, r, boxes);
+    tests(older, newer, b, r, &*boxes, keys, e)
+}
+
+// Search 2 of one block: blank paper at once, or else with memory as large as N asks for.
+pub fn search(older: &[u8], newer: &[u8], b: SearchBlock) -> SearchResult
+    requires { ⌜ Ready (now older) (now newer) b ⌝ }
     ensures { λ p. ⌜ p ≡ prunedSearch (pairOf (now (older .entry)) (now (newer .entry)) (b .setting)) (b .w) (b .y) (b .x) ⌝ }
 {
     let s = b.setting;
@@ -440,21 +452,12 @@ fn search_with(
     if is_blank(older, b, r, e) {
         return blank_answer(s.n, r);
     }
-    boxes::fill(older, newer, b, r, boxes);
-    tests(older, newer, b, r, &*boxes, keys, e)
-}
-
-// Search 2 of one block.
-pub fn search(older: &[u8], newer: &[u8], b: SearchBlock) -> SearchResult
-    requires { ⌜ Ready (now older) (now newer) b ⌝ }
-    ensures { λ p. ⌜ p ≡ prunedSearch (pairOf (now (older .entry)) (now (newer .entry)) (b .setting)) (b .w) (b .y) (b .x) ⌝ }
-{
-    if b.setting.n == 32 {
+    if s.n == 32 {
         let mut boxes = [0u16; boxes::LARGE];
         let mut keys = [0u64; order::VECTORS];
-        return search_with(older, newer, b, &mut boxes, &mut keys);
+        return search_with(older, newer, b, r, e, &mut boxes, &mut keys);
     }
     let mut boxes = [0u16; boxes::SMALL];
     let mut keys = [0u64; FEW + 1];
-    search_with(older, newer, b, &mut boxes, &mut keys)
+    search_with(older, newer, b, r, e, &mut boxes, &mut keys)
 }

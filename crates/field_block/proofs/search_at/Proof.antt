@@ -1,12 +1,13 @@
--- `search_at`: grid block k lies inside, so its single-block call is not refused.
-use mathlib.Core.Path.{_≡_, _∙_}
+-- `search_at`: grid block k lies inside, so it is ready for search 2, and its single-block call is not refused.
+use Prim.Native.Nat.{_+_, _≤_}
+use mathlib.Core.Path.{_≡_, sym, _∙_}
 use native.Mathlib.Omega.{arith}
 use denote.Ref.{now}
 use lib.ListN.{length}
 use borrow.Author.Needs.{needs}
 use Rattle.frame.specs.Grid.{blockRow, blockColumn, block-down, block-across}
-use Rattle.refusals.specs.Refusals.{settingOf, Requested, requested}
-use Rattle.block.specs.Block.{search-fine, block-accepted}
+use Rattle.refusals.specs.Refusals.{settingOf, Requested, requested, window-small}
+use Rattle.block.specs.Block.{search-fine, block-accepted, searched-pruned}
 use Rattle.distortion.specs.Blocks.{Bytes}
 use Rattle.field_block.proofs.Sound.{block-is}
 use Rattle.field_block.proofs.search_at.Statement.{statement}
@@ -36,9 +37,6 @@ block-column-requires c κs =
     let s = start z in
     rw (z .setting-of .ensures) (request s .paired .fitting, s .pre .1)
 
-search-block-requires : tie.Need-search-block-requires
-search-block-requires c κs = search needs
-
 row-is : (b : tie.After-block-column) →
     let a = start (b .before .before) .args in
     b .before .block-row .result ≡ blockRow (settingOf (a .q)) (a .k)
@@ -49,18 +47,41 @@ column-is : (b : tie.After-block-column) →
     b .block-column .result ≡ blockColumn (settingOf (a .q)) (a .k)
 column-is b = rw (b .before .before .setting-of .ensures) at (b .block-column .ensures)
 
+-- block k lies inside
+lies : (b : tie.After-block-column) → let q = start (b .before .before) .args .q in
+    (b .before .block-row .result + q .n ≤ q .height) × (b .block-column .result + q .n ≤ q .width)
+lies b =
+    let s = start (b .before .before) in
+    let f = request s .paired .fitting in
+    rw (row-is b, column-is b) (block-down _ f _ (s .pre .1), block-across _ f _ (s .pre .1))
+
+search-requires : tie.Need-search-requires
+search-requires c κs =
+    let b = c .before .before in
+    let z = b .before .before in
+    let a = request (start z) in
+    rw (z .setting-of .ensures)
+    (record { placed = record { paired = a .paired; down = lies b .0; across = lies b .1 }; window = window-small _ _ (a .window) })
+
 returns : tie.Need-returns
 returns c =
-    let b = c .before in
+    let b = c .before .before .before in
+    let z = b .before .before in
+    let e = rw (z .setting-of .ensures, row-is b, column-is b) at (c .search .ensures) in
+    block-is _ _ _ (bytes (z .before)) (request (start z)) _ (start z .pre .1) _ (e ∙ sym (searched-pruned _ _ _ _ (c .before .if1 .taken)))
+
+search-block-requires : tie.Need-search-block-requires
+search-block-requires c κs = search needs
+
+returns-2 : tie.Need-returns-2
+returns-2 c =
+    let b = c .before .before .before in
     let z = b .before .before in
     let s = start z in
-    let k = s .pre .1 in
-    let r = request s in
-    let f = r .paired .fitting in
-    let e = rw (row-is b, column-is b) at (c .search-block .ensures) in
-    block-is _ _ _ (bytes (z .before)) r _ k _
-    (e ∙ block-accepted _ _ _ _ _ (search-fine _ _ _ _ _ (s .pre .0) (block-down _ f _ k) (block-across _ f _ k)))
+    let e = c .search-block .ensures ∙ block-accepted _ _ _ _ _ (search-fine _ _ _ _ _ (s .pre .0) (lies b .0) (lies b .1)) in
+    block-is _ _ _ (bytes (z .before)) (request s) _ (s .pre .1) _ (rw (row-is b, column-is b) at e)
 
 pub search-at-spec : {M : Type 1} → statement M
 search-at-spec =
-    tie.close (tie.spec setting-of-requires block-row-requires block-column-requires search-block-requires returns)
+    tie.close
+    (tie.spec setting-of-requires block-row-requires block-column-requires search-requires returns search-block-requires returns-2)
