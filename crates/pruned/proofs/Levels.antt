@@ -26,7 +26,7 @@ use Rattle.reach.proofs.Candidates.{reach-bounds}
 use Rattle.pruned_rule.specs.Sift.{kept}
 use Rattle.pruned_rule.specs.Spots.{spots, vectorOn}
 use Rattle.pruned_rule.proofs.Spots.{spots-reach}
-use Rattle.boxes.specs.Boxes.{Cut, area}
+use Rattle.boxes.specs.Boxes.{Cut}
 use Rattle.boxes.specs.Distances.{Resolution}
 use Rattle.pruned_sift.specs.Laid.{within}
 use Rattle.pruned_sift.proofs.Distances.{within-kept}
@@ -132,14 +132,6 @@ pub fine-cut : (n m : ℕ) → n * m ≤ 256 → Resolution n m → Cut n m
 fine-cut n m h = ⊎-elim (λ c. c) (λ (e : (n ≡ 32) × (m ≡ 32)). let l : 32 * 32 ≤ 256 = rw (e .0, e .1) at h in absurd (omega arith))
 
 -- ---- memory
-
-pub area-large : (n : ℕ) → n ≤ 32 → 5 * area n ≤ 25600
-unfolding area
-area-large n h = omega (arith, mul-le-mul {n₂ = 64} {m₂ = 64} (let e : n + 32 ≤ 64 = omega arith in e) (let e : n + 32 ≤ 64 = omega arith in e), mul-le-mul {n₂ = 32} {m₂ = 32} h h)
-
-pub area-small : (n : ℕ) → n ≤ 16 → 5 * area n ≤ 12800
-unfolding area
-area-small n h = omega (arith, mul-le-mul {n₂ = 48} {m₂ = 48} (let e : n + 32 ≤ 48 = omega arith in e) (let e : n + 32 ≤ 48 = omega arith in e), mul-le-mul {n₂ = 16} {m₂ = 16} h h)
 
 -- the N below 32
 pub size-below : (n : ℕ) → T (blockSizeOk n) → (n ≡ 32 → ⊥) → n ≤ 16

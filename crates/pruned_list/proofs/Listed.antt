@@ -1,5 +1,5 @@
 -- Keys of spots, and what the functions on an array of keys do where its front holds those of some spots.
---   OnGrid           each spot is a row and a column of window 16; spots-grid: those in reach are; kept-grid: and what is kept of them
+--   OnGrid           each spot is a row and a column of window 16; spots-grid: those in reach are
 --   distance-on      the distance in a spot's key; spot-on: the spot in it; renewed-on: the key with another distance
 --   every-last       the keys of all spots with distance 0, stored row by row (codeIn); keys-at: the key at a place
 --   listed-many      as many spots as keys; front-listed: keys that were stored in front of an array
@@ -28,7 +28,6 @@ use Rattle.reach.proofs.Candidates.{reach-small}
 use Rattle.reach.proofs.Keys.{key-parts, key-spot, key-anew}
 use Rattle.pruned_rule.specs.Sift.{kept}
 use Rattle.pruned_rule.specs.Spots.{spots, vectorOn, keyOn, Chosen}
-use Rattle.pruned_rule.proofs.Parts.{parted, parted-kept}
 use Rattle.pruned_rule.proofs.Spots.{spots-reach, spot-row, spot-column}
 use Rattle.pruned_list.specs.Listed.{keysOf, distanceOf, spotOf, renewed, nearestKey, KeptWithin, measuredKey, leastMeasured}
 
@@ -37,9 +36,6 @@ OnGrid ts = (t : ℕ) → t ∈ ts → (t / 64 < 33) × (t % 64 < 33)
 
 pub spots-grid : (b : SearchBlock) → Standing b → OnGrid (spots (reach b))
 spots-grid b s t m = reach-small b s (t / 64) (t % 64) (spots-reach b s m)
-
-pub kept-grid : (v : ℕ → ℕ) (l : ℕ) (ts : List ℕ) → OnGrid ts → OnGrid (kept v l ts)
-kept-grid v l ts g t m = g t (parted-kept (parted v l ts) m .0)
 
 -- ---- one key
 

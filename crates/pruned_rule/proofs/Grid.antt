@@ -5,20 +5,16 @@
 --   kept-nested      those kept at m among those kept at k are those kept at m among all
 --   open-spots       `count` is how many are on the list of spots; open-best: the best of all is among them
 --   nearest-listed   the least key of those listed is that of the nearest of all
---   open-on-first    after the test at N; open-on-more: one turn
---   chosen-listed    at the end the least key of those listed is that of the best of all
---   one-left         where one remains, one remains after the next turn; one-same: the same
---   one-listed       it is the best of all; one-last: so the rest of the counts are 1
+--   open-on-first    after the test at N
+--   one-left         where one remains, one remains after the next turn; one-last: so the rest of the counts are 1
 use Prim.Native.Nat.{ℕ, zero, suc, _/_, _^_, _≤_, _<_, _∣_, min}
 use mathlib.Core.Path.{_≡_, refl, sym, ap, _∙_, subst}
-use mathlib.Core.Bool.{Bool, true, false, cond}
-use mathlib.Core.List.{List, [], _∷_, _++_, append-nil, List·Memᴰ·head, List·Memᴰ·eq-of-singleton}
-use native.Mathlib.Nat.{le-of-eq, le-trans, dvd-trans, pow-suc, one-le-pow}
+use mathlib.Core.List.{List, [], _∷_, _++_, append-nil}
+use native.Mathlib.Nat.{le-trans, dvd-trans, pow-suc, one-le-pow}
 use native.Mathlib.Omega.{arith}
-use lib.Dec.{leb}
 use lib.ListN.{length, replicate}
 use lib.Seq.{append-snoc}
-use Rattle.base.specs.Least.{_∈_, first-mem, leastOf-mem, mem-length}
+use Rattle.base.specs.Least.{_∈_, first-mem, leastOf-mem}
 use Rattle.measures.specs.Measures.{Measure}
 use Rattle.order.specs.declared.Vector.{Vector}
 use Rattle.order.specs.Preference.{preferred}
@@ -28,7 +24,7 @@ use Rattle.reach.specs.Reach.{Standing, reach}
 use Rattle.pruned_rule.specs.Distance.{distanceBy}
 use Rattle.pruned_rule.specs.Sift.{kept}
 use Rattle.pruned_rule.specs.Prune.{Pruning, prune, halvings, resolutions}
-use Rattle.pruned_rule.specs.Spots.{placesOf, choiceOf, spots, vectorOn, keyOn, keptOn, Chosen}
+use Rattle.pruned_rule.specs.Spots.{placesOf, choiceOf, spots, vectorOn, keptOn, Chosen}
 use Rattle.pruned_rule.proofs.Blocks.{Lawful}
 use Rattle.pruned_rule.proofs.Parts.{parted, parted-kept}
 use Rattle.pruned_rule.proofs.Pruned.{Attained, holds-some}
@@ -64,38 +60,11 @@ pub kept-nested : (dist : ℕ → Vector → ℕ) (limit : ℕ → ℕ → ℕ) 
     → keptOn dist limit m f (keptOn dist limit k e ts) ≡ keptOn dist limit m f ts
 kept-nested dist limit m k nest e f h ts = kept-parted _ (limit m f) (λ t. nest (vectorOn t) f e h) (parted _ (limit k e) ts)
 
--- a list of one
-one-member : (ks : List ℕ) → length ks ≡ 1 → (t : ℕ) × (ks ≡ t ∷ [])
-one-member [] h = absurd (omega arith)
-one-member (t ∷ []) h = (t, refl)
-one-member (t ∷ u ∷ ks) h = absurd (omega arith)
-
-kept-one : (v : ℕ → ℕ) (l t : ℕ) → length (kept v l (t ∷ [])) ≡ 1 → kept v l (t ∷ []) ≡ t ∷ []
-unfolding kept
-kept-one v l t h = go (leb (v t) l) h
-  where
-    go : (a : Bool) → length (cond a (t ∷ []) []) ≡ 1 → cond a (t ∷ []) [] ≡ t ∷ []
-    go true h = refl
-    go false h = absurd (omega arith)
-
-one-chosen : (cost : Vector → ℕ) (ts : List ℕ) (t : ℕ) → ts ≡ t ∷ [] → Chosen cost ts t
-one-chosen cost ts t e =
-    rw e
-    (record { member = List·Memᴰ·head refl; least = λ u i. le-of-eq (ap (keyOn cost) (sym (List·Memᴰ·eq-of-singleton i))) })
-
 module _ (b : SearchBlock) (s : Standing b) (D : Vector → ℕ) (dist : ℕ → Vector → ℕ) (limit : ℕ → ℕ → ℕ) where
   -- what is among those that remain is within the limit
   within-limit : (m e : ℕ) {c : ℕ} {left : List ℕ} → left ≡ kept (λ c. dist m (preferred c)) (limit m e) (placesOf b) → c ∈ left
       → dist m (preferred c) ≤ limit m e
   within-limit m e {c} q i = parted-kept (parted _ (limit m e) (placesOf b)) (subst (λ (x : List ℕ). c ∈ x) q i) .1
-
-  pub chosen-listed : {e count : ℕ} {tested : List ℕ} {p : Pruning} → ClosedOn b D dist limit e count tested p
-      → (t : ℕ) → Chosen D (keptOn dist limit 2 e (spots (reach b))) t → vectorOn t ≡ choiceOf b D
-  chosen-listed {e} {count} {tested} {p} c t h =
-      let some : 0 < length (p .left) = rw (c .left, ← kept-spots b s (dist 2) (limit 2 e)) (mem-length (h .member)) in
-      choice-listed b s D (dist 2) (limit 2 e)
-      (within-limit 2 e (c .left) (subst (λ (x : ℕ). x ∈ p .left) (c .best) (leastOf-mem (λ c. D (preferred c)) (p .left) some)))
-      t h
 
   module _ (first N : ℕ) where
     pub open-on-first : PowerOfTwo N → Attained (λ c. D (preferred c)) (placesOf b) first → SafeOn D dist limit N
@@ -110,13 +79,6 @@ module _ (b : SearchBlock) (s : Standing b) (D : Vector → ℕ) (dist : ℕ →
 
       pub open-best : dist k (choiceOf b D) ≤ limit k e
       open-best = within-limit k e (open-left o) (first-mem (o .holds .best))
-
-    -- where one remains
-    pub one-listed : {k m e : ℕ} {tested : List ℕ} → OpenOn b D dist limit first N k m e 1 tested
-        → (t : ℕ) × (keptOn dist limit k e (spots (reach b)) ≡ t ∷ []) × (vectorOn t ≡ choiceOf b D)
-    one-listed {k} {m} {e} o =
-        let (t, is) = one-member (keptOn dist limit k e (spots (reach b))) (open-spots o) in
-        (t, is, choice-listed b s D (dist k) (limit k e) (open-best o) t (one-chosen D _ t is))
 
     module _ (safe : (i : ℕ) → i ∣ N → SafeOn D dist limit i) (nests : (i j : ℕ) → i ∣ j → j ∣ N → NestsOn dist limit i j) where
       module _ {k m e count : ℕ} {tested : List ℕ} (o : OpenOn b D dist limit first N k m e count tested) (h : 2 ≤ m) where
@@ -142,11 +104,6 @@ module _ (b : SearchBlock) (s : Standing b) (D : Vector → ℕ) (dist : ℕ →
             open-more o (λ i d c. safe i d (preferred c)) (λ i j d g c. nests i j d g (preferred c)) h f lowered c
             (counted ∙ ap length (kept-nested dist limit m k nest e f less (spots (reach b))) ∙ kept-spots b s (dist m) (limit m f))
 
-        pub open-on-more : (t : ℕ) → Chosen (dist m) (keptOn dist limit k e (spots (reach b))) t → (f : ℕ) → f ≡ min e (D (vectorOn t))
-            → (c : ℕ) → c ≡ length (keptOn dist limit m f (keptOn dist limit k e (spots (reach b))))
-            → OpenOn b D dist limit first N m (m / 2) f c (tested ++ (count ∷ []))
-        open-on-more t chosen f lowered = kept-more f (lowered ∙ ap (λ v. min e (D v)) (nearest-listed t chosen))
-
       module _ {k m e : ℕ} {tested : List ℕ} (o : OpenOn b D dist limit first N k m e 1 tested) (h : 2 ≤ m)
           (f : ℕ) (lowered : f ≡ min e (D (choiceOf b (dist m)))) where
         pub one-left : OpenOn b D dist limit first N m (m / 2) f 1 (tested ++ (1 ∷ []))
@@ -157,13 +114,6 @@ module _ (b : SearchBlock) (s : Standing b) (D : Vector → ℕ) (dist : ℕ →
             let few : c ≤ length listed = parted-few (parted (λ t. dist m (vectorOn t)) (limit m f) listed) in
             let one : c ≡ 1 = omega (arith, open-some next, open-spots o) in
             subst (λ (x : ℕ). OpenOn b D dist limit first N m (m / 2) f x (tested ++ (1 ∷ []))) one next
-
-        pub one-same : (t : ℕ) → keptOn dist limit k e (spots (reach b)) ≡ t ∷ [] → keptOn dist limit m f (spots (reach b)) ≡ t ∷ []
-        one-same t is =
-            let less : f ≤ e = omega arith in
-            let same =
-            sym (kept-nested dist limit m k (nest o h) e f less (spots (reach b))) ∙ ap (kept (λ u. dist m (vectorOn u)) (limit m f)) is in
-            same ∙ kept-one _ (limit m f) t (ap length (sym same) ∙ open-spots one-left)
 
       one-on : (j : ℕ) {k m e : ℕ} {tested : List ℕ} → k ≡ 2 ^ suc j → OpenOn b D dist limit first N k m e 1 tested
           → (f : ℕ) × ClosedOn b D dist limit f 1 (tested ++ replicate (length (halvings m)) 1)

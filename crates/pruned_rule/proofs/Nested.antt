@@ -3,7 +3,7 @@
 --   Nests         within the limit at m for E: within it at the coarser k too, for this E and any greater; nests: so it is on blocks
 --   Within        those left are just the candidates within the limit at m: start-within, round-within
 --   kept-parted   a stricter test after a weaker one keeps what it keeps of all
---   kept-count    how many are within a limit; count-pick: of the numbers below n that pass a test; total-pick: a sum over these
+--   kept-count    how many are within a limit; total-pick: a sum over the numbers below n that pass a test
 --   least-of-all  the nearest that remains is the nearest of all; lower-of-all: so E is lowered to the distortion of that
 --   Along         where a loop stands that halves m, with k the resolution before: along-first, along-more, along-last
 use Prim.Native.Nat.{ℕ, zero, suc, _+_, _/_, _^_, _≤_, _<_, _∣_, min}
@@ -66,11 +66,6 @@ total-pick g p (suc n) = total-append g (pick p n) _ ∙ ap₂ _+_ (total-pick g
     one : (t : Bool) → total g (cond t (n ∷ []) []) ≡ cond t (g n) 0
     one true = omega arith
     one false = refl
-
--- as a loop over the numbers below n counts it
-pub count-pick : (v : ℕ → ℕ) (l : ℕ) (p : ℕ → Bool) (n : ℕ)
-    → length (kept v l (pick p n)) ≡ sumTo (λ i. cond (p i) (cond (leb (v i) l) 1 0) 0) n
-count-pick v l p n = kept-count v l (pick p n) ∙ total-pick _ p n
 
 -- ---- the steps
 

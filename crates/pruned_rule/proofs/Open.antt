@@ -6,21 +6,20 @@
 --   open-last    after the turn at 2: what is known of the search's end, Closed
 --   all-last     where E is 0 and all are within the limit at each resolution: all remain to the end
 --   open-left    those that remain: so they can be listed after any turn; open-some, open-few: at least one, at most all
---   open-tested  how many counts are still to come; open-divides: at resolutions that divide N
-use Prim.Native.Nat.{ℕ, zero, suc, _+_, _-_, _/_, _^_, _≤_, _<_, _∣_, min}
+use Prim.Native.Nat.{ℕ, zero, suc, _-_, _/_, _^_, _≤_, _<_, _∣_, min}
 use mathlib.Core.Path.{_≡_, refl, sym, ap, _∙_}
-use mathlib.Core.List.{List, [], _∷_, _++_, append-nil, List·Memᴰ·tail}
+use mathlib.Core.List.{List, [], _∷_, _++_, append-nil}
 use native.Mathlib.Nat.{dvd-refl, dvd-trans, pow-suc, one-le-pow}
 use native.Mathlib.Omega.{arith}
 use lib.ListN.{length, replicate}
 use lib.Seq.{append-snoc}
-use Rattle.base.specs.Least.{_∈_, leastOf, leastOf-unique}
+use Rattle.base.specs.Least.{leastOf, leastOf-unique}
 use Rattle.frame.specs.Pictures.{countNumber}
 use Rattle.pruned_rule.specs.Sift.{kept}
 use Rattle.pruned_rule.specs.Prune.{Pruning, allRemaining, lower, sift, rounds, prune, counts, halvings, resolutions}
-use Rattle.pruned_rule.proofs.Counts.{Counted, counted-length, all-remaining-counted, lower-counted, sift-counted, tested-rounds}
+use Rattle.pruned_rule.proofs.Counts.{Counted, counted-length, all-remaining-counted, lower-counted, sift-counted}
 use Rattle.pruned_rule.proofs.Pruned.{Attained, Holds, Safe, holds-some, all-remaining-holds, lower-holds, sift-holds}
-use Rattle.pruned_rule.proofs.Search.{PowerOfTwo, resolutions-divide, half-pow, halvings-more, halvings-none, rounds-more, rounds-none}
+use Rattle.pruned_rule.proofs.Search.{PowerOfTwo, half-pow, halvings-more, halvings-none, rounds-more, rounds-none}
 use Rattle.pruned_rule.proofs.Nested.{Nests, Within, Along, start-within, round-within, lower-of-all, along-first, along-more, along-last}
 
 -- E began as `first`
@@ -74,20 +73,6 @@ module _ {first : ℕ} {D : ℕ → ℕ} {d limit : ℕ → ℕ → ℕ} {N : �
 
   pub open-left : o .state .left ≡ kept (d k) (limit k e) ks
   open-left = o .within ∙ ap (λ (x : ℕ). kept (d k) (limit k x) ks) (o .bound)
-
-  pub open-tested : length t + length (halvings m) ≡ length (resolutions N) + 1
-  unfolding prune sift allRemaining
-  open-tested =
-      omega (
-        arith,
-        ap length (o .tested),
-        ap (λ (s : Pruning). length (s .tested)) (o .ahead),
-        tested-rounds D d limit (halvings m) (o .state),
-        tested-rounds D d limit (resolutions N) (sift d limit N (allRemaining first ks)),
-      )
-
-  pub open-divides : (i : ℕ) → i ∈ halvings m → i ∣ N
-  open-divides i l = dvd-trans i (resolutions-divide k (o .along .0) i (List·Memᴰ·tail (rw (o .along .1) at l))) (o .divides)
 
   -- f is the new E and c how many then remain
   pub open-more : ((i : ℕ) → i ∣ N → Safe D d limit i) → ((i j : ℕ) → i ∣ j → j ∣ N → Nests d limit i j) → 2 ≤ m

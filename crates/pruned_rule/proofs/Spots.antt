@@ -3,7 +3,7 @@
 --   spots-in         each is a row and a column in reach; spots-all: and each of these is one; spots-reach: read from the spot
 --   spot-row         a spot's row; spot-column: its column; key-on: its key by these
 --   total-spots      a sum over the spots is the sum over the places; total-rows: and that over rows and columns
---   kept-spots       how many are within a limit: as many on the spots as at the places; kept-rows: counted by rows and columns
+--   kept-spots       how many are within a limit: as many on the spots as at the places
 --   nearest-of-all   the least key of all is that of the first least place; choice-listed: so is the least of those within a limit, where that place is
 --   parted-all       what is within a limit is kept; parted-few: and is no more than there are
 use Prim.Native.Nat.{ℕ, zero, suc, _+_, _*_, _-_, _/_, _%_, _≤_, _<_}
@@ -170,11 +170,6 @@ module _ (b : SearchBlock) (s : Standing b) where
   total-spots F = total-rows F ∙ sym (total-places F)
 
   -- how many are within a limit
-  pub kept-rows : (v : Vector → ℕ) (l : ℕ)
-      → length (kept (λ t. v (vectorOn t)) l (spots (reach b)))
-      ≡ sumOver (reach b .rows) (reach b .columns) (λ i j. cond (leb (v (gridVector (reach b .top + i) (reach b .left + j))) l) 1 0)
-  kept-rows v l = kept-count _ l (spots (reach b)) ∙ total-rows (λ u. cond (leb (v u) l) 1 0)
-
   pub kept-spots : (v : Vector → ℕ) (l : ℕ)
       → length (kept (λ t. v (vectorOn t)) l (spots (reach b))) ≡ length (kept (λ k. v (preferred k)) l (placesOf b))
   kept-spots v l =

@@ -1,9 +1,8 @@
 -- `search`: blank paper at once, or else memory of zeros, as large as N asks for.
-use Prim.Native.Nat.{ℕ, _+_, _*_, _≤_, _<_}
+use Prim.Native.Nat.{ℕ, _*_, _≤_, _<_}
 use mathlib.Core.Path.{_≡_, refl, sym, ap, _∙_}
 use mathlib.Core.Bool.{false}
 use native.Mathlib.Omega.{arith}
-use borrow.Author.Needs.{needs}
 use denote.Ref.{now}
 use lib.ListN.{getD, replicate, getD-replicate}
 use Rattle.base.specs.Tests.{true-T}
@@ -13,10 +12,11 @@ use Rattle.refusals.specs.Refusals.{block-size}
 use Rattle.search.specs.Target.{still-cost}
 use Rattle.reach.proofs.Candidates.{ready-standing, reach-bounds}
 use Rattle.boxes.specs.Boxes.{area}
+use Rattle.boxes.proofs.Rooms.{array-large, array-small}
 use Rattle.pruned.specs.Answer.{stillDistortion}
 use Rattle.pruned.specs.Flow.{blankAnswer}
 use Rattle.pruned.proofs.Blank.{blank-is}
-use Rattle.pruned.proofs.Levels.{area-large, area-small, size-below, small-fits}
+use Rattle.pruned.proofs.Levels.{size-below, small-fits}
 use Rattle.pruned.proofs.search.Statement.{statement}
 use Rattle.pruned.proofs.search.Tie as tie
 
@@ -65,7 +65,7 @@ search-with-requires : tie.Need-search-with-requires
 search-with-requires c κs =
     let s = c .before .before .before .before .before .before .before .before .before .before .before in
     let n = s .args .b .setting .n in
-    let h = area-large n (block-size n (s .pre .placed .paired .allowed) .most) in
+    let h = array-large n (block-size n (s .pre .placed .paired .allowed) .most) in
     (s .pre, c .before .before .before .before .before .before .before .reach .ensures, h, zeros 25600 (area n) h, (omega arith, λ e. omega arith), first-is (c .before .before .before .before .before .before))
 
 returns-2 : tie.Need-returns-2
@@ -82,7 +82,7 @@ search-with-requires-2 c κs =
     let s = c .before .before .before .before .before .before .before .before .before .before .before in
     let n = s .args .b .setting .n in
     let low = size-below n (s .pre .placed .paired .allowed) (c .before .before .if2 .left) in
-    let h = area-small n low in (
+    let h = array-small n low in (
       s .pre,
       c .before .before .before .before .before .before .before .reach .ensures,
       h,
