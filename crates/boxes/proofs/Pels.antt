@@ -1,6 +1,5 @@
 -- The pels of a block and its search window in an array.
---   copied-before   what stands before a copy of rows is as it was
---   copied-most     a copy of small numbers among small numbers
+--   stored-most     rows of small numbers stored among small numbers
 --   pels-long       the array is as long as before; pels-small: its places of m = 1 are small
 --   window-pel      a pel of a candidate's older block; own-pel: one of the block itself
 use Prim.Native.Nat.{ℕ, zero, suc, _+_, _-_, _*_, _≤_, _<_}
@@ -12,19 +11,17 @@ use native.Mathlib.Decide.{decLt}
 use native.Mathlib.Omega.{arith}
 use lib.ListN.{length, getD}
 use Rattle.base.specs.Index.{row-next, row-fits}
-use Rattle.base.specs.Lists.{fillTo, fill-in, fill-before, fill-after}
+use Rattle.base.specs.Lists.{fillTo, fill-in, fill-before, fill-after, storedRows, stored-long, stored-in, stored-before}
 use Rattle.frame.specs.Pictures.{pairOf}
 use Rattle.frame.specs.declared.SearchBlock.{SearchBlock}
 use Rattle.distortion.specs.Blocks.{Bytes, newerBlock, olderBlock}
 use Rattle.search.specs.Exhaustive.{gridVector}
 use Rattle.reach.specs.Reach.{Standing, reach, InReach}
 use Rattle.reach.proofs.Candidates.{reach-bounds, older-at}
-use Rattle.window_copy.specs.Copy.{copiedRows}
-use Rattle.window_copy.proofs.Copies.{copied-long, copied-pel}
 use Rattle.boxes.specs.Boxes.{windowPels, blockPels, area}
 use Rattle.boxes.proofs.Rooms.{area-is}
 
--- ---- copies of rows
+-- ---- stored rows
 
 fill-most : (d : List ℕ) (at : ℕ) (g : ℕ → ℕ) (n c u : ℕ) → at + n ≤ length d → ((j : ℕ) → g j ≤ c) → getD d u 0 ≤ c
     → getD (fillTo d at g n) u 0 ≤ c
@@ -41,26 +38,15 @@ fill-most d at g n c u room all h = go (decLt u at) (decLt u (at + n))
         subst (λ (x : ℕ). getD (fillTo d at g n) x 0 ≤ c) q
         (rw (fill-after d at g n (u - (at + n)) 0 room) (subst (λ (x : ℕ). getD d x 0 ≤ c) (sym q) h))
 
-module _ (frame : List ℕ) (width from columns : ℕ) (copy : List ℕ) (at pitch : ℕ) where
-  pub copied-before : (rows u : ℕ) → at + rows * pitch + columns ≤ length copy + pitch → u < at
-      → getD (copiedRows frame width from columns copy at pitch rows) u 0 ≡ getD copy u 0
-  unfolding copiedRows
-  copied-before zero u h l = refl
-  copied-before (suc i) u h l =
+module _ (g : ℕ → ℕ → ℕ) (columns : ℕ) (d : List ℕ) (at pitch : ℕ) where
+  stored-most : (rows c u : ℕ) → at + rows * pitch + columns ≤ length d + pitch → ((i j : ℕ) → g i j ≤ c) → getD d u 0 ≤ c
+      → getD (storedRows g columns d at pitch rows) u 0 ≤ c
+  unfolding storedRows
+  stored-most zero c u h all l = l
+  stored-most (suc i) c u h all l =
       let e = row-next i pitch in
-      let long = copied-long frame width from columns copy at pitch i (omega (arith, e, add-one i)) in
-      fill-before _ (at + i * pitch) _ columns u 0 (omega (arith, e, add-one i, long)) (omega arith)
-      ∙ copied-before i u (omega (arith, e, add-one i)) l
-
-  pub copied-most : (rows c u : ℕ) → at + rows * pitch + columns ≤ length copy + pitch → ((k : ℕ) → getD frame k 0 ≤ c) → getD copy u 0 ≤ c
-      → getD (copiedRows frame width from columns copy at pitch rows) u 0 ≤ c
-  unfolding copiedRows
-  copied-most zero c u h all l = l
-  copied-most (suc i) c u h all l =
-      let e = row-next i pitch in
-      let long = copied-long frame width from columns copy at pitch i (omega (arith, e, add-one i)) in
-      fill-most _ (at + i * pitch) _ columns c u (omega (arith, e, add-one i, long)) (λ j. all (from + i * width + j))
-      (copied-most i c u (omega (arith, e, add-one i)) all l)
+      let long = stored-long g columns d at pitch i (omega (arith, e, add-one i)) in
+      fill-most _ (at + i * pitch) _ columns c u (omega (arith, e, add-one i, long)) (all i) (stored-most i c u (omega (arith, e, add-one i)) all l)
 
 -- ---- places
 
@@ -94,19 +80,19 @@ module _ (older newer : List ℕ) (b : SearchBlock) (s : Standing b) (some : 0 <
   window-room = omega (arith, mul-le-mul-right (n + 32) (sides .0), sides .1, area-is n)
 
   window-long : length window ≡ length first
-  window-long = copied-long older width _ (reach b .columns + n - 1) first 0 (n + 32) (reach b .rows + n - 1) window-room
+  window-long = stored-long _ (reach b .columns + n - 1) first 0 (n + 32) (reach b .rows + n - 1) window-room
 
   own-room : (n + 32) * (n + 32) + n * n + n ≤ length window + n
   own-room = omega (arith, window-long, area-is n)
 
   pub pels-long : length both ≡ length first
-  pels-long = copied-long newer width _ n window ((n + 32) * (n + 32)) n n own-room ∙ window-long
+  pels-long = stored-long _ n window ((n + 32) * (n + 32)) n n own-room ∙ window-long
 
   pub pels-small : Bytes older → Bytes newer → ((u : ℕ) → u < area n → getD first u 0 ≤ 255) → (u : ℕ) → u < area n
       → getD both u 0 ≤ 255
   pels-small olds news small u h =
-      copied-most newer width _ n window ((n + 32) * (n + 32)) n n 255 u own-room news
-      (copied-most older width _ (reach b .columns + n - 1) first 0 (n + 32) (reach b .rows + n - 1) 255 u window-room olds (small u h))
+      stored-most _ n window ((n + 32) * (n + 32)) n n 255 u own-room (λ i j. news _)
+      (stored-most _ (reach b .columns + n - 1) first 0 (n + 32) (reach b .rows + n - 1) 255 u window-room (λ i j. olds _) (small u h))
 
   pub window-pel : (i j p q : ℕ) → InReach (reach b) i j → p < n → q < n
       → getD both ((n + 32) * (i - reach b .top + p) + (j - reach b .left + q)) 0
@@ -119,10 +105,10 @@ module _ (older newer : List ℕ) (b : SearchBlock) (s : Standing b) (some : 0 <
       let o = older-at (b .y) (b .x) i j (omega (arith, k .first-row, h .top)) (omega (arith, k .first-column, h .left)) in
       let e : (n + 32) * (i - r .top + p) + (j - r .left + q) ≡ 0 + (i - r .top + p) * (n + 32) + (j - r .left + q) =
       omega (arith, mul-comm (n + 32) (i - r .top + p)) in
-      copied-before newer width _ n window ((n + 32) * (n + 32)) n n _ own-room
+      stored-before _ n window ((n + 32) * (n + 32)) n n _ 0 own-room
       (omega (arith, e, row-fits (i - r .top + p) (n + 32) (n + 32) (omega (arith, row, sides .0)), column, sides .1))
       ∙ ap (λ (u : ℕ). getD window u 0) e
-      ∙ copied-pel older width _ (r .columns + n - 1) first 0 (n + 32) (r .rows + n - 1) _ _ window-room (sides .1) row column
+      ∙ stored-in _ (r .columns + n - 1) first 0 (n + 32) (r .rows + n - 1) _ _ 0 window-room (sides .1) row column
       ∙ ap (λ (u : ℕ). getD older u 0) (further width (b .y + r .top - 16) (b .x + r .left - 16) (i - r .top + p) (j - r .left + q))
       ∙ rw (o .0, o .1, moved (b .y) i (r .top) p (h .top) (k .first-row), moved (b .x) j (r .left) q (h .left) (k .first-column)) refl
 
@@ -131,5 +117,5 @@ module _ (older newer : List ℕ) (b : SearchBlock) (s : Standing b) (some : 0 <
   own-pel p q hp hq =
       let e : (n + 32) * (n + 32) + (n * p + q) ≡ (n + 32) * (n + 32) + p * n + q = omega (arith, mul-comm n p) in
       ap (λ (u : ℕ). getD both u 0) e
-      ∙ copied-pel newer width _ n window ((n + 32) * (n + 32)) n n p q own-room (omega arith) hp hq
+      ∙ stored-in _ n window ((n + 32) * (n + 32)) n n p q 0 own-room (omega arith) hp hq
       ∙ ap (λ (u : ℕ). getD newer u 0) (further width (b .y) (b .x) p q)

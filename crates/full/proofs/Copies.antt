@@ -11,6 +11,7 @@ use native.Mathlib.Nat.{add-mul}
 use native.Mathlib.Omega.{arith}
 use lib.ListN.{length, getD}
 use Rattle.base.specs.Sum.{sumOver-ext}
+use Rattle.base.specs.Lists.{stored-long, stored-in}
 use Rattle.measures.specs.Measures.{measureOf}
 use Rattle.frame.specs.Pictures.{pairOf}
 use Rattle.frame.specs.declared.SearchBlock.{SearchBlock}
@@ -19,7 +20,6 @@ use Rattle.search.specs.Exhaustive.{gridVector}
 use Rattle.reach.specs.Reach.{Standing, reach, InReach}
 use Rattle.reach.specs.Keys.{keyOf}
 use Rattle.reach.proofs.Candidates.{reach-bounds, older-at}
-use Rattle.window_copy.proofs.Copies.{copied-pel, copied-long}
 use Rattle.full.specs.Rows.{windowCopy, blockCopy, keyInCopy, keyAt}
 
 -- p rows and q columns on from a place that is i rows and j columns on
@@ -62,8 +62,7 @@ module _ (older : List ℕ) (b : SearchBlock) (s : Standing b) (small : b .setti
       rw (moved (b .y) i (r .top) (h .top) (k .first-row), moved (b .x) j (r .left) (h .left) (k .first-column)) at
       (further width row (b .x + r .left - 16) (i - r .top) (j - r .left) p q) in
       ap (λ (k : ℕ). getD (windowCopy older b window) k 0) (within i j (r .top) (r .left) p q (h .top) (h .left))
-      ∙ copied-pel older width (row * width + (b .x + r .left - 16)) (r .columns + n - 1) window (64 * r .top + r .left) 64 (r .rows + n - 1)
-      (i - r .top + p) (j - r .left + q)
+      ∙ stored-in _ (r .columns + n - 1) window (64 * r .top + r .left) 64 (r .rows + n - 1) (i - r .top + p) (j - r .left + q) 0
       (rw window-long (fits .0))
       (fits .1)
       (in-window i (r .top) (r .rows) n p (h .top) (h .bottom) hp)
@@ -75,9 +74,7 @@ module _ (older : List ℕ) (b : SearchBlock) (s : Standing b) (small : b .setti
       let r = reach b in
       let k = reach-bounds b s in
       let fits = room (r .top) (r .left) (r .rows) (r .columns) n (k .few-rows) (k .few-columns) (k .rows) (k .columns) small in
-      copied-long older width ((b .y + r .top - 16) * width + (b .x + r .left - 16)) (r .columns + n - 1) window (64 * r .top + r .left) 64 (r .rows + n - 1)
-      (rw window-long (fits .0))
-      ∙ window-long
+      stored-long _ (r .columns + n - 1) window (64 * r .top + r .left) 64 (r .rows + n - 1) (rw window-long (fits .0)) ∙ window-long
 
 -- in reach, the rows of the two blocks in the frames have the distortion of that vector
 pub in-frames : (older newer : List ℕ) (b : SearchBlock) → Standing b → (i j : ℕ) → InReach (reach b) i j → let s = b .setting in
@@ -95,7 +92,7 @@ module _ (older newer : List ℕ) (b : SearchBlock) (s : Standing b) (small : b 
   pub copies-long : (length (windowCopy older b window) ≡ 4096) × (length (blockCopy newer b block) ≡ 2048)
   copies-long = (
     window-copy-long older b s small window window-long,
-    copied-long newer (b .setting .width) (b .y * b .setting .width + b .x) (b .setting .n) block 0 64 (b .setting .n) (omega arith) ∙ block-long,
+    stored-long _ (b .setting .n) block 0 64 (b .setting .n) (omega arith) ∙ block-long,
   )
 
   pub in-copy : (i j : ℕ) → InReach (reach b) i j
@@ -104,7 +101,7 @@ module _ (older newer : List ℕ) (b : SearchBlock) (s : Standing b) (small : b 
   unfolding rowFrom
   in-copy i j h =
       sumOver-ext (b .setting .n) (b .setting .n) _ _ (λ p q hp hq. ap₂ (measureOf (b .setting .measure) .diff)
-      (copied-pel newer (b .setting .width) (b .y * b .setting .width + b .x) (b .setting .n) block 0 64 (b .setting .n) p q (omega arith) (omega arith) hp hq)
+      (stored-in _ (b .setting .n) block 0 64 (b .setting .n) p q 0 (omega arith) (omega arith) hp hq)
       (window-pel older b s small window window-long i j p q h hp hq))
       ∙ in-frames older newer b s i j h
 

@@ -10,12 +10,12 @@ use native.Mathlib.Omega.{arith}
 use native.Mathlib.Decide.{ℕ-discrete}
 use lib.ListN.{length, getD}
 use Rattle.base.specs.Sum.{sumTo-ext, sumTo-group, sumOver-ext}
+use Rattle.base.specs.Lists.{stored-long, stored-in, stored-before}
 use Rattle.base.specs.Rows.{in-rows-at}
 use Rattle.measures.specs.Measures.{Measure, measureOf}
 use Rattle.frame.specs.declared.SearchBlock.{SearchBlock}
 use Rattle.distortion.specs.Blocks.{rowFrom, rowsApart, rowsFrom}
 use Rattle.window_copy.specs.Copy.{copiedRows}
-use Rattle.window_copy.proofs.Copies.{copied-pel, copied-long, copied-before}
 use Rattle.reach.specs.Reach.{Standing, reach, InReach}
 use Rattle.reach.specs.Keys.{orderCode, keyOf}
 use Rattle.reach.proofs.Candidates.{reach-small}
@@ -70,19 +70,19 @@ module _ (newer : List ℕ) (b : SearchBlock) (block : List ℕ) (block-long : l
   once = copiedRows newer width here 8 block 0 8 8
 
   once-long : length once ≡ 128
-  once-long = copied-long newer width here 8 block 0 8 8 (omega arith) ∙ block-long
+  once-long = stored-long _ 8 block 0 8 8 (omega arith) ∙ block-long
 
   pub twice-long : length (blockTwice newer b block) ≡ 128
-  twice-long = copied-long newer width here 8 once 64 8 8 (omega (arith, once-long)) ∙ once-long
+  twice-long = stored-long _ 8 once 64 8 8 (omega (arith, once-long)) ∙ once-long
 
   -- a pel of the first copy, and of the second
   first-pel : (p q : ℕ) → p < 8 → q < 8 → getD (blockTwice newer b block) (0 + p * 8 + q) 0 ≡ getD newer (here + p * width + q) 0
   first-pel p q hp hq =
-      copied-before newer width here 8 once 64 8 8 (0 + p * 8 + q) (omega (arith, once-long)) (omega arith)
-      ∙ copied-pel newer width here 8 block 0 8 8 p q (omega arith) (omega arith) hp hq
+      stored-before _ 8 once 64 8 8 (0 + p * 8 + q) 0 (omega (arith, once-long)) (omega arith)
+      ∙ stored-in _ 8 block 0 8 8 p q 0 (omega arith) (omega arith) hp hq
 
   second-pel : (p q : ℕ) → p < 8 → q < 8 → getD (blockTwice newer b block) (64 + p * 8 + q) 0 ≡ getD newer (here + p * width + q) 0
-  second-pel p q hp hq = copied-pel newer width here 8 once 64 8 8 p q (omega (arith, once-long)) (omega arith) hp hq
+  second-pel p q hp hq = stored-in _ 8 once 64 8 8 p q 0 (omega (arith, once-long)) (omega arith) hp hq
 
   pub twice-is : Twice (blockTwice newer b block)
   twice-is c h =

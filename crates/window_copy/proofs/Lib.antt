@@ -1,3 +1,2 @@
 pub mod Half
-pub mod Copies
 pub mod Grey

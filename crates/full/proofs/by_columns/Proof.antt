@@ -76,10 +76,11 @@ copy-rows-requires-2 c κs =
 columns-least-requires : tie.Need-columns-least-requires
 columns-least-requires c κs =
     let k = c .before .before .before in
+    let a = start k .args in
     let p = start k .pre in (
-      rw (window-is k) (window-copy-long _ _ (ready-standing _ _ _ (p .0)) (size _ _ _ (p .0)) _ refl),
-      rw (block-is k) (twice-long _ (start k .args .b) _ refl),
-      rw (block-is k) (twice-is _ (start k .args .b) _ refl),
+      rw (window-is k) (window-copy-long (now (a .older)) (a .b) (ready-standing _ _ _ (p .0)) (size _ _ _ (p .0)) (replicate 4096 0) refl),
+      rw (block-is k) (twice-long (now (a .newer)) (a .b) (replicate 128 0) refl),
+      rw (block-is k) (twice-is (now (a .newer)) (a .b) (replicate 128 0) refl),
       rw (p .1) (around _ _ _ (p .0)),
       p .2 ∙ sym (keys k 16 16 (middle _ _ _ (p .0))),
     )
