@@ -1,6 +1,7 @@
 -- 01, "Field, reading, track": "A single-block search takes neither list nor table; its block stands at any pel row and column."
 --   searchRefusal   1 2 3 4 51 5 6 7: a request, and the block's place
 --   searchBlock     the answer: the number and zeros, or what the requested search finds
+--   OwnResult       what every search owes: its vector is a candidate, with its own distortion
 -- The counts of four-step where a block stands clear of every border: proofs/Unclipped.antt.
 use Prim.Native.Nat.{ℕ, _+_, _≤_}
 use mathlib.Core.Path.{_≡_, ap, sym, _∙_}
@@ -13,11 +14,13 @@ use lib.ListN.{length}
 use Rattle.base.specs.Tests.{le-both}
 use Rattle.refusals.specs.declared.Request.{Request}
 use Rattle.frame.specs.Pictures.{Pair, pairOf}
+use Rattle.frame.specs.Candidates.{Candidate}
 use Rattle.refusals.specs.Refusals.{unless, firstRefusal, placeOk, requestRefusal, settingOf}
 use Rattle.refusals.specs.Refusals.{unless-zero, first-refusal-zero, first-refusal-none, Placed, Requested, requested}
 use Rattle.search.specs.declared.SearchResult.{SearchResult}
 use Rattle.search.specs.Target.{target}
-use Rattle.search.specs.SearchResult.{refusedSearch}
+use Rattle.distortion.specs.Blocks.{distortion}
+use Rattle.search.specs.SearchResult.{refusedSearch, vectorIn}
 use Rattle.probe.specs.BestSoFar.{resultOf}
 use Rattle.four_step.specs.FourStep.{fourStep}
 use Rattle.cross.specs.Cross.{cross}
@@ -39,6 +42,10 @@ unfoldable pub searchBlock : List ℕ → List ℕ → Request → ℕ → ℕ �
 searchBlock older newer q y x =
     let refusal = searchRefusal (length older) (length newer) q y x in
     cond (eqb refusal 0) (searchBy (pairOf older newer (settingOf q)) q y x) (refusedSearch refusal)
+
+pub record OwnResult (p : Pair) (w y x : ℕ) (f : SearchResult) : Type 0 where
+  pub chosen : Candidate (p .setting) w y x (vectorIn f)
+  pub reported : f .distortion ≡ distortion p y x (vectorIn f)
 
 -- ---- what an accepted call may go by
 
