@@ -3,6 +3,7 @@
 --   shiftedBy   a coordinate moved by an offset, inside 0 ..= last or outside
 --   movedBy     a track's place moved by a travel, inside -1,000,000 ..= 1,000,000 or outside
 --   bias        d + b as a natural number, and back: unbias
+--   doubled     d + d
 --   signedByte  the number whose two's complement is a byte, and back: byteOf
 use Prim.Native.Nat.{ℕ, suc, _+_, _-_, _≤_, _<_}
 use mathlib.Core.Path.{_≡_, refl, ap, _∙_}
@@ -105,6 +106,10 @@ bias b d = up (d +ℤ pos b)
 
 unfoldable pub unbias : ℕ → ℕ → ℤ
 unbias b u = pos u -ℤ pos b
+
+-- a number of pels in half pels
+abbrev pub doubled : ℤ → ℤ
+doubled d = d +ℤ d
 
 -- the number whose two's complement is a byte, and back
 unfoldable pub signedByte : ℕ → ℤ

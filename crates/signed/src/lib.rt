@@ -4,8 +4,8 @@
 ghost use mathlib.Core.Path.{_≡_};
 ghost use Prim.Native.Nat.{_≤_, _<_};
 ghost use lib.Dec.{leb};
-ghost use lib.IntN.{natAbs, negℤ};
-ghost use Rattle.signed.specs.Values.{absDiff, shiftedBy, movedBy, bias, unbias, signedByte, byteOf};
+ghost use lib.IntN.{natAbs, negℤ, _+ℤ_};
+ghost use Rattle.signed.specs.Values.{absDiff, shiftedBy, movedBy, bias, unbias, doubled, signedByte, byteOf};
 
 // A byte as a number.
 pub fn wide_u8(b: u8) -> u32
@@ -105,6 +105,14 @@ pub fn unbiased(u: usize) -> i32
     ensures { λ r. ⌜ r ≡ unbias 16 u ⌝ }
 {
     (u as i32) - 16
+}
+
+// d whole pels and u - 1 half ones, in half pels.
+pub fn half_part(d: i32, u: usize) -> i32
+    requires { ⌜ (natAbs d ≤ 16) × (u ≤ 2) ⌝ }
+    ensures { λ r. ⌜ r ≡ doubled d +ℤ unbias 1 u ⌝ }
+{
+    d + d + ((u as i32) - 1)
 }
 
 // A track's place after a travel.

@@ -5,10 +5,7 @@ use native.Mathlib.Omega.{arith}
 use borrow.Author.Needs.{needs}
 use denote.Ref.{now}
 use lib.ListN.{length}
-use mir.Facts.{toZ-ofZ}
-use mir.Syntax.{w32}
-use mir.Val.{SFits, toZ, ofZ}
-use lib.IntN.{ℤ, pos, negsuc, natAbs}
+use Rattle.signed.proofs.Machine.{through}
 use Rattle.frame.specs.Grid.{blocks, blocks-few}
 use Rattle.frame.specs.Pictures.{pairOf, Fitting}
 use Rattle.refusals.specs.Refusals.{settingOf, requested}
@@ -70,14 +67,6 @@ put-entry-requires : tie.Need-put-entry-requires Inv-loop μ-loop
 put-entry-requires c κs =
     let d = c .before .before .before in
     (omega (arith, room d, d .before .before .loop .inv .2 .long), omega (arith, d .search-at .ensures .1 .distortion))
-
--- a part of a vector of window 16 is a number of 32 bits
-part-fits : (z : ℤ) → natAbs z ≤ 16 → SFits w32 z
-part-fits (pos n) h = record { sfits = omega arith }
-part-fits (negsuc n) h = record { sfits = omega arith }
-
-through : (z : ℤ) → natAbs z ≤ 16 → toZ w32 (ofZ w32 z) ≡ z
-through z h = toZ-ofZ (part-fits z h)
 
 is-voter-at-requires : tie.Need-is-voter-at-requires Inv-loop μ-loop
 is-voter-at-requires c κs =
