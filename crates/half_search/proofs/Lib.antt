@@ -1,0 +1,3 @@
+pub mod Best
+pub mod Leading
+pub mod Answer
