@@ -11,11 +11,12 @@
  * A frame is lent as a pointer and its length in bytes, and only read; a list and a table are lent as a pointer and their length in
  * numbers, and filled; a log and a buffer as a pointer and their length in bytes. A pointer must lead to as much memory as is said, must
  * not be null, not even where the length is 0, and memory that is filled shares no byte with any other that is lent; the two frames may be the
- * same memory. A search, a field and a step need about 50 kB of stack, any other call less than 2 kB; nothing is taken from the heap.
+ * same memory. Search 2 needs up to 125 kB of stack, in a field, in a step and to half a pel too, the other searches up to 15 kB, any other call
+ * less than 2 kB; nothing is taken from the heap.
  *
- * An answer is a struct by value whose first number is `refusal` (in gauge_stepped: answer.refusal): 0 where the call is accepted, else
- * the number of the first rule that the input, the track or the cursor breaks, in the order given at the call as "Tests ..".
- * gauge_track_new and gauge_print_log refuse nothing and have none. In a refused answer everything else is 0, but for
+ * An answer is a struct by value whose first number is `refusal` (in gauge_half: found.refusal, in gauge_stepped: answer.refusal): 0 where
+ * the call is accepted, else the number of the first rule that the input, the track or the cursor breaks, in the order given at the call as
+ * "Tests ..". gauge_track_new and gauge_print_log refuse nothing and have none. In a refused answer everything else is 0, but for
  *   - the track of gauge_homed and gauge_stepped, which is handed back as it was;
  *   - the place of the refusal, in gauge_written, gauge_log_read and gauge_walked;
  *   - `next` of gauge_walked, which keeps the cursor's `at` and has phase 3.
@@ -121,6 +122,21 @@ typedef struct {
 /* Searches the block that stands at (row, column), on the grid or off it. Tests 1 2 3 4 51 5 6 7. */
 gauge_found gauge_search_block(const uint8_t *older, size_t older_length, const uint8_t *newer, size_t newer_length,
                                gauge_request request, size_t row, size_t column);
+
+/* What a search of one block to half a pel answers. */
+typedef struct {
+    gauge_found found;        /* the search's own answer: gauge_search_block's to the same inputs, whether accepted or refused */
+    int32_t half_dy, half_dx; /* the vector in half pels, each part -33 to 33: the found one's twice, or 1 more or less; 0 where refused */
+    uint32_t half_distortion; /* and its distortion, by the measure asked for, never above the found one's; 0 where refused */
+} gauge_half;
+
+/* Searches the block as gauge_search_block does, by any of the four searches, then tries the eight half-pel neighbours of the vector found, by the
+ * same measure. The older frame's value between two pels is (a + b + 1) / 2, between four (a + b + c + d + 2) / 4, rounded down. A neighbour counts
+ * if all pels that it needs are inside the older frame, N + 1 rows where its half_dy is odd and N + 1 columns where its half_dx is; the window does
+ * not matter. The least distortion wins; of equals the found vector, then the neighbour whose offset from it, in half pels, comes first in (-1,0),
+ * (0,-1), (0,1), (1,0), (-1,-1), (-1,1), (1,-1), (1,1). The neighbours are not counted in `found`. Tests 1 2 3 4 51 5 6 7. */
+gauge_half gauge_search_half(const uint8_t *older, size_t older_length, const uint8_t *newer, size_t newer_length,
+                             gauge_request request, size_t row, size_t column);
 
 /* What the field of a pair answers. A block votes if its largest newer pel exceeds its smallest by 8 or more: all vectors look alike to a blank
  * one. Where no block votes, a field is accepted all the same: its reading is (0,0), with 0 votes of 0 voters; a step is refused by 52. */

@@ -1,8 +1,8 @@
 /* include/gauge.h and include/gauge_text.c as C sees them: the layout of every struct against what the archive hands over, for every call
  * one that is accepted and one that is refused, in numbers that are all different, and what lent memory holds after each; the two
- * measures, and where the refusal of any other stands among the refusals; the ceiling around the sum at every row's end; which blocks vote, and
- * what a pair without a voter answers; blocks of 32, and logs with every command; the refusals by name and by text, and the lengths that the
- * macros give. The rules behind the numbers are tested by tests/rival.
+ * measures, and where the refusal of any other stands among the refusals; the ceiling around the sum at every row's end; the values between pels,
+ * which neighbours half a pel away count and which of equals wins; which blocks vote, and what a pair without a voter answers; blocks of 32, and logs
+ * with every command; the refusals by name and by text, and the lengths that the macros give. The rules behind the numbers are tested by tests/rival.
  *
  * What differs is printed as FILE:LINE: CALL: MEMBER: got THIS, wanted THAT. */
 #include <stdio.h>
@@ -74,6 +74,10 @@ static void same_place(int line, const char *array, size_t place, int64_t got, i
 #define SAME_FOUND(got, refusal_, dy_, dx_, distortion_) \
     (SAME(got.refusal, refusal_), SAME(got.dy, dy_), SAME(got.dx, dx_), SAME(got.distortion, distortion_))
 
+/* gauge_half, but for what the search has found */
+#define SAME_HALF(got, half_dy_, half_dx_, half_distortion_) \
+    (SAME(got.half_dy, half_dy_), SAME(got.half_dx, half_dx_), SAME(got.half_distortion, half_distortion_))
+
 #define SAME_READING(got, refusal_, dy_, dx_, votes_, voters_) \
     (SAME(got.refusal, refusal_), SAME(got.dy, dy_), SAME(got.dx, dx_), SAME(got.votes, votes_), SAME(got.voters, voters_))
 
@@ -118,6 +122,12 @@ HAS(gauge_found, distortion, uint32_t, 12);
 HAS(gauge_found, counts, uint32_t *, 16);
 HAS(gauge_found, dropped, uint32_t, 40);
 SIZE(gauge_found, 44);
+
+HAS(gauge_half, found, gauge_found, 0);
+HAS(gauge_half, half_dy, int32_t, 44);
+HAS(gauge_half, half_dx, int32_t, 48);
+HAS(gauge_half, half_distortion, uint32_t, 52);
+SIZE(gauge_half, 56);
 
 HAS(gauge_field_answer, refusal, uint32_t, 0);
 HAS(gauge_field_answer, dy, int32_t, 4);
@@ -315,6 +325,45 @@ static void searching(void)
     SAME_COUNTS(found, 0, 0, 0, 0, 0, 0, 0);
 }
 
+static void searching_half(void)
+{
+    call = "gauge_search_half";
+    gauge_half half = gauge_search_half(older, PELS, newer, PELS, pruned, 3, 20);
+    SAME_FOUND(half.found, GAUGE_ACCEPTED, 2, -5, 1600);
+    SAME_COUNTS(half.found, 0, 247, 139, 133, 132, 122, 125);
+    SAME_HALF(half, 4, -10, 1600);
+
+    /* A search that the threshold ends. */
+    gauge_request cross = {WIDTH, HEIGHT, N, 4, 8, 2773, 1};
+    half = gauge_search_half(older, PELS, newer, PELS, cross, 3, 20);
+    SAME_FOUND(half.found, GAUGE_ACCEPTED, 0, 0, 2772);
+    SAME_COUNTS(half.found, 0, 0, 0, 0, 0, 1, 0);
+    SAME_HALF(half, -1, -1, 2320);
+
+    static const struct {
+        uint32_t n, measure, row, column;
+        int32_t dy, dx, distortion, half_dy, half_dx, half_distortion;
+    } wanted[] = {
+        {4, 1, 0, 45, 8, 1, 97, 17, 1, 79},         {4, 2, 0, 5, 1, -1, 683, 2, -3, 489},      {8, 1, 3, 0, 9, 0, 606, 19, 0, 549},
+        {8, 2, 9, 0, 7, 0, 9953, 15, 0, 7343},      {16, 1, 12, 35, 2, -5, 1604, 4, -9, 1591}, {16, 1, 15, 0, -7, 0, 2811, -13, 1, 2558},
+        {16, 1, 21, 20, 0, -1, 2476, -1, -3, 2189}, {16, 2, 0, 0, 9, 0, 43232, 17, 0, 36121},
+    };
+    for (size_t i = 0; i < sizeof wanted / sizeof *wanted; i++)
+        for (uint32_t search = 1; search <= 2; search++) {
+            call_of("gauge_search_half, block", (uint32_t)i);
+            gauge_request request = {WIDTH, HEIGHT, wanted[i].n, search, W, 0, wanted[i].measure};
+            half = gauge_search_half(older, PELS, newer, PELS, request, wanted[i].row, wanted[i].column);
+            SAME_FOUND(half.found, GAUGE_ACCEPTED, wanted[i].dy, wanted[i].dx, wanted[i].distortion);
+            SAME_HALF(half, wanted[i].half_dy, wanted[i].half_dx, wanted[i].half_distortion);
+        }
+
+    call = "gauge_search_half";
+    half = gauge_search_half(older, PELS, newer, PELS, pruned, 3, 42);
+    SAME_FOUND(half.found, GAUGE_BAD_PLACE, 0, 0, 0);
+    SAME_COUNTS(half.found, 0, 0, 0, 0, 0, 0, 0);
+    SAME_HALF(half, 0, 0, 0);
+}
+
 /* ---- fields and the track */
 
 static void fields(void)
@@ -489,6 +538,14 @@ static void large_block(void)
     found = gauge_search_block(large_older, LARGE_PELS, large_newer, LARGE_PELS, large_request(2, W, 1), 40, 3);
     SAME_FOUND(found, GAUGE_BAD_PLACE, 0, 0, 0);
     SAME_COUNTS(found, 0, 0, 0, 0, 0, 0, 0);
+
+    call = "gauge_search_half, N 32";
+    gauge_half half = gauge_search_half(large_older, LARGE_PELS, large_newer, LARGE_PELS, large_request(2, W, 1), 39, 66);
+    SAME_FOUND(half.found, GAUGE_ACCEPTED, -9, -9, 82208);
+    SAME_HALF(half, -19, -19, 81487);
+    half = gauge_search_half(large_older, LARGE_PELS, large_newer, LARGE_PELS, large_request(2, W, 2), 26, 44);
+    SAME_FOUND(half.found, GAUGE_ACCEPTED, 9, -9, 1492331);
+    SAME_HALF(half, 17, -19, 1426347);
 
     /* 4, 8, 16 and 32 alone. */
     for (size_t n = 0; n <= 71; n++) {
@@ -723,6 +780,9 @@ static void largest_distortions(void)
                 gauge_request request = {SIDE, SIDE, n, search, search == 3 ? 7 : 16, 0, measure};
                 gauge_found found = gauge_search_block(dark, ALL, light, ALL, request, 0, 0);
                 SAME_FOUND(found, GAUGE_ACCEPTED, 0, 0, most);
+                gauge_half half = gauge_search_half(dark, ALL, light, ALL, request, 0, 0);
+                SAME_FOUND(half.found, GAUGE_ACCEPTED, 0, 0, most);
+                SAME_HALF(half, 0, 0, most);
                 const size_t blocks = (SIDE / n) * (SIDE / n);
                 memset(numbers, 255, sizeof numbers);
                 gauge_field_answer answer = gauge_field(light, ALL, dark, ALL, request, numbers, 3 * blocks, table, TABLE);
@@ -834,13 +894,23 @@ static void ceilings(void)
     }
 }
 
-/* A request that a search, a field and a step refuse alike, and before the place, the lengths of list and table and the track, which are bad
- * too. */
+/* The search to half a pel, refused so, with zeros behind the number. */
+#define HALF_REFUSED(refusal_, ...)                          \
+    do {                                                     \
+        gauge_half refused = gauge_search_half(__VA_ARGS__); \
+        SAME_FOUND(refused.found, refusal_, 0, 0, 0);        \
+        SAME_COUNTS(refused.found, 0, 0, 0, 0, 0, 0, 0);     \
+        SAME_HALF(refused, 0, 0, 0);                         \
+    } while (0)
+
+/* A request that a search, to half a pel too, a field and a step refuse alike, and before the place, the lengths of list and table and the track,
+ * which are bad too. */
 static void all_refuse(gauge_request request, uint32_t refusal)
 {
     gauge_found found = gauge_search_block(older, PELS, newer, PELS, request, 3, 42);
     SAME_FOUND(found, refusal, 0, 0, 0);
     SAME_COUNTS(found, 0, 0, 0, 0, 0, 0, 0);
+    HALF_REFUSED(refusal, older, PELS, newer, PELS, request, 3, 42);
     lend();
     gauge_field_answer answer = gauge_field(older, PELS, newer, PELS, request, list, LIST - 1, table, TABLE - 1);
     SAME_READING(answer, refusal, 0, 0, 0, 0);
@@ -899,6 +969,130 @@ static void thresholds(void)
             gauge_request cross = {WIDTH, HEIGHT, n, 4, 8, limits[i].t, limits[i].measure};
             SAME(gauge_search_block(older, PELS, newer, PELS, cross, 3, 20).refusal, limits[i].refusal);
         }
+}
+
+/* ---- half a pel */
+
+/* Pairs in which four numbers are repeated all over the older frame, two to a row, and one over the newer; and both frames may have a slope, 2 a row
+ * or a column. Blocks of 4 by window 0, so that (0,0) is found: its distortion by absolute and by squares, the winner in half pels and its
+ * distortions. A larger N has a frame larger by as much, and distortions larger by the pels. */
+static const struct {
+    const char *what;
+    uint8_t older[4], newer, down, right;
+    uint8_t width, height, row, column;
+    uint32_t found[2];
+    int8_t half_dy, half_dx;
+    uint32_t half[2];
+} repeated[] = {
+    /* 1 more or less is half a pel along a slope of 2. At the border nothing is beyond, and a frame 4 high has no row above or below. */
+    {"right", {0, 0, 0, 0}, 1, 0, 2, 5, 4, 0, 0, {16, 16}, 0, 1, {0, 0}},
+    {"right, at the border", {0, 0, 0, 0}, 1, 0, 2, 5, 4, 0, 1, {16, 16}, 0, 0, {16, 16}},
+    {"left", {1, 1, 1, 1}, 0, 0, 2, 5, 4, 0, 1, {16, 16}, 0, -1, {0, 0}},
+    {"left, at the border", {1, 1, 1, 1}, 0, 0, 2, 5, 4, 0, 0, {16, 16}, 0, 0, {16, 16}},
+    {"down", {0, 0, 0, 0}, 1, 2, 0, 4, 5, 0, 0, {16, 16}, 1, 0, {0, 0}},
+    {"down, at the border", {0, 0, 0, 0}, 1, 2, 0, 4, 5, 1, 0, {16, 16}, 0, 0, {16, 16}},
+    {"up", {1, 1, 1, 1}, 0, 2, 0, 4, 5, 1, 0, {16, 16}, -1, 0, {0, 0}},
+    {"up, at the border", {1, 1, 1, 1}, 0, 2, 0, 4, 5, 0, 0, {16, 16}, 0, 0, {16, 16}},
+
+    /* (a + b + 1) / 2: of 0 and 1 it is 1. */
+    {"0 and 1 make 1", {0, 1, 0, 1}, 1, 0, 0, 5, 4, 0, 0, {8, 8}, 0, 1, {0, 0}},
+    {"0 and 1 do not make 0", {0, 1, 0, 1}, 0, 0, 0, 5, 4, 0, 0, {8, 8}, 0, 0, {8, 8}},
+    {"254 and 255 make 255", {254, 254, 255, 255}, 255, 0, 0, 4, 5, 0, 0, {8, 8}, 1, 0, {0, 0}},
+
+    /* (a + b + c + d + 2) / 4, rounded down where the four make 1, rounded up where they make 10. */
+    {"0, 0, 0 and 1 make 0", {1, 0, 0, 0}, 0, 0, 0, 5, 5, 0, 0, {4, 4}, 1, 1, {0, 0}},
+    {"three of 255 and 253 make 255", {253, 255, 255, 255}, 255, 0, 0, 5, 5, 0, 0, {8, 16}, 1, 1, {0, 0}},
+    {"0, 3, 2 and 5 make 3", {0, 1, 0, 1}, 3, 2, 2, 5, 5, 0, 0, {40, 104}, 1, 1, {0, 0}},
+
+    /* Ties. Between any pels of a chequered frame there is 5: the first neighbour that counts. */
+    {"chequered", {0, 10, 10, 0}, 5, 0, 0, 6, 6, 1, 1, {80, 400}, -1, 0, {0, 0}},
+    {"chequered, at the top", {0, 10, 10, 0}, 5, 0, 0, 6, 6, 0, 1, {80, 400}, 0, -1, {0, 0}},
+    {"chequered, top left", {0, 10, 10, 0}, 5, 0, 0, 6, 6, 0, 0, {80, 400}, 0, 1, {0, 0}},
+    {"chequered, as wide as a block", {0, 10, 10, 0}, 5, 0, 0, 4, 6, 0, 0, {80, 400}, 1, 0, {0, 0}},
+    {"chequered, at the bottom", {0, 10, 10, 0}, 5, 0, 0, 4, 6, 2, 0, {80, 400}, -1, 0, {0, 0}},
+    {"chequered, no larger than a block", {0, 10, 10, 0}, 5, 0, 0, 4, 4, 0, 0, {80, 400}, 0, 0, {80, 400}},
+    /* Between four there is 2, between two 4 or 0: the first diagonal one that counts, else the first of the others. */
+    {"dotted", {8, 0, 0, 0}, 2, 0, 0, 6, 6, 1, 1, {48, 192}, -1, -1, {0, 0}},
+    {"dotted, at the left", {8, 0, 0, 0}, 2, 0, 0, 6, 6, 2, 0, {48, 192}, -1, 1, {0, 0}},
+    {"dotted, at the top", {8, 0, 0, 0}, 2, 0, 0, 6, 6, 0, 2, {48, 192}, 1, -1, {0, 0}},
+    {"dotted, top left", {8, 0, 0, 0}, 2, 0, 0, 6, 6, 0, 0, {48, 192}, 1, 1, {0, 0}},
+    {"dotted, bottom right", {8, 0, 0, 0}, 2, 0, 0, 6, 6, 2, 2, {48, 192}, -1, -1, {0, 0}},
+    {"dotted, as high as a block", {8, 0, 0, 0}, 2, 0, 0, 6, 4, 0, 1, {48, 192}, 0, -1, {32, 64}},
+    /* All nine alike: the one found. */
+    {"flat", {7, 7, 7, 7}, 9, 0, 0, 6, 6, 1, 1, {32, 64}, 0, 0, {32, 64}},
+    {"0 against 254", {0, 0, 0, 0}, 254, 0, 0, 6, 6, 1, 1, {4064, 1032256}, 0, 0, {4064, 1032256}},
+};
+
+static void half_pels(void)
+{
+    enum { MOST = 34 * 34 };
+    static uint8_t was[MOST], is[MOST];
+    for (size_t i = 0; i < sizeof repeated / sizeof *repeated; i++)
+        for (uint32_t n = 4; n <= 32; n *= 2) {
+            static char text[100];
+            snprintf(text, sizeof text, "gauge_search_half, %s, N %u", repeated[i].what, (unsigned)n);
+            call = text;
+            const size_t width = repeated[i].width + n - 4, height = repeated[i].height + n - 4, pels = width * height;
+            for (size_t r = 0; r < height; r++)
+                for (size_t c = 0; c < width; c++) {
+                    const size_t slope = repeated[i].down * r + repeated[i].right * c;
+                    was[r * width + c] = (uint8_t)(slope + repeated[i].older[r % 2 * 2 + c % 2]);
+                    is[r * width + c] = (uint8_t)(slope + repeated[i].newer);
+                }
+            for (uint32_t measure = 1; measure <= 2; measure++) {
+                /* By window 0; and by cross, which the largest threshold ends. */
+                const gauge_request requests[] = {
+                    {width, height, n, 1, 0, 0, measure},
+                    {width, height, n, 2, 0, 0, measure},
+                    {width, height, n, 4, 2, measure == 1 ? 261120 : 66585600, measure},
+                };
+                for (size_t k = 0; k < 3; k++) {
+                    gauge_half half = gauge_search_half(was, pels, is, pels, requests[k], repeated[i].row, repeated[i].column);
+                    SAME_FOUND(half.found, GAUGE_ACCEPTED, 0, 0, repeated[i].found[measure - 1] * (n * n / 16));
+                    SAME(half.found.counts[5], 1);
+                    SAME_HALF(half, repeated[i].half_dy, repeated[i].half_dx, repeated[i].half[measure - 1] * (n * n / 16));
+                }
+            }
+        }
+}
+
+/* The older frame has 0 10 0 10 0 in five columns or rows at one end and 200 in all others, the newer 5 everywhere. The block at the other end has
+ * four of the five by a vector of 16 or -16, and 5 between them half a pel on, beyond the window; if the frame is cut off before the fifth it has
+ * not. */
+static void half_beyond_window(void)
+{
+    static uint8_t was[4 * 21], fives[4 * 21];
+    memset(fives, 5, sizeof fives);
+    for (int way = 0; way < 8; way++) {
+        const bool is_down = way & 1, is_back = way & 2, is_cut = way & 4;
+        call_of("gauge_search_half, beyond window 16, way", (uint32_t)way);
+        const int along = is_cut ? 20 : 21, pels = 4 * along, width = is_down ? 4 : along;
+        const int first = is_back ? along - 21 : 16, place = is_back ? along - 4 : 0;
+        for (int i = 0; i < pels; i++) {
+            const int k = (is_down ? i / width : i % width) - first;
+            was[i] = (uint8_t)(k >= 0 && k < 5 ? k % 2 * 10 : 200);
+        }
+        const int part = is_back ? -16 : 16, half_part = is_cut ? 2 * part : is_back ? -33 : 33;
+        for (uint32_t search = 1; search <= 2; search++)
+            for (uint32_t measure = 1; measure <= 2; measure++) {
+                gauge_request request = {width, pels / width, 4, search, 16, 0, measure};
+                gauge_half half = gauge_search_half(was, pels, fives, pels, request, is_down ? place : 0, is_down ? 0 : place);
+                const int distortion = measure == 1 ? 80 : 400;
+                SAME_FOUND(half.found, GAUGE_ACCEPTED, is_down ? part : 0, is_down ? 0 : part, distortion);
+                SAME_HALF(half, is_down ? half_part : 0, is_down ? 0 : half_part, is_cut ? distortion : 0);
+            }
+    }
+}
+
+static void half_refused(void)
+{
+    call = "gauge_search_half, frames";
+    HALF_REFUSED(GAUGE_BAD_FRAME, older, PELS - 1, newer, PELS, pruned, 3, 20);
+    HALF_REFUSED(GAUGE_BAD_FRAME, older, PELS, newer, PELS - 1, pruned, 3, 20);
+    call = "gauge_search_half, places";
+    HALF_REFUSED(GAUGE_BAD_PLACE, older, PELS, newer, PELS, squares, 22, 20);
+    HALF_REFUSED(GAUGE_BAD_PLACE, older, PELS, newer, PELS, squares, 21, 42);
+    HALF_REFUSED(GAUGE_BAD_PLACE, older, PELS, newer, PELS, pruned, SIZE_MAX, SIZE_MAX - 15);
 }
 
 /* ---- logs: the field above */
@@ -1329,6 +1523,7 @@ int main(void)
     measuring();
     row_view();
     searching();
+    searching_half();
     fields();
     homing();
     stepping();
@@ -1342,6 +1537,9 @@ int main(void)
     ceilings();
     measures_refused();
     thresholds();
+    half_pels();
+    half_beyond_window();
+    half_refused();
     writing();
     reading();
     printing();

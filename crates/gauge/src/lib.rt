@@ -8,6 +8,7 @@ ghost use Rattle.frame.specs.Pictures.{setting, pairOf};
 ghost use Rattle.view.specs.View.{viewPlace};
 ghost use Rattle.measuring.specs.Measured.{measureVector};
 ghost use Rattle.block.specs.Block.{searchBlock};
+ghost use Rattle.half_search.specs.Half.{searchHalf};
 ghost use Rattle.field.specs.Field.{fieldResult, field};
 ghost use Rattle.track.specs.Track.{trackNew, trackHome, stepResult, trackStep};
 ghost use Prim.Native.Nat.{_≤_};
@@ -18,6 +19,7 @@ ghost use Rattle.log_text.specs.Text.{longestText, printLog};
 ghost use Rattle.log_plain.specs.Plain.{walkFrom};
 use field::FieldAnswer;
 use frame::Setting;
+use half_search::HalfResult;
 use log_head::Head;
 use log_plain::Place;
 use log_plain::Walked;
@@ -92,6 +94,20 @@ pub extern "C" fn gauge_search_block(
     ensures { λ r. ⌜ r ≡ searchBlock (now (older .entry)) (now (newer .entry)) request row column ⌝ }
 {
     block::search_block(older, newer, request, row, column)
+}
+
+// Searches one block likewise, and then the half-pel neighbours of its vector.
+#[no_mangle]
+pub extern "C" fn gauge_search_half(
+    older: &[u8],
+    newer: &[u8],
+    request: Request,
+    row: usize,
+    column: usize,
+) -> HalfResult
+    ensures { λ r. ⌜ r ≡ searchHalf (now (older .entry)) (now (newer .entry)) request row column ⌝ }
+{
+    half_search::search_half(older, newer, request, row, column)
 }
 
 // Searches every grid block: fills list and table, and answers with the reading and the sums.
