@@ -1,8 +1,8 @@
 //! The archive under test, as include/gauge.h declares it, with its answers turned into the forms that the rival uses.
 
 use crate::question::{
-    Answer, Cursor, FieldAnswer, FieldRequest, Head, Lent, LogRead, Measured, Measuring, Pair,
-    Request, Track, Viewed, Viewing, Walked, Written,
+    Answer, Cursor, FieldAnswer, FieldRequest, Half, Head, Lent, LogRead, Measured, Measuring,
+    Pair, Request, Track, Viewed, Viewing, Walked, Written,
 };
 
 #[repr(C)]
@@ -39,6 +39,14 @@ struct GaugeFound {
     distortion: u32,
     counts: [u32; 6],
     dropped: u32,
+}
+
+#[repr(C)]
+struct GaugeHalf {
+    found: GaugeFound,
+    half_dy: i32,
+    half_dx: i32,
+    half_distortion: u32,
 }
 
 #[repr(C)]
@@ -131,6 +139,16 @@ extern "C" {
         column: usize,
     ) -> GaugeFound;
 
+    fn gauge_search_half(
+        older: *const u8,
+        older_length: usize,
+        newer: *const u8,
+        newer_length: usize,
+        request: GaugeRequest,
+        row: usize,
+        column: usize,
+    ) -> GaugeHalf;
+
     fn gauge_field(
         older: *const u8,
         older_length: usize,
@@ -203,6 +221,17 @@ fn gauge_request(pair: &Pair, request: &FieldRequest) -> GaugeRequest {
     }
 }
 
+fn answer(found: GaugeFound) -> Answer {
+    Answer {
+        refusal: found.refusal as i64,
+        dy: found.dy as i64,
+        dx: found.dx as i64,
+        distortion: found.distortion as i64,
+        counts: found.counts.map(|count| count as i64),
+        dropped: found.dropped as i64,
+    }
+}
+
 /// The single-block search.
 pub fn search_block(pair: &Pair, request: &Request) -> Answer {
     let question = gauge_request(pair, &request.of_field());
@@ -218,13 +247,29 @@ pub fn search_block(pair: &Pair, request: &Request) -> Answer {
             request.column,
         )
     };
-    Answer {
-        refusal: found.refusal as i64,
-        dy: found.dy as i64,
-        dx: found.dx as i64,
-        distortion: found.distortion as i64,
-        counts: found.counts.map(|count| count as i64),
-        dropped: found.dropped as i64,
+    answer(found)
+}
+
+/// The search to half a pel.
+pub fn search_half(pair: &Pair, request: &Request) -> Half {
+    let question = gauge_request(pair, &request.of_field());
+    // As above.
+    let half = unsafe {
+        gauge_search_half(
+            pair.older.as_ptr(),
+            pair.older.len(),
+            pair.newer.as_ptr(),
+            pair.newer.len(),
+            question,
+            request.row,
+            request.column,
+        )
+    };
+    Half {
+        found: answer(half.found),
+        half_dy: half.half_dy as i64,
+        half_dx: half.half_dx as i64,
+        half_distortion: half.half_distortion as i64,
     }
 }
 

@@ -1,11 +1,11 @@
-//! The edges of measuring, row view and single-block search (field_edges.rs has those of fields): every range of docs/REFERENCE.md from
+//! The edges of measuring, row view and single-block search, to half a pel too (field_edges.rs has those of fields): every range of docs/REFERENCE.md from
 //! both sides, with the expected number written down here, the order in which the refusals are tested, and a table of small
 //! combinations, most of them invalid. Values near the top of their type must be refused and must never end the program.
 
 use crate::archive;
 use crate::group::Group;
 use crate::question::{
-    Measured, Measuring, Pair, Request, Viewing, FAR_CEILINGS, NO_MEASURES, SIZES,
+    Answer, Measured, Measuring, Pair, Request, Viewing, FAR_CEILINGS, NO_MEASURES, SIZES,
 };
 use crate::rival;
 
@@ -30,12 +30,21 @@ pub fn pair_of(width: usize, height: usize) -> Pair {
     pair_with_lengths(width, height, width * height, width * height)
 }
 
+/// The single-block search and the one to half a pel, which "refuses as that does", and the rival agree. Hands out the former's answer.
+fn by_both_searches(group: &mut Group, pair: &Pair, request: &Request) -> Answer {
+    let answer = archive::search_block(pair, request);
+    let wanted = rival::search_block(pair, request);
+    group.same(format_args!("{pair}, {request}"), answer, wanted);
+    let half = archive::search_half(pair, request);
+    let wanted = rival::refined(pair, request, wanted);
+    group.same(format_args!("half pel: {pair}, {request}"), half, wanted);
+    answer
+}
+
 /// Both sides must answer with this refusal (0: accepted), and alike in all else.
 fn searched(group: &mut Group, pair: &Pair, request: Request, refusal: i64) {
-    let answer = archive::search_block(pair, &request);
-    let wanted = rival::search_block(pair, &request);
+    let answer = by_both_searches(group, pair, &request);
     group.same(format_args!("{pair}, {request}"), answer.refusal, refusal);
-    group.same(format_args!("{pair}, {request}"), answer, wanted);
 }
 
 /// The measuring call and the rival agree, by each of the far ceilings in place of the question's own. Hands out the answers.
@@ -66,7 +75,7 @@ fn viewed(group: &mut Group, pair: &Pair, question: Viewing, refusal: i64) {
     group.same(format_args!("{pair}, {question}"), answer, wanted);
 }
 
-/// All three calls at one place, in all four searches and by both measures, must answer with this refusal.
+/// All four calls at one place, in all four searches and by both measures, must answer with this refusal.
 fn all_calls(group: &mut Group, pair: &Pair, n: usize, row: usize, column: usize, refusal: i64) {
     for measure in [1, 2] {
         for (search, w) in [(1, 1), (2, 1), (3, 7), (4, 2)] {
@@ -579,9 +588,7 @@ fn table() -> u64 {
                                 row,
                                 column,
                             };
-                            let answer = archive::search_block(&pair, &request);
-                            let wanted = rival::search_block(&pair, &request);
-                            group.same(format_args!("{pair}, {request}"), answer, wanted);
+                            by_both_searches(&mut group, &pair, &request);
                         }
                     }
                 }

@@ -15,6 +15,7 @@
 //! | worked | the worked pairs |
 //! | edges, field_edges, voter_edges, walk_edges, log_edges, longest_logs | the ends of every range, with the expected numbers typed in |
 //! | measuring, searching, fields, calls | made-up pairs, and lists of calls |
+//! | half | the search to half a pel: worked pairs, edges, made-up pairs, and pairs moved by half pels |
 //! | log_calls, made_up_logs | a log through every call; made-up logs, whole and damaged |
 //! | program | the program that prints logs |
 
@@ -24,6 +25,7 @@ mod edges;
 mod field_edges;
 mod fields;
 mod group;
+mod half;
 mod log_calls;
 mod log_edges;
 mod logs;
@@ -50,6 +52,7 @@ fn archive_cases() -> u64 {
         + voter_edges::run()
         + measuring::run()
         + searching::run()
+        + half::run()
         + fields::run()
         + calls::run()
         + log_cases()

@@ -1,5 +1,5 @@
 //! Made-up pairs from fixed seeds: still, moved by a known vector, noisy, flat, two-valued, gradients, checkerboards, extremes, and papers
-//! with blank patches, or blank altogether. Every run makes the same ones.
+//! with blank patches, or blank altogether; and pairs moved by half pels. Every run makes the same ones.
 
 use crate::question::Pair;
 use crate::rival::Vector;
@@ -209,6 +209,28 @@ fn vector_outside(chance: &mut Chance, w: i64) -> Vector {
 /// A rough pair moved by this vector.
 pub fn rough_pair(chance: &mut Chance, width: usize, height: usize, vector: Vector) -> Pair {
     rough(chance, width, height).pair(vector)
+}
+
+/// A soft pair moved by this vector in half pels. A pel is the mean of the four places that it covers in a scene twice as fine.
+pub fn half_pel_pair(chance: &mut Chance, width: usize, height: usize, vector: Vector) -> Pair {
+    let fine = rough(chance, 2 * width, 2 * height).smoothed(2);
+    let frame = |(dy, dx): Vector| {
+        let mut bytes = Vec::new();
+        for r in (MARGIN + dy..).step_by(2).take(height) {
+            for c in (MARGIN + dx..).step_by(2).take(width) {
+                let upper = fine.at(r, c) + fine.at(r, c + 1);
+                let lower = fine.at(r + 1, c) + fine.at(r + 1, c + 1);
+                bytes.push(((upper + lower) / 4) as u8);
+            }
+        }
+        bytes
+    };
+    Pair {
+        older: frame((0, 0)),
+        newer: frame(vector),
+        width,
+        height,
+    }
 }
 
 /// A pair of this kind and size, for window w.

@@ -108,6 +108,15 @@ pub struct Answer {
     pub dropped: i64,
 }
 
+/// "The answer is the search's result, then the winner's vector, in half pels, and its distortion."
+#[derive(Clone, Copy, PartialEq, Eq, Debug, Default)]
+pub struct Half {
+    pub found: Answer,
+    pub half_dy: i64,
+    pub half_dx: i64,
+    pub half_distortion: i64,
+}
+
 /// "It answers with the reading and, summed over the blocks, counts and dropped"; "the reading gives votes and voters".
 #[derive(Clone, Copy, PartialEq, Eq, Debug, Default)]
 pub struct FieldAnswer {

@@ -1,8 +1,10 @@
 //! The rival: the rules of docs/REFERENCE.md for one block, written down as directly as they read and with no thought of speed.
 //! Every function names the rules' sentence that it stands for. No table, no sums kept from one place to the next, i64 throughout.
 
+use std::ops::RangeInclusive;
+
 use crate::question::{
-    Answer, Counts, FieldRequest, Measured, Measuring, Pair, Request, Viewed, Viewing,
+    Answer, Counts, FieldRequest, Half, Measured, Measuring, Pair, Request, Viewed, Viewing,
 };
 
 /// A vector (dy, dx).
@@ -101,6 +103,39 @@ impl<'a> Block<'a> {
         }
     }
 
+    /// "A value between two pels is (a + b + 1) / 2, between four (a + b + c + d + 2) / 4, rounded down": the older frame's value at a row
+    /// and a column in half pels, which may be a pel's own; none where a pel that it needs is not "inside the older frame".
+    fn half_value(&self, half_r: i64, half_c: i64) -> Option<i64> {
+        let (mut sum, mut pels) = (0, 0);
+        for r in around(half_r) {
+            for c in around(half_c) {
+                if r < 0 || r >= self.height || c < 0 || c >= self.width {
+                    return None;
+                }
+                sum += self.older_pel(r, c);
+                pels += 1;
+            }
+        }
+        Some(match pels {
+            1 => sum,
+            2 => (sum + 1) / 2,
+            _ => (sum + 2) / 4,
+        })
+    }
+
+    /// The distortion of a vector in half pels, "by the same measure". "A neighbour counts exactly if all pels it needs are inside the
+    /// older frame, whatever the window": none where it does not count.
+    pub fn half_distortion(&self, (half_dy, half_dx): Vector) -> Option<i64> {
+        let mut sum = 0;
+        for r in self.y..self.y + self.n {
+            for c in self.x..self.x + self.n {
+                let older = self.half_value(2 * r + half_dy, 2 * c + half_dx)?;
+                sum += self.apart(self.newer_pel(r, c), older);
+            }
+        }
+        Some(sum)
+    }
+
     /// "Cut a block into m × m squares; its distance at m is the sum over squares of the absolute difference of pel sums"; by squares
     /// "the sum over squares of the squared difference of pel sums".
     pub fn distance(&self, m: i64, (dy, dx): Vector) -> i64 {
@@ -147,6 +182,11 @@ impl<'a> Block<'a> {
         all.retain(|&v| self.is_candidate(w, v));
         all
     }
+}
+
+/// The rows, or columns, around a place in half pels: its own, or the one before it and the one behind it.
+fn around(half: i64) -> RangeInclusive<i64> {
+    half.div_euclid(2)..=(half + 1).div_euclid(2)
 }
 
 /// "Preference order: smaller |dy| + |dx| first, then smaller dy, then smaller dx": all vectors of window w, sorted by it.
@@ -493,6 +533,45 @@ pub fn search_block(pair: &Pair, request: &Request) -> Answer {
         3 => four_step(&block),
         _ => cross(&block, w, request.t as i64),
     }
+}
+
+/// What the search to half a pel answers where the search itself has found this: "refuses as that does and tries the eight half-pel
+/// neighbours of its vector"; "least distortion wins, the centre first on ties, then the offset earlier in preference order".
+pub fn refined(pair: &Pair, request: &Request, found: Answer) -> Half {
+    if found.refusal != 0 {
+        return Half {
+            found,
+            ..Half::default()
+        };
+    }
+    let mut half = Half {
+        found,
+        half_dy: 2 * found.dy,
+        half_dx: 2 * found.dx,
+        half_distortion: found.distortion,
+    };
+    let (row, column) = (request.row, request.column);
+    let block = Block::new(pair, request.n, row, column, request.measure);
+    for (oy, ox) in preference_order(1).into_iter().skip(1) {
+        let (half_dy, half_dx) = (2 * found.dy + oy, 2 * found.dx + ox);
+        match block.half_distortion((half_dy, half_dx)) {
+            Some(half_distortion) if half_distortion < half.half_distortion => {
+                half = Half {
+                    found,
+                    half_dy,
+                    half_dx,
+                    half_distortion,
+                }
+            }
+            _ => {}
+        }
+    }
+    half
+}
+
+/// The search to half a pel.
+pub fn search_half(pair: &Pair, request: &Request) -> Half {
+    refined(pair, request, search_block(pair, request))
 }
 
 /// The measuring call: refusals 1 2 3 51 7 8, "8 measuring one vector: not a candidate of window 16". No ceiling is refused.

@@ -8,10 +8,10 @@ use crate::question::{Answer, Measured, Measuring, Pair, Request, AT_1, MEASURES
 use crate::rival::{self, largest_threshold, Block};
 
 /// A made-up pair, the seed that it came from and the block size asked for.
-struct Case {
-    seed: u64,
-    pair: Pair,
-    n: usize,
+pub struct Case {
+    pub seed: u64,
+    pub pair: Pair,
+    pub n: usize,
 }
 
 impl Case {
@@ -23,7 +23,7 @@ impl Case {
         answer
     }
 
-    fn inputs<'a>(&'a self, request: &'a Request) -> impl std::fmt::Display + 'a {
+    pub fn inputs<'a>(&'a self, request: &'a Request) -> impl std::fmt::Display + 'a {
         Inputs {
             case: self,
             request,
@@ -31,7 +31,7 @@ impl Case {
     }
 
     /// Corners, the four borders, inside, and two grid blocks, the last one among them.
-    fn places(&self, chance: &mut Chance) -> Vec<(usize, usize)> {
+    pub fn places(&self, chance: &mut Chance) -> Vec<(usize, usize)> {
         let (last_row, last_column) = (self.pair.height - self.n, self.pair.width - self.n);
         let mut row = || chance.between(0, last_row as i64) as usize;
         let rows = [row(), row(), row(), row()];
@@ -73,7 +73,7 @@ impl std::fmt::Display for Inputs<'_> {
 
 /// A made-up pair for blocks of size N and window w. Its frames are larger than a block by `room` at least; half of them hardly by
 /// more, half reach up to 60, or as far as N 32 needs for window 16 all around.
-fn case_of(seed: u64, kind: Kind, n: usize, w: usize, room: usize) -> (Case, Chance) {
+pub fn case_of(seed: u64, kind: Kind, n: usize, w: usize, room: usize) -> (Case, Chance) {
     // Each kind has seeds of its own.
     let seed = seed + 100_000 * kind as u64;
     let mut chance = Chance::new(seed);
