@@ -1,12 +1,14 @@
 /* Fields of vectors, N 16, then N 32, then N 8, by all four searches: full, pruned and cross with w 16, four-step with w 7, T 0; and the pruned
- * search of the same blocks one by one. Another field by cross has T 261,120 and so ends at each block's first probe: what it takes of the pruned
- * field's time is one distortion, the voters' pass and the storing of a block together, and more than the pass alone. Beside the gauge run two full
- * searches in C over the same grid: plain scalar code that leaves a candidate as soon as it cannot win, and SSE2 (psadbw). All these are by absolute;
- * a second table has full and pruned by squares beside SSE2 code for squares (pmaddwd): one search that measures every candidate to its last row, as
- * the one by psadbw does, and one that looks after every fourth row whether the candidate can still win. All take turns, plain C, mostly by far the
- * slowest, every fourth time; the best of the turns counts, in processor time. Prints speeds as multiples of plain C's with the same N, by absolute,
- * in both tables: the larger, the faster. By each measure the C searches, search 1 and search 2 must agree on every block, and each field's reading
- * must be what C makes of its list. With the word `check` it looks at that alone, in small pictures, and prints no speed.
+ * search of the same blocks one by one, to whole pels and to half a pel: `half pel to whole` is the time of the latter in multiples of the former's,
+ * so 1.25 is a quarter more. Another field by cross has T 261,120 and so ends at each block's first probe: what it takes of the pruned field's time
+ * is one distortion, the voters' pass and the storing of a block together, and more than the pass alone. Beside the gauge run two full searches in C
+ * over the same grid: plain scalar code that leaves a candidate as soon as it cannot win, and SSE2 (psadbw). All these are by absolute; a second
+ * table has full and pruned by squares beside SSE2 code for squares (pmaddwd): one search that measures every candidate to its last row, as the one
+ * by psadbw does, and one that looks after every fourth row whether the candidate can still win. All take turns, plain C, mostly by far the slowest,
+ * every fourth time; the best of the turns counts, in processor time. Prints speeds as multiples of plain C's with the same N, by absolute, in both
+ * tables: the larger, the faster. By each measure the C searches, search 1 and search 2 must agree on every block, the half pels must be those that C
+ * finds around the whole ones, and each field's reading must be what C makes of its list. With the word `check` it looks at that alone, in small
+ * pictures, and prints no speed.
  *
  * Paper is made here: smoothed noise with fibres. The newer picture is the older one moved by a known vector, and each has sensor noise of its own:
  * noise of 2 grey levels is noise whose standard deviation is 2. Noise raises the least distortion, so search 2's coarse tests drop fewer candidates,
@@ -222,7 +224,7 @@ FULL_SEARCH(stopping_32, stopping_distortion, 32)
 
 /* ---- the turns */
 
-enum { PLAIN, SSE2, PMADDWD, STOPPING, SINGLE, FULL, PRUNED, FOUR_STEP, CROSS, FIRST_PROBE, FULL_SQUARES, PRUNED_SQUARES, RUNS };
+enum { PLAIN, SSE2, PMADDWD, STOPPING, SINGLE, HALF, FULL, PRUNED, FOUR_STEP, CROSS, FIRST_PROBE, FULL_SQUARES, PRUNED_SQUARES, RUNS };
 
 /* Search, w, T and measure of the fields, from FULL on. */
 static const struct {
@@ -234,23 +236,29 @@ static const struct {
 static bool checking;
 static int width, height, n;
 static uint8_t older[SIDE * SIDE], newer[SIDE * SIDE];
-static struct best list[RUNS][BLOCKS];
+static struct best list[RUNS][BLOCKS], halves[BLOCKS];
 static uint32_t table[(SIDE + 1) * (SIDE + 1)];
 static gauge_field_answer answer[RUNS];
 
-/* A search of one block, in C or search 2. */
-static struct best search_block(int r, int y, int x)
+/* A search of one block, in C or search 2: what it finds in whole pels, and with HALF in half pels too. */
+static struct best search_block(int r, int y, int x, struct best *half)
 {
     static struct best (*const searches[][3])(const uint8_t *, const uint8_t *, int, int, int, int, int) = {
         [PLAIN] = {plain_8, plain_16, plain_32},
         [SSE2] = {sse2_8, sse2_16, sse2_32},
         [PMADDWD] = {pmaddwd_8, pmaddwd_16, pmaddwd_32},
         [STOPPING] = {stopping_8, stopping_16, stopping_32}};
-    if (r != SINGLE)
+    if (r < SINGLE)
         return searches[r][n / 16](older, newer, width, height, W, y, x);
     gauge_request request = {(size_t)width, (size_t)height, (size_t)n, 2, W, 0, 1};
     size_t length = (size_t)(width * height);
-    gauge_found f = gauge_search_block(older, length, newer, length, request, (size_t)y, (size_t)x);
+    gauge_found f;
+    if (r == HALF) {
+        gauge_half h = gauge_search_half(older, length, newer, length, request, (size_t)y, (size_t)x);
+        *half = (struct best){h.half_dy, h.half_dx, (int32_t)h.half_distortion};
+        f = h.found;
+    } else
+        f = gauge_search_block(older, length, newer, length, request, (size_t)y, (size_t)x);
     return (struct best){f.dy, f.dx, (int32_t)f.distortion};
 }
 
@@ -260,8 +268,8 @@ static void run(int r)
     if (r < FULL) {
         int k = 0;
         for (int y = 0; y + n <= height; y += n)
-            for (int x = 0; x + n <= width; x += n)
-                list[r][k++] = search_block(r, y, x);
+            for (int x = 0; x + n <= width; x += n, k++)
+                list[r][k] = search_block(r, y, x, &halves[k]);
         return;
     }
     int f = r - FULL;
@@ -283,6 +291,38 @@ static double basic_operations(int r)
 static bool agree(int r, int other)
 {
     return memcmp(list[r], list[other], (size_t)((width / n) * (height / n)) * sizeof list[r][0]) == 0;
+}
+
+/* The older frame's value at a row and a column in half pels, of four pels: between two of them each stands twice, at one it stands four times. */
+static int between(int half_row, int half_column)
+{
+    const uint8_t *above = older + half_row / 2 * width + half_column / 2, *below = above + half_row % 2 * width;
+    int right = half_column % 2;
+    return (above[0] + above[right] + below[0] + below[right] + 2) / 4;
+}
+
+/* Whether the half pels of a run are those that C finds around its whole ones: the least distortion, equals by the order of offsets. */
+static bool are_least_halves(int r)
+{
+    static const int offsets[8][2] = {{-1, 0}, {0, -1}, {0, 1}, {1, 0}, {-1, -1}, {-1, 1}, {1, -1}, {1, 1}};
+    int k = 0;
+    for (int y = 0; y + n <= height; y += n)
+        for (int x = 0; x + n <= width; x += n, k++) {
+            struct best centre = {2 * list[r][k].dy, 2 * list[r][k].dx, list[r][k].distortion}, b = centre;
+            for (int o = 0; o < 8; o++) {
+                int dy = centre.dy + offsets[o][0], dx = centre.dx + offsets[o][1], top = 2 * y + dy, left = 2 * x + dx, sum = 0;
+                if (top < 0 || left < 0 || top > 2 * (height - n) || left > 2 * (width - n))
+                    continue;
+                for (int i = 0; i < n; i++)
+                    for (int j = 0; j < n; j++)
+                        sum += abs(newer[(y + i) * width + x + j] - between(top + 2 * i, left + 2 * j));
+                if (sum < b.distortion)
+                    b = (struct best){dy, dx, sum};
+            }
+            if (memcmp(&b, &halves[k], sizeof b) != 0)
+                return false;
+        }
+    return true;
 }
 
 /* Whether the largest newer pel of a block exceeds its smallest by 8 or more. */
@@ -354,7 +394,7 @@ static int pair(const char *name, const int *sheet, struct noise noise, int dy, 
             return 1;
         }
     }
-    if (!agree(SSE2, PLAIN) || !agree(SINGLE, PLAIN) || !agree(FULL, PLAIN) || !agree(PRUNED, PLAIN)) {
+    if (!agree(SSE2, PLAIN) || !agree(SINGLE, PLAIN) || !agree(HALF, PLAIN) || !agree(FULL, PLAIN) || !agree(PRUNED, PLAIN)) {
         printf("%s: the searches differ\n", name);
         return 1;
     }
@@ -362,14 +402,18 @@ static int pair(const char *name, const int *sheet, struct noise noise, int dy, 
         printf("%s: the searches by squares differ\n", name);
         return 1;
     }
+    if (!are_least_halves(HALF)) {
+        printf("%s: the half pels differ\n", name);
+        return 1;
+    }
     if (checking)
         return 0;
     lines[line_count].name = name;
     lines[line_count++].operations = basic_operations(PRUNED_SQUARES);
-    printf("%-27s %6.1f %6.1f %6.1f %6.1f %6.0f %6.0f %8.2f %8.2f %9.4f %9.2f\n", name, seconds[PLAIN] / seconds[SSE2],
+    printf("%-27s %6.1f %6.1f %6.1f %6.1f %6.0f %6.0f %8.2f %8.2f %9.4f %9.2f %9.2f\n", name, seconds[PLAIN] / seconds[SSE2],
            seconds[PLAIN] / seconds[FULL], seconds[PLAIN] / seconds[PRUNED], seconds[PLAIN] / seconds[SINGLE], seconds[PLAIN] / seconds[FOUR_STEP],
            seconds[PLAIN] / seconds[CROSS], seconds[SSE2] / seconds[FULL], seconds[FULL] / seconds[PRUNED], basic_operations(PRUNED),
-           100 * seconds[FIRST_PROBE] / seconds[PRUNED]);
+           100 * seconds[FIRST_PROBE] / seconds[PRUNED], seconds[HALF] / seconds[SINGLE]);
     return 0;
 }
 
@@ -400,8 +444,9 @@ static int papers(int w, int h, int block_size, int turns)
     height = h;
     n = block_size;
     if (!checking) {
-        printf("\n%4d x %-4d                 psadbw      1      2  2 one      3      4     1 to     2 to     basic   1 probe\n", width, height);
-        printf("N %-2d                             C   full pruned by one 4-step  cross   psadbw        1       ops   to 2, %%\n", n);
+        printf("\n%4d x %-4d                 psadbw      1      2  2 one      3      4     1 to     2 to     basic   1 probe  half pel\n", width,
+               height);
+        printf("N %-2d                             C   full pruned by one 4-step  cross   psadbw        1       ops   to 2, %%  to whole\n", n);
     }
     if (pair("moved fibres (3,-4)", fibres, EVEN_2, 3, -4, width, turns) || pair("moved fibres (9,-11)", fibres, EVEN_2, 9, -11, width, turns) ||
         pair("still fibres", fibres, EVEN_2, 0, 0, width, turns) || pair("tracing paper (3,-4)", tracing, EVEN_2, 3, -4, width, turns) ||
