@@ -33,6 +33,8 @@ use Rattle.pruned_rule.specs.Prune.{Pruning, prune, prunedBest, counts, resolut
 use Rattle.full.specs.Full.{fullSearch}
 use Rattle.pruned.specs.Answer.{stillDistortion, placeDistortion, placeDistance, pruning, prunedPlace, prunedSearch}
 use Rattle.block.specs.Block.{searchRefusal, searchBy, searchBlock}
+use Rattle.half_search.specs.declared.HalfResult.{HalfResult}
+use Rattle.half_search.specs.Half.{centre, halfResult, refined, searchHalf}
 use Rattle.voter.specs.Voter.{voting}
 use Rattle.reading.specs.Reading.{voters, votes, majority}
 use Rattle.field_rules.specs.Rules.{fieldRefusal, listSize}
@@ -109,6 +111,17 @@ module _ (older newer : List ℕ) (q : Request) (y x : ℕ) where
   pub block-once : searchBlock older newer q y x ≡ blockOnce
   unfolding searchBlock
   block-once = ap blockBy (searched-once (pairOf older newer (settingOf q)) q y x)
+
+  -- to half a pel
+  abbrev halfBy : SearchResult → HalfResult
+  halfBy f = cond (eqb (f .refusal) 0) (refined (pairOf older newer (settingOf q)) y x f) (halfResult f centre 0)
+
+  abbrev pub halfOnce : HalfResult
+  halfOnce = halfBy blockOnce
+
+  pub half-once : searchHalf older newer q y x ≡ halfOnce
+  unfolding searchHalf
+  half-once = ap halfBy block-once
 
 -- ---- a field
 

@@ -5,6 +5,7 @@ use mathlib.Core.List.{List, [], _∷_, flatMap}
 use Rattle.base.specs.Sum.{sumTo}
 use Rattle.base.specs.Lists.{Each, none, more, listTo, concatTo}
 use Rattle.base.specs.Least.{leastFrom, leastOf}
+use Rattle.base.specs.Picks.{pick}
 use Rattle.base.specs.Calls.{runFrom}
 use Rattle.signed.specs.Values.{signedByte, byteOf}
 use Rattle.order.specs.Preference.{preference}
@@ -25,6 +26,8 @@ use Rattle.pruned_rule.specs.Sift.{kept, exceeding}
 use Rattle.pruned_rule.specs.Prune.{allRemaining, lower, sift, rounds, prune, prunedBest, counts, halves}
 use Rattle.pruned_sums.specs.Area.{summed}
 use Rattle.block.specs.Block.{searchRefusal}
+use Rattle.half_pel.specs.HalfPel.{valueOf, halfPel}
+use Rattle.half_search.specs.Half.{tried, halfDistortion, winner, refined}
 use Rattle.voter.specs.Voter.{largestTo, smallestTo, largest, smallest, isVoter}
 use Rattle.reading.specs.Reading.{voters, votes}
 use Rattle.field_rules.specs.Rules.{fieldRefusal}
@@ -43,15 +46,16 @@ use Rattle.log_reading.specs.Reading.{fieldOf, logRead, readLog}
 use Rattle.put.specs.Digits.{digits}
 use Rattle.log_line.specs.Line.{numberText, spaced, endWord, refusedWord, atWord, worded}
 use Rattle.log_text.specs.Text.{printLog}
-use Rattle.worked.specs.Table.{pairA, pairB, pairC, pairD, pair32, Query, search, measuring, distance, everyBlock, travelling, calls, writing, reading}
-use Rattle.worked.specs.Table.{walking, printing, Answer, found, filled, travels, results, answer, Row, Right, table}
+use Rattle.worked.specs.Table.{pairA, pairB, pairC, pairD, pairL, pairM, pair32, Query, search, halfSearch, measuring, distance, everyBlock, travelling, calls, writing, reading}
+use Rattle.worked.specs.Table.{walking, printing, Answer, found, half, filled, travels, results, answer, Row, Right, table}
 use Rattle.worked.proofs.Places.{walkPlaces, after}
 use Rattle.worked.proofs.Alike.{every, allAlike}
-use Rattle.worked.proofs.Once.{blockOnce, block-once, fieldOnce, field-once, travelOnce, travel-once, runOnce, run-once}
+use Rattle.worked.proofs.Once.{blockOnce, block-once, halfOnce, half-once, fieldOnce, field-once, travelOnce, travel-once, runOnce, run-once}
 
 -- the same answers, quick to compute
 abbrev answerOnce : Query → Answer
 answerOnce (search p q y x) = found (blockOnce (p .older) (p .newer) (q p) y x)
+answerOnce (halfSearch p q y x) = half (halfOnce (p .older) (p .newer) (q p) y x)
 answerOnce (measuring p v ceiling) = answer (measuring p v ceiling)
 answerOnce (distance p m) = answer (distance p m)
 answerOnce (everyBlock p q list table) = filled (fieldOnce (p .older) (p .newer) (q p) list table)
@@ -64,6 +68,7 @@ answerOnce (printing log) = answer (printing log)
 
 answer-once : (c : Query) → answer c ≡ answerOnce c
 answer-once (search p q y x) = ap found (block-once (p .older) (p .newer) (q p) y x)
+answer-once (halfSearch p q y x) = ap half (half-once (p .older) (p .newer) (q p) y x)
 answer-once (measuring p v ceiling) = refl
 answer-once (distance p m) = refl
 answer-once (everyBlock p q list table) = ap filled (field-once (p .older) (p .newer) (q p) list table)
@@ -91,12 +96,12 @@ each (r ∷ rs) e =
 -- the whole table at once
 computed : answers table ≡ oweds table
 unfolding
-    table pairA pairB pairC pairD pair32
+    table pairA pairB pairC pairD pairL pairM pair32
     sumTo leastFrom leastOf preference candidate crossWindow firstRefusal blockSizeOk windowOk thresholdOk pairRefusal requestRefusal
     measureOf distortionBy partialBy capped distortion rowsMeasured withRows measurement measureRefusal measureAt answerOf measureVector countPoint probePoint probe atOrigin around widened isIn fresh resultOf
     square ring moved step1 step23 step4 from3 from2 fourStep diagonalCross plusCross pass allPasses diagonal onDiagonal ended finished cross
     squareSum distanceBy kept exceeding allRemaining lower sift rounds prune prunedBest counts halves
-    searchRefusal walkPlaces after
+    searchRefusal walkPlaces after pick valueOf halfPel tried halfDistortion winner refined
     rows columns blocks blockRow blockColumn listTo concatTo summed fieldRefusal entriesOf tableOf
     largestTo smallestTo largest smallest isVoter voters votes every allAlike
     runFrom trackHome stepRefusal arrived

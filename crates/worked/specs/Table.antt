@@ -1,6 +1,6 @@
 -- 01, "Worked pairs": "Marked * belong to the proved set." These, A to I, stand here in one table, with one proof over it. A row has a query of a pair
 -- and the answer that is owed, in 01's words above it; it is right if the definitions that the contracts cite give that answer.
---   pairA, pairB, pairC, pairD   the frames with their setting, by the absolute measure; E and F have C's, G and H have B's; bySquares: by squares
+--   pairA, pairB, pairC, pairD, pairL, pairM   the frames with their setting, by the absolute measure; E and F have C's, G and H have B's; bySquares: by squares
 --   pair32     32×32, N 32, older all 255, newer all 0: the largest distortion (02, request 4)
 --   speckled   frames of one grey but for one pel, for what makes a voter
 --   full, pruned, fourStep, cross   a request for a search of a pair
@@ -26,10 +26,12 @@ use Rattle.measuring.specs.declared.Measured.{Measured}
 use Rattle.distortion.specs.Blocks.{measureIn, newerBlock, olderBlock}
 use Rattle.measuring.specs.Measured.{measureVector}
 use Rattle.search.specs.declared.SearchResult.{SearchResult}
-use Rattle.search.specs.SearchResult.{searchResult, onlyAtOne}
+use Rattle.search.specs.SearchResult.{searchResult, onlyAtOne, refusedSearch}
 use Rattle.probe.specs.Probe.{origin}
 use Rattle.pruned_rule.specs.Distance.{distanceBy}
 use Rattle.block.specs.Block.{searchBlock}
+use Rattle.half_search.specs.declared.HalfResult.{HalfResult}
+use Rattle.half_search.specs.Half.{halfResult, searchHalf}
 use Rattle.field.specs.declared.FieldAnswer.{FieldAnswer}
 use Rattle.refusals.specs.Refusals.{requestOf}
 use Rattle.field.specs.Field.{refusedField, FieldResult, fieldResult, field}
@@ -71,6 +73,21 @@ pairD = pairOf (replicate 16 10) (twice (0 ∷ 20 ∷ 0 ∷ 20 ∷ 20 ∷ 0 ∷ 
 unfoldable pub pair32 : Pair
 pair32 = pairOf (replicate 1024 255) (replicate 1024 0) (setting 32 32 32 1)
 
+-- L*, width 5, height 4, N 4, older rows 0 10 20 30 40, newer ones 5 more: half a pel to the right (02, request 6)
+unfoldable pub pairL : Pair
+pairL = pairOf (twice (twice (0 ∷ 10 ∷ 20 ∷ 30 ∷ 40 ∷ []))) (twice (twice (5 ∷ 15 ∷ 25 ∷ 35 ∷ 45 ∷ []))) (setting 5 4 4 1)
+
+-- M*, 5×5, N 4, each row 10 more than the one above: older first row 0 11 20 31 40, newer first row 11 21 31 41 51
+unfoldable pub pairM : Pair
+pairM =
+    pairOf (olderRow 0 ++ olderRow 10 ++ olderRow 20 ++ olderRow 30 ++ olderRow 40) (newerRow 11 ++ newerRow 21 ++ newerRow 31 ++ newerRow 41 ++ newerRow 51) (setting 5 5 4 1)
+  where
+    olderRow : ℕ → List ℕ
+    olderRow a = a ∷ (a + 11) ∷ (a + 20) ∷ (a + 31) ∷ (a + 40) ∷ []
+
+    newerRow : ℕ → List ℕ
+    newerRow a = a ∷ (a + 10) ∷ (a + 20) ∷ (a + 30) ∷ (a + 40) ∷ []
+
 -- 4×4, all 10 but for the newer one's first pel
 abbrev pub speckled : ℕ → Pair
 speckled first = pairOf (replicate 16 10) (first ∷ replicate 15 10) (setting 4 4 4 1)
@@ -106,10 +123,11 @@ heldTable n = replicate n 6
 abbrev pub heldBuffer : ℕ → List ℕ
 heldBuffer n = replicate n 8
 
--- a search of the block at row y, column x; a vector of the block at (0,0) measured under a ceiling; the distance at m of the two blocks at (0,0); a
+-- a search of the block at row y, column x, and to half a pel; a vector of the block at (0,0) measured under a ceiling; the distance at m of the two blocks at (0,0); a
 -- field with what list and table held; a travel by window w; calls on a track, from New on; a log written into a buffer, read into a list, walked, printed
 pub data Query : Type 0 where
   search : Pair → (Pair → Request) → (y x : ℕ) → Query
+  halfSearch : Pair → (Pair → Request) → (y x : ℕ) → Query
   measuring : Pair → Vector → (ceiling : ℕ) → Query
   distance : Pair → (m : ℕ) → Query
   everyBlock : Pair → (Pair → Request) → List ℤ → List ℕ → Query
@@ -124,6 +142,7 @@ pub data Query : Type 0 where
 
 pub data Answer : Type 0 where
   found : SearchResult → Answer
+  half : HalfResult → Answer
   amount : Measured → Answer
   apart : ℕ → Answer
   filled : FieldResult → Answer
@@ -137,6 +156,7 @@ pub data Answer : Type 0 where
 -- by the definitions
 abbrev pub answer : Query → Answer
 answer (search p q y x) = found (searchBlock (p .older) (p .newer) (q p) y x)
+answer (halfSearch p q y x) = half (searchHalf (p .older) (p .newer) (q p) y x)
 answer (measuring p v ceiling) = amount (measureVector p 0 0 v ceiling)
 answer (distance p m) = apart (distanceBy (measureIn p) (p .setting .n) m (newerBlock p 0 0) (olderBlock p 0 0 origin))
 answer (everyBlock p q list table) = filled (field (p .older) (p .newer) (q p) list table)
@@ -154,6 +174,10 @@ finds v d counts dropped = found (searchResult v d counts dropped)
 -- (0,0) with distortion 0 after so many probes, as wherever all pels are alike
 abbrev pub stillAfter : ℕ → Answer
 stillAfter probes = finds origin 0 (onlyAtOne probes) 0
+
+-- what the half-pel call owes where (0,0) is the only candidate: its distortion, then the winner's vector, in half pels, and its distortion
+abbrev pub refines : ℕ → Vector → ℕ → Answer
+refines d h e = half (halfResult (searchResult origin d (onlyAtOne 1) 0) h e)
 
 -- what the measuring call owes: a distortion and all N rows, or the row at whose end it is over
 abbrev pub measures : (d n : ℕ) → Answer
@@ -387,6 +411,13 @@ table =
     ∷ (measuring pairA origin 15 gives overAt 2)
     ∷ (measuring pairB vectorB 0 gives measures 0 4)
     ∷ (measuring (bySquares pair32) origin 66585599 gives overAt 32)
+    -- 02, request 6: between two pels and between four; a block at the right edge has no neighbour to its right; the centre first on ties; a refusal
+    ∷ (halfSearch pairL (full 0) 0 0 gives refines 80 (vec (pos 0) (pos 1)) 0)
+    ∷ (halfSearch (bySquares pairL) (full 0) 0 0 gives refines 400 (vec (pos 0) (pos 1)) 0)
+    ∷ (halfSearch pairL (full 0) 0 1 gives refines 80 origin 80)
+    ∷ (halfSearch pairM (full 0) 0 0 gives refines 168 (vec (pos 1) (pos 1)) 0)
+    ∷ (halfSearch pairC (full 0) 2 2 gives refines 0 origin 0)
+    ∷ (halfSearch pairC (full 17) 2 2 gives half (halfResult (refusedSearch 5) origin 0))
     -- T goes by the measure alone, whatever N is
     ∷ (search pairC (cross 2 261120) 2 2 gives stillAfter 1)
     ∷ (writing (headOf pair32) (list32 261120) (heldBuffer 22) gives writes log32)
