@@ -11,8 +11,8 @@
  * A frame is lent as a pointer and its length in bytes, and only read; a list and a table are lent as a pointer and their length in
  * numbers, and filled; a log and a buffer as a pointer and their length in bytes. A pointer must lead to as much memory as is said, must
  * not be null, not even where the length is 0, and memory that is filled shares no byte with any other that is lent; the two frames may be the
- * same memory. Search 2 needs up to 125 kB of stack, in a field, in a step and to half a pel too, the other searches up to 15 kB, any other call
- * less than 2 kB; nothing is taken from the heap.
+ * same memory. A call by search 2 needs up to 120 kB of stack, one by another search up to 25 kB, any other less than 2 kB; nothing is taken from
+ * the heap.
  *
  * An answer is a struct by value whose first number is `refusal` (in gauge_half: found.refusal, in gauge_stepped: answer.refusal): 0 where
  * the call is accepted, else the number of the first rule that the input, the track or the cursor breaks, in the order given at the call as
