@@ -84,7 +84,7 @@ module _ (older newer : List ℕ) (q : Request) (y x : ℕ) where
       go false = refl
 
   -- an accepted result is a candidate with its own distortion
-  pub own-result : f .refusal ≡ 0 → OwnResult p (q .w) y x f
+  own-result : f .refusal ≡ 0 → OwnResult p (q .w) y x f
   own-result e =
       let zero = block-unrefused older newer q y x e in
       let s = searchable _ _ q y x zero in

@@ -2,7 +2,7 @@
 --   neighbours-in-order, neighbours-stand, neighbours-near   the nine offsets: in preference order, all of window 1, no others
 --   tried-yes, tried-true   the relation and the test say the same
 --   centre-tried, centre-distortion   at a candidate the centre counts, and its distortion is the search's
---   winner-best   the winner is HalfBest; best-unique: nothing else is
+--   winner-best   the winner is HalfBest; half-best-unique: nothing else is
 use Prim.Native.Nat.{ℕ, zero, suc, _+_, _*_, _≤_, _<_}
 use mathlib.Core.Path.{_≡_, refl, sym, ap, _∙_, subst}
 use mathlib.Core.Bool.{Bool, true, false, _&&_}

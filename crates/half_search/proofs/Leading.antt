@@ -12,9 +12,9 @@ use native.Mathlib.Nat.{zero-add, eq-or-lt-of-le}
 use native.Mathlib.Omega.{arith}
 use borrow.Author.Tests.{leb-true, lt-ltb, le-ltb}
 use lib.Dec.{ltb}
-use Rattle.base.specs.Tests.{true-T}
 use lib.IntN.{ℤ, pos, _+ℤ_}
 use lib.ListN.{length, length-append}
+use Rattle.base.specs.Tests.{true-T}
 use Rattle.base.specs.Least.{leastOf, leastFrom, leastOf-more, leastOf-mem}
 use Rattle.base.specs.Picks.{pick, pick-none, pick-yes, pick-no, picked}
 use Rattle.base.specs.Sum.{sumOver-ext}
@@ -56,17 +56,12 @@ module _ (f : ℕ → ℕ) (c : ℕ → Bool) where
       more : (e : c k ≡ true) → leastOf f (pick c (k + 1)) ≡ cond (ltb (f k) (b .least)) k (b .place)
       more e = ap (leastOf f) (pick-yes c k e) ∙ leastOf-more f (pick c k) k (l .some) ∙ rw (l .own, l .is)
 
+      longer : c k ≡ true → 0 < length (pick c (k + 1))
+      longer e = rw (pick-yes c k e) (omega (arith, length-append (pick c k) (k ∷ [])))
+
       better : (t : Bool) → ltb (f k) (b .least) ≡ t → c k ≡ true → Leading f c (k + 1) (cond t (record { place = k; least = f k }) b)
-      better true q e = record {
-        some = rw (pick-yes c k e) (omega (arith, length-append (pick c k) (k ∷ [])));
-        is = sym (more e ∙ rw q);
-        own = refl;
-      }
-      better false q e = record {
-        some = rw (pick-yes c k e) (omega (arith, length-append (pick c k) (k ∷ [])));
-        is = sym (more e ∙ rw q);
-        own = l .own;
-      }
+      better true q e = record { some = longer e; is = sym (more e ∙ rw q); own = refl }
+      better false q e = record { some = longer e; is = sym (more e ∙ rw q); own = l .own }
 
       go : (t : Bool) → c k ≡ t → Leading f c (k + 1) (cond t (cond (ltb (f k) (b .least)) (record { place = k; least = f k }) b) b)
       go true e = better (ltb (f k) (b .least)) refl e
