@@ -232,12 +232,23 @@ fn answer(found: GaugeFound) -> Answer {
     }
 }
 
-/// The single-block search.
-pub fn search_block(pair: &Pair, request: &Request) -> Answer {
+/// A call that takes a single-block search's inputs.
+type BlockCall<T> = unsafe extern "C" fn(
+    older: *const u8,
+    older_length: usize,
+    newer: *const u8,
+    newer_length: usize,
+    request: GaugeRequest,
+    row: usize,
+    column: usize,
+) -> T;
+
+/// What such a call answers.
+fn of_block<T>(call: BlockCall<T>, pair: &Pair, request: &Request) -> T {
     let question = gauge_request(pair, &request.of_field());
     // The pointers are never null and each stands with its slice's own length, which is all that the header asks.
-    let found = unsafe {
-        gauge_search_block(
+    unsafe {
+        call(
             pair.older.as_ptr(),
             pair.older.len(),
             pair.newer.as_ptr(),
@@ -246,25 +257,17 @@ pub fn search_block(pair: &Pair, request: &Request) -> Answer {
             request.row,
             request.column,
         )
-    };
-    answer(found)
+    }
+}
+
+/// The single-block search.
+pub fn search_block(pair: &Pair, request: &Request) -> Answer {
+    answer(of_block(gauge_search_block, pair, request))
 }
 
 /// The search to half a pel.
 pub fn search_half(pair: &Pair, request: &Request) -> Half {
-    let question = gauge_request(pair, &request.of_field());
-    // As above.
-    let half = unsafe {
-        gauge_search_half(
-            pair.older.as_ptr(),
-            pair.older.len(),
-            pair.newer.as_ptr(),
-            pair.newer.len(),
-            question,
-            request.row,
-            request.column,
-        )
-    };
+    let half = of_block(gauge_search_half, pair, request);
     Half {
         found: answer(half.found),
         half_dy: half.half_dy as i64,
