@@ -3,7 +3,7 @@ use Prim.Native.Nat.{ℕ, zero, suc, _≤_, _<_}
 use mathlib.Core.Path.{_≡_, refl, sym, subst, _∙_}
 use mathlib.Core.Logic.{_⊎_, inl, inr, ⊎-elim}
 use mathlib.Core.Bool.{Bool, true, false, cond, not, _&&_, _||_, Bool·beq}
-use native.Mathlib.Nat.{eq-or-lt-of-le, le-of-suc-le-suc, not-suc-le-zero}
+use native.Mathlib.Nat.{eq-or-lt-of-le, le-of-suc-le-suc, not-suc-le-zero, lt-suc-self, le-step}
 use native.Mathlib.Omega.{arith}
 use lib.Dec.{T, leb, eqb, leb→le, eqb→eq}
 use borrow.Author.Tests.{not-true, not-false}
@@ -44,6 +44,10 @@ T-true false t = absurd t
 
 pub true-T : (b : Bool) → b ≡ true → T b
 true-T b e = subst T (sym e) tt
+
+pub T-false : (b : Bool) → (T b → ⊥) → b ≡ false
+T-false true n = absurd (n tt)
+T-false false n = refl
 
 -- a function answered r, which is the test t, and the code went on where r holds (`passed`) or where it fails (`failed`)
 pub passed : {r t : Bool} → r ≡ t → not r ≡ false → t ≡ true
@@ -89,3 +93,7 @@ check-below p (suc n) t i h =
     ⊎-elim (λ e. subst (λ (k : ℕ). T (p k)) (sym e) (and-left (p n) (allBelow p n) t))
     (λ l. check-below p n (and-right (p n) (allBelow p n) t) i l)
     (eq-or-lt-of-le (le-of-suc-le-suc h))
+
+pub all-below : (p : ℕ → Bool) (n : ℕ) → ((i : ℕ) → i < n → T (p i)) → T (allBelow p n)
+all-below p zero h = tt
+all-below p (suc n) h = and-both (p n) (allBelow p n) (h n (lt-suc-self n)) (all-below p n (λ i l. h i (le-step l)))

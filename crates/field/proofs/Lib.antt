@@ -1,3 +1,4 @@
 pub mod Places
 pub mod Turns
 pub mod Bests
+pub mod Reading

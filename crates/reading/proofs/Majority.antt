@@ -4,7 +4,7 @@
 --   votes-none, votes-more, votes-few   how votes grow; votes-ext: blocks with the same vectors, the same votes
 --   votes-outside, votes-blank          a vector that no voter has, and a set without a voter
 --   majority-most                       the majority has most voters, ties by preference order; most-unique: no other has
---   majority-blank                      no voter: (0,0)
+--   majority-blank                      no voter: (0,0); majority-within: a vector of window 16
 use Prim.Native.Nat.{ℕ, _+_, _≤_, _<_}
 use mathlib.Core.Path.{_≡_, refl, sym, ap, _∙_, subst}
 use mathlib.Core.Logic.{_⊎_, inl, inr, ⊎-elim}
@@ -14,13 +14,13 @@ use native.Mathlib.Decide.{decLe}
 use native.Mathlib.Omega.{arith, ne-cases}
 use lib.IntN.{pos, natAbs}
 use Rattle.base.specs.Tests.{one, one-le}
-use Rattle.base.specs.Greatest.{mostTo, most-ext, greatest}
+use Rattle.base.specs.Greatest.{mostTo, most-below, most-ext, greatest}
 use Rattle.base.specs.Sum.{sumTo-none, sumTo-more, sumTo-ext, sumTo-mono, sumTo-bound, sumTo-zero}
 use Rattle.order.specs.declared.Vector.{Vector}
 use Rattle.order.specs.Vectors.{vec, cityBlock, Within, Precedes, same?, same-yes, same-self, vectorCount}
 use Rattle.order.specs.Vectors.Precedes.{nearer}
 use Rattle.order.specs.Preference.{preferred}
-use Rattle.order.proofs.Order.{stands, in-order, precedes-trans, precedes-irrefl, first-still}
+use Rattle.order.proofs.Order.{stands, inside, in-order, precedes-trans, precedes-irrefl, first-still}
 use Rattle.reading.specs.Reading.{voters, votes, majority, Most}
 
 -- ---- the test that two vectors are one
@@ -140,6 +140,10 @@ module _ (voting : ℕ → Bool) (has : ℕ → Vector) (n : ℕ) where
   pub majority-blank : voters voting n ≡ 0 → majority voting has n ≡ vec (pos 0) (pos 0)
   unfolding majority
   majority-blank e = ap preferred (first (votes-blank voting has n (preferred top) e)) ∙ first-still
+
+  pub majority-within : Within 16 (majority voting has n)
+  unfolding majority
+  majority-within = inside top (most-below score 1088)
 
   pub most-unique : (u v : Vector) → Most voting has n u → Most voting has n v → u ≡ v
   most-unique u v a b = go (same? u v) refl

@@ -4,7 +4,7 @@
 ghost use mathlib.Core.Path.{_≡_};
 ghost use Prim.Native.Nat.{_≤_, _<_};
 ghost use lib.Dec.{leb};
-ghost use lib.IntN.{natAbs, negℤ, _+ℤ_};
+ghost use lib.IntN.{natAbs, negℤ, _+ℤ_, _-ℤ_};
 ghost use Rattle.signed.specs.Values.{absDiff, shiftedBy, movedBy, bias, unbias, doubled, signedByte, byteOf};
 
 // A byte as a number.
@@ -60,6 +60,14 @@ pub fn negated(d: i32) -> i32
     ensures { λ r. ⌜ r ≡ negℤ d ⌝ }
 {
     0 - d
+}
+
+// A sum with one number more and one less.
+pub fn exchanged(sum: i32, more: i32, less: i32) -> i32
+    requires { ⌜ (natAbs sum ≤ 1000000) × (natAbs more ≤ 1000000) × (natAbs less ≤ 1000000) ⌝ }
+    ensures { λ r. ⌜ r ≡ (sum +ℤ more) -ℤ less ⌝ }
+{
+    sum + more - less
 }
 
 // A coordinate moved by an offset.

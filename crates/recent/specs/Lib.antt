@@ -1,0 +1,2 @@
+pub mod Recent
+pub mod Counting
