@@ -1,5 +1,5 @@
--- The reckoning in one line: the last accepted homing place plus the travels accepted since, with their number as its steps. By induction over the calls from
--- any standing: an accepted homing begins anew, an accepted step adds its travel, and a track that is not homed accepts no step.
+-- The reckoning in one line: the last accepted homing place plus the travels accepted since, with their number as its steps, and the last 64 of them. By
+-- induction over the calls from any standing: an accepted homing begins anew, an accepted step adds its travel, and a track that is not homed accepts no step.
 use Prim.Native.Nat.{ℕ}
 use mathlib.Core.Path.{_≡_, refl, sym, _∙_, ap}
 use mathlib.Core.Bool.{true, false}
@@ -12,11 +12,13 @@ use Rattle.base.specs.Calls.{reckonCall, reckoned-is}
 use Rattle.order.specs.declared.Vector.{Vector}
 use Rattle.frame.specs.Pictures.{Pair}
 use Rattle.refusals.specs.Refusals.{first-refusal-zero}
+use Rattle.recent.specs.Recent.{lastHeld, travelsIn, sumDown, sumAcross, holding}
+use Rattle.recent.proofs.Travels.{holding-none, holding-more, travels-held}
 use Rattle.track_rules.specs.Rules.{inRange}
 use Rattle.track.specs.declared.Track.{Track}
 use Rattle.track.specs.Track.{trackNew, homedAt, movedTo}
 use Rattle.promise.specs.Demand.{Call, travel, refusalOf, accept, reckon, reckoned, acceptedCalls}
-use Rattle.promise.specs.Demand.{Standing, standOn, standingOn, sumDown, sumAcross, trackAt, NoHoming}
+use Rattle.promise.specs.Demand.{Standing, standOn, standingOn, travelsSince, trackAt, NoHoming}
 use Rattle.promise.specs.Demand.Call.{home, step}
 use Rattle.promise.specs.Demand.Standing.{nowhere, from}
 
@@ -25,6 +27,7 @@ travel-more : (y x : ℤ) (vs : List Vector) (v : Vector) → movedTo (trackAt (
 unfolding trackAt
 travel-more y x vs v =
     rw (
+      holding-more vs v,
       sumEach-more (λ v. v .dy) vs v,
       sumEach-more (λ v. v .dx) vs v,
       length-append vs (v ∷ []),
@@ -34,7 +37,7 @@ travel-more y x vs v =
 
 home-place : (y x : ℤ) → homedAt y x ≡ trackAt (from y x [])
 unfolding trackAt
-home-place y x = rw (sumEach-none (λ (v : Vector). v .dy), sumEach-none (λ (v : Vector). v .dx), +ℤ-idr y, +ℤ-idr x)
+home-place y x = rw (holding-none, sumEach-none (λ (v : Vector). v .dy), sumEach-none (λ (v : Vector). v .dx), +ℤ-idr y, +ℤ-idr x)
 
 -- a track that is not homed accepts no step
 never : (t : Track) (p : Pair) (w threshold : ℕ) (list : List ℤ) (table : List ℕ) → t .homed ≡ false → refusalOf t (step p w threshold list table) ≡ 0 → ⊥
@@ -53,6 +56,21 @@ leads (from y x vs) (step p w threshold list table) e = travel-more y x vs (trav
 -- from a standing s: the track is that of the standing after the accepted calls
 pub closed : (cs : List Call) (s : Standing) → reckoned (trackAt s) cs ≡ trackAt (standingOn s (acceptedCalls (trackAt s) cs))
 closed = reckoned-is refusalOf accept trackAt standOn leads
+
+-- what a standing's track holds
+module _ (vs : List Vector) where
+  abbrev Held : Type 0
+  Held = let r = holding vs in (travelsIn r ≡ vs) × (r .down ≡ sumDown vs) × (r .across ≡ sumAcross vs)
+
+  holding-held : Held
+  unfolding holding
+  holding-held = (travels-held vs, refl, refl)
+
+pub standing-held : (s : Standing) → let last = lastHeld (travelsSince s) in let r = trackAt s .recent in
+    (travelsIn r ≡ last) × (r .down ≡ sumDown last) × (r .across ≡ sumAcross last)
+unfolding trackAt
+standing-held nowhere = rw holding-none (holding-held [])
+standing-held (from y x vs) = holding-held (lastHeld vs)
 
 -- no homing: nowhere stays nowhere
 pub stays-nowhere : (cs : List Call) → NoHoming cs → standingOn nowhere cs ≡ nowhere

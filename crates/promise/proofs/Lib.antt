@@ -4,4 +4,5 @@ pub mod Blocks
 pub mod Probing
 pub mod One
 pub mod Closed
+pub mod Holding
 pub mod Promise

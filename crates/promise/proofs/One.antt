@@ -2,11 +2,11 @@
 -- accepted field by search 2 is the voters' majority of exhaustive bests.
 use Prim.Native.Nat.{ℕ}
 use mathlib.Core.Path.{_≡_, refl, sym, ap, _∙_}
-use mathlib.Core.Bool.{cond, not}
+use mathlib.Core.Bool.{cond}
 use mathlib.Core.List.{List}
 use native.Mathlib.Decide.{ℕ-discrete}
 use borrow.Author.Tests.{ne-eqb}
-use lib.Dec.{leb, eqb}
+use lib.Dec.{eqb}
 use lib.IntN.{ℤ}
 use lib.ListN.{length}
 use Rattle.base.specs.Calls.{reckonCall}
@@ -21,7 +21,7 @@ use Rattle.reading.specs.Reading.{votes, majority}
 use Rattle.field.specs.declared.FieldAnswer.{FieldAnswer}
 use Rattle.field.specs.Field.{fieldAnswer, FieldResult, filledList, field-accepted}
 use Rattle.track.specs.declared.Track.{Track}
-use Rattle.track_rules.specs.Rules.{arrivalRefusal}
+use Rattle.track_rules.specs.Rules.{mayStep, arrivalRefusal}
 use Rattle.track.specs.Track.{movedTo, trackHome, stepRefusal, unmoved, travelOf, arrived, StepResult, stepResult, landed, trackStep, step-refused, step-landed}
 use Rattle.promise.specs.Demand.{Call, bestOf, travel, votersIn, refusalOf, accept, reckon, Result, trackIn, refusalIn, answerTo, AtStep, fieldOn}
 use Rattle.promise.specs.Demand.Call.{home, step}
@@ -90,11 +90,11 @@ module _ (t : Track) (p : Pair) (w threshold : ℕ) (list : List ℤ) (table : L
 
   refusal-late : early ≡ 0 → refusalOf t this ≡ late
   unfolding refusalOf stepRefusal
-  refusal-late e = chain-late fieldEarly (t .homed) (not (leb 1000000 (t .steps))) late e
+  refusal-late e = chain-late fieldEarly (t .homed) (mayStep (t .steps) (t .recent)) late e
 
   refusal-early : (early ≡ 0 → ⊥) → refusalOf t this ≡ early
   unfolding refusalOf stepRefusal
-  refusal-early n = chain-early fieldEarly (t .homed) (not (leb 1000000 (t .steps))) late n
+  refusal-early n = chain-early fieldEarly (t .homed) (mayStep (t .steps) (t .recent)) late n
 
   early-field : early ≡ 0 → fieldEarly ≡ 0
   unfolding stepRefusal

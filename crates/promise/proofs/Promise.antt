@@ -23,10 +23,11 @@ use Rattle.refusals.specs.Refusals.{requestOf}
 use Rattle.field_rules.specs.Rules.{listSize}
 use Rattle.field_block.specs.Blocks.{searchAt}
 use Rattle.field.specs.Field.{fieldAnswer}
+use Rattle.recent.specs.Recent.{lastHeld, recentOk, travelsIn, sumDown, sumAcross}
 use Rattle.track.specs.declared.Track.{Track}
 use Rattle.track_rules.specs.Rules.{inRange}
 use Rattle.track.specs.Track.{trackNew, homedAt, StepResult}
-use Rattle.promise.specs.Demand.{Call, bestOf, travel, votersIn, reckon, reckoned, acceptedCalls, standingOn, trackAt, NoHoming, Result, trackIn, answerTo}
+use Rattle.promise.specs.Demand.{Call, bestOf, travel, votersIn, reckon, reckoned, acceptedCalls, standingOn, travelsSince, trackAt, NoHoming, Result, trackIn, answerTo}
 use Rattle.promise.specs.Demand.{run, lastTrack, AtStep, EachStep, EachBlock, EachGridPlace, bestEntries, reported, howMany, isDropped}
 use Rattle.promise.specs.Demand.{isMeasured, overGrid, Promise}
 use Rattle.promise.specs.Demand.Call.{home}
@@ -37,7 +38,8 @@ use Rattle.promise.proofs.Blocks.{Lists, entries-third, pos-le, pos-lt,
 use Rattle.promise.proofs.Blocks.{grid-worse, entries-best, sum-dropped, sum-measured, sum-both}
 use Rattle.promise.proofs.Probing.{four-step-runs, cross-runs, four-step-block, cross-block, four-step-over, cross-over}
 use Rattle.promise.proofs.One.{agrees, Taken, at-step, field-fine, answer-is, list-is, reading-is, votes-is, voters-is}
-use Rattle.promise.proofs.Closed.{closed, stays-nowhere, travelsOf, reckoned-since}
+use Rattle.promise.proofs.Closed.{closed, standing-held, stays-nowhere, travelsOf, reckoned-since}
+use Rattle.promise.proofs.Holding.{new-whole, reckoned-whole}
 
 -- ---- an accepted step
 
@@ -111,6 +113,13 @@ stands : (calls : List Call) → lastTrack (run calls) ≡ trackAt (standingOn n
 unfolding trackAt
 stands calls = ends calls ∙ closed calls nowhere
 
+held : (calls : List Call) → let last = lastHeld (travelsSince (standingOn nowhere (acceptedCalls trackNew calls))) in let r = lastTrack (run calls) .recent in
+    (travelsIn r ≡ last) × (r .down ≡ sumDown last) × (r .across ≡ sumAcross last)
+held calls = rw (stands calls) (standing-held (standingOn nowhere (acceptedCalls trackNew calls)))
+
+whole : (calls : List Call) → T (recentOk (lastTrack (run calls) .recent))
+whole calls = rw (ends calls) (reckoned-whole calls trackNew new-whole .ok)
+
 unhomed : (calls : List Call) → NoHoming (acceptedCalls trackNew calls) → lastTrack (run calls) ≡ trackNew
 unfolding trackAt
 unhomed calls h = stands calls ∙ ap trackAt (stays-nowhere (acceptedCalls trackNew calls) h)
@@ -118,6 +127,8 @@ unhomed calls h = stands calls ∙ ap trackAt (stays-nowhere (acceptedCalls trac
 pub promise : (calls : List Call) → Promise calls
 promise calls = record {
   stands = stands calls;
+  held = held calls;
+  whole = whole calls;
   unhomed = unhomed calls;
   reckoning = ends calls;
   refusals = each _ (λ t c. agrees t c .refusal) calls;

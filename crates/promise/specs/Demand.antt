@@ -5,13 +5,13 @@
 --   travel, votersIn         a pair's travel, by exhaustive bests, and its voters
 --   refusalOf, accept        which refusal applies to a call, and what an accepted one does
 --   reckon, reckoned         the plain reckoning
---   acceptedCalls, standingOn, trackAt   where the reckoning ends, in one line
+--   acceptedCalls, standingOn, trackAt   where the reckoning ends, in one line; travelsSince: the travels since homing
 --   Result, run, lastTrack   what the gauge's own calls answer, one after the other
 --   EachCall, EachStep       of each call, of each accepted step
 --   Promise                  what is promised
 -- From below come: reckonCall, acceptedFrom, runFrom, lastHanded and EachCall, of any list of calls (base: Calls), candidate and distortion (frame,
--- distortion), Best and best (search), voting (voter), voters, votes, majority and Most (reading), turned (order), homedAt and movedTo (track), the steps of search 2
--- (pruned), and what the contracts of the code cite: searchBlock (block), field (field), trackNew, trackHome and trackStep (track).
+-- distortion), Best and best (search), voting (voter), voters, votes, majority and Most (reading), turned (order), recentOk, lastHeld, travelsIn, holding, sumDown and
+-- sumAcross (recent), homedAt and movedTo (track), the steps of search 2 (pruned), and what the contracts of the code cite: searchBlock (block), field (field), trackNew, trackHome and trackStep (track).
 use Prim.Native.Nat.{ℕ, _+_, _*_, _≤_, _<_}
 use mathlib.Core.Path.{_≡_}
 use mathlib.Core.Bool.{Bool, true, not, _&&_}
@@ -42,6 +42,7 @@ use Rattle.voter.specs.Voter.{voting}
 use Rattle.reading.specs.Reading.{voters, votes, majority, Most}
 use Rattle.field_rules.specs.Rules.{listSize, fieldRefusal}
 use Rattle.field.specs.Field.{FieldResult, field}
+use Rattle.recent.specs.Recent.{lastHeld, recentOk, travelsIn, sumDown, sumAcross, holding}
 use Rattle.track.specs.declared.Track.{Track}
 use Rattle.track.specs.declared.Homed.{Homed}
 use Rattle.track_rules.specs.Rules.{inRange}
@@ -55,7 +56,8 @@ pub data Call : Type 0 where
   home : (y x : ℤ) → Call
   step : (p : Pair) (w t : ℕ) (list : List ℤ) (table : List ℕ) → Call
 
--- ---- 2. The plain reckoning: "fed the calls' inputs alone (of lent list and table just the lengths), keeps the track's four values from New"
+-- ---- 2. The plain reckoning: "fed the calls' inputs alone (of lent list and table just the lengths), keeps the track's four values from New", and 02, request 7,
+-- the last 64 travels and their sums: "The reckoning keeps both beside its four values, by these same rules."
 
 -- grid block k's exhaustive best: "its candidate of least distortion (equals: preference order)"
 abbrev pub bestOf : Pair → ℕ → ℕ → Vector
@@ -76,7 +78,7 @@ refusalOf t (home y x) = unless (inRange y && inRange x) 11 0
 refusalOf t (step p w threshold list table) =
     firstRefusal (fieldRefusal (length (p .older)) (length (p .newer)) (requestOf (p .setting) 2 w threshold) (length list) (length table))
     (unless (t .homed) 31
-    (unless (not (leb 1000000 (t .steps))) 32
+    (unless (not (leb 1000000 (t .steps)) && recentOk (t .recent)) 32
     (unless (not (eqb (votersIn p) 0)) 52
     (unless (inRange (t .y +ℤ travel p w .dy) && inRange (t .x +ℤ travel p w .dx)) 33 0))))
 
@@ -92,7 +94,7 @@ reckon = reckonCall refusalOf accept
 abbrev pub reckoned : Track → List Call → Track
 reckoned = foldl reckon
 
--- ---- 3. The same in one line: the last accepted homing place plus the travels of all pairs accepted since, their number as steps
+-- ---- 3. The same in one line: the last accepted homing place plus the travels of all pairs accepted since, their number as steps, and the last 64 of them
 
 -- the accepted calls, in order
 abbrev pub acceptedCalls : Track → List Call → List Call
@@ -111,15 +113,14 @@ standOn (from y x vs) (step p w threshold list table) = from y x (vs ++ (travel 
 abbrev pub standingOn : Standing → List Call → Standing
 standingOn = foldl standOn
 
-abbrev pub sumDown : List Vector → ℤ
-sumDown = sumEach (λ v. v .dy)
-
-abbrev pub sumAcross : List Vector → ℤ
-sumAcross = sumEach (λ v. v .dx)
+-- all travels since the last homing
+abbrev pub travelsSince : Standing → List Vector
+travelsSince nowhere = []
+travelsSince (from y x vs) = vs
 
 unfoldable pub trackAt : Standing → Track
 trackAt nowhere = trackNew
-trackAt (from y x vs) = record { homed = true; y = y +ℤ sumDown vs; x = x +ℤ sumAcross vs; steps = length vs }
+trackAt (from y x vs) = record { homed = true; y = y +ℤ sumDown vs; x = x +ℤ sumAcross vs; steps = length vs; recent = holding (lastHeld vs) }
 
 -- no homing among the calls
 unfoldable pub NoHoming : List Call → Type 0
@@ -235,6 +236,11 @@ Runs p search w t =
 pub record Promise (calls : List Call) : Type 0 where
   -- the track stands at the last accepted homing place plus the travels of all pairs accepted since, with their number as its steps
   pub stands : lastTrack (run calls) ≡ trackAt (standingOn nowhere (acceptedCalls trackNew calls))
+  -- 02, request 7: "For every list of calls the held ones are the last 64 accepted since homing, and the sums are theirs."
+  pub held : let last = lastHeld (travelsSince (standingOn nowhere (acceptedCalls trackNew calls))) in let r = lastTrack (run calls) .recent in
+      (travelsIn r ≡ last) × (r .down ≡ sumDown last) × (r .across ≡ sumAcross last)
+  -- and no list of calls leads to a track that 32 refuses for them
+  pub whole : T (recentOk (lastTrack (run calls) .recent))
   -- all zeros and unhomed where no homing was accepted
   pub unhomed : NoHoming (acceptedCalls trackNew calls) → lastTrack (run calls) ≡ trackNew
   -- "In the end track and reckoning are equal,

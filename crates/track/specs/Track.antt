@@ -1,6 +1,7 @@
 -- 01, "Field, reading, track": "The track holds homed or not, y, x and steps. New: not homed, 0, 0, 0. Home (y, x), each in -1,000,000..1,000,000: homed,
 -- that place, steps 0. Step (pair, search): adds the travel to y, x and 1 to steps, and answers with the track and all that the field call answers. Steps
--- end at 1,000,000. A refused call changes nothing in the track." "Travel is the reading with both signs turned." 02, request 3: a step's pair has a voter.
+-- end at 1,000,000. A refused call changes nothing in the track." "Travel is the reading with both signs turned." 02, request 3: a step's pair has a voter;
+-- request 7: "The track holds the last 64 travels, oldest first, and the sum of each part as stored numbers, kept true by step and homing alike."
 --   trackNew, homedAt, movedTo   the track: new, homed at a place, after a travel
 --   trackHome    what Home answers: 11, or the new place
 --   stepRefusal  the refusals of a step that come before anything is filled: 1 2 3 4 51 5 6 9 10 31 32
@@ -21,20 +22,22 @@ use Rattle.refusals.specs.Refusals.{firstRefusal}
 use Rattle.field.specs.declared.FieldAnswer.{FieldAnswer}
 use Rattle.field_rules.specs.Rules.{fieldRefusal}
 use Rattle.field.specs.Field.{refusedField, FieldResult, field}
+use Rattle.recent.specs.Recent.{noTravels, recentMore}
 use Rattle.track_rules.specs.Rules.{homeRefusal, stateRefusal, arrivalRefusal}
 use Rattle.track.specs.declared.Track.{Track}
 use Rattle.track.specs.declared.Homed.{Homed}
 use Rattle.track.specs.declared.Stepped.{Stepped}
 
 abbrev pub trackNew : Track
-trackNew = record { homed = false; y = pos 0; x = pos 0; steps = 0 }
+trackNew = record { homed = false; y = pos 0; x = pos 0; steps = 0; recent = noTravels }
 
+-- "Homing empties them, all places and sums 0."
 abbrev pub homedAt : ℤ → ℤ → Track
-homedAt y x = record { homed = true; y = y; x = x; steps = 0 }
+homedAt y x = record { homed = true; y = y; x = x; steps = 0; recent = noTravels }
 
--- "adds the travel to y, x and 1 to steps"
+-- "adds the travel to y, x and 1 to steps", and holds it
 abbrev pub movedTo : Track → Vector → Track
-movedTo t v = record { homed = true; y = t .y +ℤ v .dy; x = t .x +ℤ v .dx; steps = t .steps + 1 }
+movedTo t v = record { homed = true; y = t .y +ℤ v .dy; x = t .x +ℤ v .dx; steps = t .steps + 1; recent = recentMore (t .recent) v }
 
 -- ---- Home
 
@@ -47,7 +50,7 @@ trackHome t y x =
 
 -- the field's refusals, then 31 and 32: "Tested after all input refusals."
 unfoldable pub stepRefusal : Track → ℕ → ℕ → Request → ℕ → ℕ → ℕ
-stepRefusal t older newer q list table = firstRefusal (fieldRefusal older newer q list table) (stateRefusal (t .homed) (t .steps))
+stepRefusal t older newer q list table = firstRefusal (fieldRefusal older newer q list table) (stateRefusal (t .homed) (t .steps) (t .recent))
 
 -- refused: the number, zeros elsewhere and the old track
 abbrev pub unmoved : ℕ → Track → Stepped

@@ -1,18 +1,22 @@
 // The track, by value: where the paper stands. Home sets it, a step adds the travel of a pair of pictures; each hands the track and an answer back.
 
 ghost use mathlib.Core.Path.{_≡_};
-ghost use Prim.Native.Nat.{_<_};
+ghost use lib.Dec.{T};
+ghost use Rattle.order.specs.Vectors.{vec, Within};
+ghost use Rattle.track_rules.specs.Rules.{mayStep};
 ghost use Rattle.track.specs.Track.{trackNew, trackHome, stepRefusal, unmoved, arrived, stepResult, trackStep};
 use field::FieldAnswer;
+use recent::Recent;
 use refusals::Request;
 
-// Homed or not, the place, and the steps since it was homed.
+// Homed or not, the place, the steps since it was homed, and the last 64 travels.
 #[repr(C)]
 pub struct Track {
     pub homed: bool,
     pub y: i32,
     pub x: i32,
     pub steps: u32,
+    pub recent: Recent,
 }
 
 // What Home answers.
@@ -40,7 +44,7 @@ fn unmoved(refusal: u32, t: Track) -> Stepped
 }
 
 impl Track {
-    // New: not homed, 0, 0, 0.
+    // New: not homed, 0, 0, 0, no travels.
     pub fn new() -> Track
         ensures { λ r. ⌜ r ≡ trackNew ⌝ }
     {
@@ -49,10 +53,11 @@ impl Track {
             y: 0,
             x: 0,
             steps: 0,
+            recent: recent::no_travels(),
         }
     }
 
-    // Home: the place (y, x), or 11 and the old track.
+    // Home: the place (y, x) and no travels, or 11 and the old track.
     pub fn home(self, y: i32, x: i32) -> Homed
         ensures { λ r. ⌜ r ≡ trackHome self y x ⌝ }
     {
@@ -70,6 +75,7 @@ impl Track {
                 y,
                 x,
                 steps: 0,
+                recent: recent::no_travels(),
             },
         }
     }
@@ -89,18 +95,20 @@ impl Track {
         if refusal != 0 {
             return refusal;
         }
-        track_rules::state_refusal(self.homed, self.steps)
+        let travels = self.recent;
+        track_rules::state_refusal(self.homed, self.steps, travels)
     }
 
-    // The reading's reverse added to the place, or 52 or 33 and the old track.
+    // The reading's reverse added to the place and to the travels, or 52 or 33 and the old track.
     fn arrive(self, a: FieldAnswer) -> Stepped
-        requires { ⌜ self .steps < 1000000 ⌝ }
+        requires { ⌜ T (mayStep (self .steps) (self .recent)) × Within 16 (vec (a .dy) (a .dx)) ⌝ }
         ensures { λ r. ⌜ r ≡ arrived self a ⌝ }
     {
         let place = track_rules::arrive(self.y, self.x, a.dy, a.dx, a.voters);
         if place.refusal != 0 {
             return unmoved(place.refusal, self);
         }
+        let travels = self.recent;
         Stepped {
             answer: a,
             track: Track {
@@ -108,6 +116,7 @@ impl Track {
                 y: place.y,
                 x: place.x,
                 steps: self.steps + 1,
+                recent: recent::recent_more(travels, signed::negated(a.dy), signed::negated(a.dx)),
             },
         }
     }

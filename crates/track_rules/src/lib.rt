@@ -2,6 +2,7 @@
 
 ghost use mathlib.Core.Path.{_≡_};
 ghost use Rattle.track_rules.specs.Rules.{homeRefusal, stateRefusal, refusedArrival, arrive};
+use recent::Recent;
 use signed::Moved;
 
 // The place after a travel, or 52 or 33 and zeros.
@@ -25,14 +26,17 @@ pub fn home_refusal(y: i32, x: i32) -> u32
 }
 
 // 31 or 32 where a track in this state may not step, else 0.
-pub fn state_refusal(homed: bool, steps: u32) -> u32
-    ensures { λ r. ⌜ r ≡ stateRefusal homed steps ⌝ }
+pub fn state_refusal(homed: bool, steps: u32, travels: Recent) -> u32
+    ensures { λ r. ⌜ r ≡ stateRefusal homed steps travels ⌝ }
 {
     if !homed {
         return 31;
     }
     if 1000000 <= steps {
-        return 32;
+        return 32; // the steps have ended
+    }
+    if !recent::recent_ok(travels) {
+        return 32; // a fault in the travels held
     }
     0
 }

@@ -6,7 +6,7 @@ use mathlib.Core.Bool.{true}
 use mathlib.Core.List.{List, [], _∷_}
 use native.Mathlib.Omega.{arith}
 use lib.IntN.{pos}
-use Rattle.base.specs.Sum.{sumTo}
+use Rattle.base.specs.Sum.{sumTo, sumEach}
 use Rattle.base.specs.Least.{leastOf, leastFrom}
 use Rattle.base.specs.Calls.{reckonCall, EachCall, last-each}
 use Rattle.signed.specs.Int.{up}
@@ -21,6 +21,7 @@ use Rattle.probe.specs.Probe.{origin}
 use Rattle.voter.specs.Voter.{largestTo, smallestTo, largest, smallest, isVoter}
 use Rattle.reading.specs.Reading.{voters}
 use Rattle.field_rules.specs.Rules.{fieldRefusal}
+use Rattle.recent.specs.Recent.{noTravels, sumHeld, partsOk, placesMore, recentOk, recentMore}
 use Rattle.track.specs.declared.Track.{Track}
 use Rattle.track.specs.Track.{trackNew}
 use Rattle.promise.specs.Demand.{Call, travel, refusalOf, accept, reckon, reckoned, Result, trackIn, lastTrack}
@@ -47,25 +48,21 @@ oneStep = home (pos 10) (pos 20) ∷ stepB ∷ []
 abbrev pub twoSteps : List Call
 twoSteps = home (pos 10) (pos 20) ∷ stepB ∷ step pairB 0 0 (heldList 5) (heldTable 32) ∷ []
 
-at : (steps : ℕ) → Track
-at steps = record { homed = true; y = pos 10; x = pos 19; steps = steps }
-
-ends-B : (reckoned trackNew oneStep ≡ at 1) × (reckoned trackNew twoSteps ≡ at 2)
+ends-B : (reckoned trackNew oneStep .x ≡ pos 19) × (reckoned trackNew twoSteps .x ≡ pos 19)
 unfolding
-    pairB reckonCall refusalOf accept fieldRefusal requestRefusal pairRefusal blockSizeOk windowOk thresholdOk firstRefusal blocks rows columns at
-    blockRow blockColumn largestTo smallestTo largest smallest isVoter voters sumTo
+    pairB reckonCall refusalOf accept fieldRefusal requestRefusal pairRefusal blockSizeOk windowOk thresholdOk firstRefusal blocks rows columns
+    blockRow blockColumn largestTo smallestTo largest smallest isVoter voters sumTo noTravels sumHeld partsOk placesMore recentOk recentMore sumEach
 ends-B = (rw (travels-B .0), rw (travels-B .0, travels-B .1))
 
 -- a track that stands at another x
-elsewhere : (x : ℕ) (cs : List Call) (rs : List Result) (n : ℕ) → EachCall reckon Tracks trackNew cs rs → reckoned trackNew cs ≡ at n
+elsewhere : (x : ℕ) (cs : List Call) (rs : List Result) → EachCall reckon Tracks trackNew cs rs → reckoned trackNew cs .x ≡ pos 19
     → (x ≡ 19 → ⊥) → lastTrack rs .x ≡ pos x → ⊥
-unfolding at
-elsewhere x cs rs n k e ne h = ne (ap up (sym h ∙ ap (λ (t : Track). t .x) (last-each reckon trackIn cs rs trackNew k ∙ e)))
+elsewhere x cs rs k e ne h = ne (ap up (sym h ∙ ap (λ (t : Track). t .x) (last-each reckon trackIn cs rs trackNew k) ∙ e))
 
 -- "still paper for every pair"
 pub still-excluded : (rs : List Result) → EachCall reckon Tracks trackNew oneStep rs → lastTrack rs .x ≡ pos 20 → ⊥
-still-excluded rs k = elsewhere 20 oneStep rs 1 k (ends-B .0) (λ q. omega arith)
+still-excluded rs k = elsewhere 20 oneStep rs k (ends-B .0) (λ q. omega arith)
 
 -- "a first step worked out and its travel repeated"
 pub repeated-excluded : (rs : List Result) → EachCall reckon Tracks trackNew twoSteps rs → lastTrack rs .x ≡ pos 18 → ⊥
-repeated-excluded rs k = elsewhere 18 twoSteps rs 2 k (ends-B .1) (λ q. omega arith)
+repeated-excluded rs k = elsewhere 18 twoSteps rs k (ends-B .1) (λ q. omega arith)

@@ -2,7 +2,7 @@
 -- Once.antt, which give the same answers in a form that is quick to compute.
 use mathlib.Core.Path.{_≡_, refl, ap, _∙_}
 use mathlib.Core.List.{List, [], _∷_, flatMap}
-use Rattle.base.specs.Sum.{sumTo}
+use Rattle.base.specs.Sum.{sumTo, sumEach}
 use Rattle.base.specs.Lists.{Each, none, more, listTo, concatTo}
 use Rattle.base.specs.Least.{leastFrom, leastOf}
 use Rattle.base.specs.Picks.{pick}
@@ -32,6 +32,7 @@ use Rattle.voter.specs.Voter.{largestTo, smallestTo, largest, smallest, isVoter
 use Rattle.reading.specs.Reading.{voters, votes}
 use Rattle.field_rules.specs.Rules.{fieldRefusal}
 use Rattle.field.specs.Field.{entriesOf, tableOf}
+use Rattle.recent.specs.Recent.{noTravels, sumHeld, partsOk, placesMore, recentOk, recentMore}
 use Rattle.track.specs.Track.{trackHome, stepRefusal, arrived}
 use Rattle.log_head.specs.Heads.{headRefusal, entryOk, isStill}
 use Rattle.log_command.specs.Numbers.{be2, be4}
@@ -104,7 +105,7 @@ unfolding
     searchRefusal walkPlaces after pick valueOf halfPel tried halfDistortion winner refined
     rows columns blocks blockRow blockColumn listTo concatTo summed fieldRefusal entriesOf tableOf
     largestTo smallestTo largest smallest isVoter voters votes every allAlike
-    runFrom trackHome stepRefusal arrived
+    runFrom trackHome stepRefusal arrived noTravels sumHeld partsOk placesMore recentOk recentMore sumEach
     signedByte byteOf headRefusal entryOk isStill be2 be4 judged headIn taken endTaken standingOk startCommand bodyCommand stepAt
     commandsFrom logWalk lastOf blockCommand logCommands logOf flatMap
     listRefusal firstWrong listVerdict writeLog fieldOf logRead readLog digits numberText spaced endWord refusedWord atWord worded printLog

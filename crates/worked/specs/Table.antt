@@ -35,6 +35,7 @@ use Rattle.half_search.specs.Half.{halfResult, searchHalf}
 use Rattle.field.specs.declared.FieldAnswer.{FieldAnswer}
 use Rattle.refusals.specs.Refusals.{requestOf}
 use Rattle.field.specs.Field.{refusedField, FieldResult, fieldResult, field}
+use Rattle.recent.specs.declared.Recent.{Recent}
 use Rattle.track.specs.declared.Track.{Track}
 use Rattle.track.specs.Track.{homedAt, stepResult}
 use Rattle.log_head.specs.declared.Head.{Head}
@@ -256,6 +257,10 @@ stepC = step pairC 1 0 (heldList 14) (heldTable 83)
 abbrev pub homeAndStep : ℤ → ℤ → Call → Query
 homeAndStep y x c = calls (home y x ∷ c ∷ [])
 
+-- one travel held, in the first place: 02, request 7
+abbrev pub oneHeld : ℤ → ℤ → Recent
+oneHeld dy dx = record { held = 1; dy = dy ∷ replicate 63 (pos 0); dx = dx ∷ replicate 63 (pos 0); down = dy; across = dx }
+
 -- Home is accepted; the step hands the track back, with what the field call answers or a refusal, and list and table are filled
 abbrev pub homedAndStepped : ℤ → ℤ → Track → FieldAnswer → List ℤ → List ℕ → Answer
 homedAndStepped y x t a list table =
@@ -387,9 +392,10 @@ table =
     ∷ (search pairC fourStep 0 0 gives stillAfter 7)
     ∷ (search pairC (cross 2 0) 0 0 gives stillAfter 4)
     ∷ (search pairC (cross 2 1) 0 0 gives stillAfter 1)
-    -- G* "home (10,20), step B: (10,19), steps 1"
+    -- G* "home (10,20), step B: (10,19), steps 1", and that travel held
     ∷ (homeAndStep (pos 10) (pos 20) stepB
-    gives homedAndStepped (pos 10) (pos 20) (record { homed = true; y = pos 10; x = pos 19; steps = 1 }) readsB listB tableB)
+    gives homedAndStepped (pos 10) (pos 20) (record { homed = true; y = pos 10; x = pos 19; steps = 1; recent = oneHeld (pos 0) (minus 1) })
+    readsB listB tableB)
     -- H* "home (0,-1000000), step B: 33": the old track, zeros, list and table filled
     ∷ (homeAndStep (pos 0) (minus 1000000) stepB
     gives homedAndStepped (pos 0) (minus 1000000) (homedAt (pos 0) (minus 1000000)) (refusedField 33) listB tableB)

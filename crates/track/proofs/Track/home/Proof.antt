@@ -1,4 +1,4 @@
--- `home`: a refusal, or the place, which comes back from its bits unchanged.
+-- `home`: a refusal, or the place, which comes back from its bits unchanged, and no travels.
 use mathlib.Core.Path.{_≡_, sym, ap₂, _∙_}
 use borrow.Author.Needs.{needs}
 use borrow.Author.Tests.{ne-eqb}
@@ -18,11 +18,15 @@ returns : tie.Need-returns
 unfolding trackHome
 returns c = rw (← (refusal-is (c .before)), ne-eqb _ 0 (c .if1 .taken))
 
+no-travels-requires : tie.Need-no-travels-requires
+no-travels-requires c κs = search needs
+
 returns-2 : tie.Need-returns-2
 unfolding trackHome
 returns-2 c =
-    let s = c .before .before in
-    rw (← (refusal-is (c .before)), c .if1 .left, toZ-ofZ (s .fits .y), toZ-ofZ (s .fits .x))
+    let e = c .before in
+    let s = e .before .before in
+    rw (← (refusal-is (e .before)), e .if1 .left, toZ-ofZ (s .fits .y), toZ-ofZ (s .fits .x), c .no-travels .ensures)
 
 pub home-spec : {M : Type 1} → statement M
-home-spec = tie.close (tie.spec home-refusal-requires returns returns-2)
+home-spec = tie.close (tie.spec home-refusal-requires returns no-travels-requires returns-2)

@@ -1,33 +1,39 @@
 -- `step`: a refusal, or the field and then the new place.
-use Prim.Native.Nat.{ℕ, _<_}
-use mathlib.Core.Path.{_≡_, sym, ap, _∙_}
-use mathlib.Core.Bool.{not}
+use Prim.Native.Nat.{ℕ}
+use mathlib.Core.Path.{_≡_, sym, ap, subst, _∙_}
 use mathlib.Core.List.{List}
 use borrow.Author.Needs.{needs}
-use borrow.Author.Tests.{not-true, leb-false}
 use denote.Ref.{now}
-use lib.Dec.{leb}
+use lib.Dec.{T}
 use lib.IntN.{ℤ}
-use Rattle.base.specs.Tests.{T-true}
+use lib.ListN.{length}
+use Rattle.order.specs.Vectors.{vec, Within}
 use Rattle.refusals.specs.declared.Request.{Request}
 use Rattle.refusals.specs.Refusals.{unless-zero, first-refusal-zero}
 use Rattle.field.specs.declared.FieldAnswer.{FieldAnswer}
 use Rattle.field_rules.specs.Rules.{fieldRefusal}
-use Rattle.field.specs.Field.{fieldResult, field}
+use Rattle.field.specs.Field.{FieldResult, fieldResult, field}
+use Rattle.field.proofs.Reading.{reading-within}
+use Rattle.track_rules.specs.Rules.{mayStep}
 use Rattle.track.specs.declared.Track.{Track}
 use Rattle.track.specs.declared.Stepped.{Stepped}
 use Rattle.track.specs.Track.{stepRefusal, stepRefusalIs, unmoved, stepResult, arrived, landed, trackStep, step-refused, step-landed}
 use Rattle.track.proofs.Track.step.Statement.{statement}
 use Rattle.track.proofs.Track.step.Tie as tie
 
--- no 32: the steps have not ended
-few-steps : (t : Track) (older newer : ℕ) (q : Request) (list table : ℕ) → stepRefusal t older newer q list table ≡ 0 → t .steps < 1000000
+-- no 32
+may-step : (t : Track) (older newer : ℕ) (q : Request) (list table : ℕ) → stepRefusal t older newer q list table ≡ 0 → T (mayStep (t .steps) (t .recent))
 unfolding stepRefusal
-few-steps t older newer q list table e =
+may-step t older newer q list table e =
     let a = first-refusal-zero (fieldRefusal older newer q list table) _ e in
     let b = unless-zero (t .homed) 30 _ (a .1) in
-    let c = unless-zero (not (leb 1000000 (t .steps))) 31 0 (b .1) in
-    leb-false 1000000 (t .steps) (not-true (leb 1000000 (t .steps)) (T-true (not (leb 1000000 (t .steps))) (c .0)))
+    unless-zero (mayStep (t .steps) (t .recent)) 31 0 (b .1) .0
+
+-- nor a refusal of the field
+field-fine : (t : Track) (older newer : ℕ) (q : Request) (list table : ℕ) → stepRefusal t older newer q list table ≡ 0
+    → fieldRefusal older newer q list table ≡ 0
+unfolding stepRefusal
+field-fine t older newer q list table e = first-refusal-zero (fieldRefusal older newer q list table) _ e .0
 
 module _ (t : Track) (older newer : List ℕ) (q : Request) (list : List ℤ) (table : List ℕ) where
   -- a refusal
@@ -42,6 +48,13 @@ module _ (t : Track) (older newer : List ℕ) (q : Request) (list : List ℤ) (t
       → stepResult s filled sums ≡ trackStep t older newer q list table
   arrives a filled sums s z f e =
       ap (λ (u : Stepped). stepResult u filled sums) e ∙ ap (landed t) f ∙ sym (step-landed t older newer q list table z)
+
+  -- whose reading lies in window 16
+  reads-within : (a : FieldAnswer) (filled : List ℤ) (sums : List ℕ)
+      → stepRefusalIs t older newer q list table ≡ 0 → fieldResult a filled sums ≡ field older newer q list table → Within 16 (vec (a .dy) (a .dx))
+  reads-within a filled sums z f =
+      subst (λ (r : FieldResult). Within 16 (vec (r .answer .dy) (r .answer .dx))) (sym f)
+      (reading-within older newer q list table (field-fine t (length older) (length newer) q (length list) (length table) z))
 
 -- past the chain
 zero-is : (e : tie.Else1) →
@@ -64,7 +77,10 @@ field-requires : tie.Need-field-requires
 field-requires c κs = search needs
 
 arrive-requires : tie.Need-arrive-requires
-arrive-requires c κs = let f = c .before .before .before in few-steps _ _ _ _ _ _ (zero-is (f .before .before .before))
+arrive-requires c κs =
+    let f = c .before .before .before in
+    let z = zero-is (f .before .before .before) in
+    (may-step _ _ _ _ _ _ z, reads-within _ _ _ _ _ _ _ _ _ z (f .field .ensures))
 
 same-length : tie.Need-same-length
 same-length c = search needs

@@ -18,7 +18,7 @@ state-refusal-requires c κs = search needs
 
 returns-2 : tie.Need-returns-2
 unfolding stepRefusal
-returns-2 c = let e = c .before in rw (← (e .before .field-refusal .ensures)) (c .state-refusal .ensures ∙ sym (first-refusal-none _ _ (e .if1 .left)))
+returns-2 c = let e = c .before .before in rw (← (e .before .field-refusal .ensures)) (c .state-refusal .ensures ∙ sym (first-refusal-none _ _ (e .if1 .left)))
 
 pub step-refusal-spec : {M : Type 1} → statement M
 step-refusal-spec = tie.close (tie.spec field-refusal-requires returns state-refusal-requires returns-2)
