@@ -61,7 +61,8 @@ enum gauge_refusal {
     GAUGE_SHORT_BUFFER = 19,  /* writing a log: a buffer shorter than the log */
     GAUGE_LOG_TOO_LONG = 20,  /* printing a log: more than 65,536 bytes; in the printed text alone, never in an answer */
     GAUGE_NOT_HOMED = 31,     /* a step of a track that is not homed */
-    GAUGE_STEPS_OVER = 32,    /* a step of a track that has 1,000,000 steps or more */
+    GAUGE_STEPS_OVER = 32,    /* a step of a track that has 1,000,000 steps or more; or that holds more than 64 travels, a part outside -16 to 16, or
+                               * a sum that is not that of the parts held */
     GAUGE_OUT_OF_RANGE = 33,  /* a step that would lead outside -1,000,000 to 1,000,000 */
     GAUGE_WALK_OVER = 34,     /* walking a log: a walk that is over, or a cursor that no walk of this log can have */
     GAUGE_BAD_MEASURE = 51,   /* the measure neither 1 nor 2 */
@@ -156,15 +157,23 @@ typedef struct {
 gauge_field_answer gauge_field(const uint8_t *older, size_t older_length, const uint8_t *newer, size_t newer_length,
                                gauge_request request, int32_t *list, size_t list_length, uint32_t *table, size_t table_length);
 
-/* Where the paper stands. A track is a plain value: a call takes the old one and hands the new one back. One built by hand is taken
- * too, whatever its numbers. */
+/* How many travels a track holds at most. */
+#define GAUGE_HELD_MOST 64
+
+/* Where the paper stands, and its last travels: those since it was homed, of more than 64 the last 64. They stand oldest first, in places 0 to
+ * held - 1; no call looks at the places behind them, and a step keeps what these hold but for the one that it writes. A track is a plain value: a
+ * call takes the old one and hands the new one back. One built by hand is taken too: homing looks at nothing in it, and a step refuses by 32 what no
+ * track can hold. */
 typedef struct {
     bool homed;     /* true or false: any other byte in its place is no bool of C, and nothing is said of a call that gets it */
     int32_t y, x;   /* the place: y down, x to the right */
     uint32_t steps; /* steps since it was homed */
+    uint32_t held;  /* how many travels it holds */
+    int32_t travel_dy[GAUGE_HELD_MOST], travel_dx[GAUGE_HELD_MOST]; /* what each of them added to y and to x, -16 to 16 */
+    int32_t sum_dy, sum_dx;                                         /* the sums of what is held */
 } gauge_track;
 
-/* A new track: not homed, at (0,0), no steps. */
+/* A new track: not homed, at (0,0), no steps, no travels; all places and sums are 0. */
 gauge_track gauge_track_new(void);
 
 /* What homing answers: the track, the old one where refused. */
@@ -173,7 +182,7 @@ typedef struct {
     gauge_track track;
 } gauge_homed;
 
-/* Homes at (y, x): homed, that place, no steps. Tests 11. */
+/* Homes at (y, x): homed, that place, no steps, no travels; all places and sums are 0, whatever the old track held. Tests 11. */
 gauge_homed gauge_home(gauge_track track, int32_t y, int32_t x);
 
 /* What a step answers: all that the field call answers, and the track, the old one where refused. */
@@ -182,8 +191,9 @@ typedef struct {
     gauge_track track;
 } gauge_stepped;
 
-/* Adds the travel of a pair to the place, and 1 to the steps. Lent memory is as the field call leaves it, also where 52 or 33 refuses; any
- * other refusal leaves it as it was. Tests 1 2 3 4 51 5 6 9 10 31 32 52 33. */
+/* Adds the travel of a pair to the place, and 1 to the steps. The travel comes behind those held, and the sums go up by it; where 64 are held the
+ * oldest goes out, the others move down by a place, and the sums go down by what went out. Lent memory is as the field call leaves it, also where 52
+ * or 33 refuses; any other refusal leaves it as it was. Tests 1 2 3 4 51 5 6 9 10 31 32 52 33. */
 gauge_stepped gauge_step(gauge_track track, const uint8_t *older, size_t older_length, const uint8_t *newer, size_t newer_length,
                          gauge_request request, int32_t *list, size_t list_length, uint32_t *table, size_t table_length);
 

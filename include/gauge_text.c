@@ -49,7 +49,7 @@ const char *gauge_refusal_text(uint32_t refusal)
     case GAUGE_NOT_HOMED:
         return "the track is not homed";
     case GAUGE_STEPS_OVER:
-        return "the track has made 1,000,000 steps or more: home it";
+        return "the track has made 1,000,000 steps or more, or holds travels or sums that cannot be: home it";
     case GAUGE_OUT_OF_RANGE:
         return "the step would lead outside -1,000,000 to 1,000,000";
     case GAUGE_WALK_OVER:

@@ -2,7 +2,8 @@
  * one that is accepted and one that is refused, in numbers that are all different, and what lent memory holds after each; the two
  * measures, and where the refusal of any other stands among the refusals; the ceiling around the sum at every row's end; the values between pels,
  * which neighbours half a pel away count and which of equals wins; which blocks vote, and what a pair without a voter answers; blocks of 32, and logs
- * with every command; the refusals by name and by text, and the lengths that the macros give. The rules behind the numbers are tested by tests/rival.
+ * with every command; the last travels of a track, and which tracks built by hand are turned away for theirs; the refusals by name and by text, and
+ * the lengths that the macros give. The rules behind the numbers are tested by tests/rival.
  *
  * What differs is printed as FILE:LINE: CALL: MEMBER: got THIS, wanted THAT. */
 #include <stdio.h>
@@ -50,19 +51,18 @@ static void same_place(int line, const char *array, size_t place, int64_t got, i
 #define SAME(got, wanted) same(__LINE__, #got, (int64_t)(got), (int64_t)(wanted))
 
 /* The places from..to of an array against an expression of the place i. The first that differs is printed. */
-#define EACH(array, from, to, wanted)                                          \
-    do {                                                                       \
-        size_t i = (from);                                                     \
-        while (i + 1 < (to) && (int64_t)array[i] == (int64_t)(wanted))         \
-            i++;                                                               \
-        same_place(__LINE__, #array, i, (int64_t)array[i], (int64_t)(wanted)); \
+#define EACH(array, from, to, wanted) EACH_AT(__LINE__, array, from, to, wanted)
+#define EACH_AT(line, array, from, to, wanted)                             \
+    do {                                                                   \
+        size_t i = (from);                                                 \
+        while (i + 1 < (to) && (int64_t)array[i] == (int64_t)(wanted))     \
+            i++;                                                           \
+        same_place(line, #array, i, (int64_t)array[i], (int64_t)(wanted)); \
     } while (0)
 
 /* Structs, member by member. */
 #define SAME_HEAD(got, width_, height_, n_, w_, search_, measure_) \
     (SAME(got.width, width_), SAME(got.height, height_), SAME(got.n, n_), SAME(got.w, w_), SAME(got.search, search_), SAME(got.measure, measure_))
-
-#define SAME_TRACK(got, homed_, y_, x_, steps_) (SAME(got.homed, homed_), SAME(got.y, y_), SAME(got.x, x_), SAME(got.steps, steps_))
 
 #define SAME_COUNTS(got, at32, at16, at8, at4, at2, at1, dropped_)                                                                       \
     (SAME(got.counts[0], at32), SAME(got.counts[1], at16), SAME(got.counts[2], at8), SAME(got.counts[3], at4), SAME(got.counts[4], at2), \
@@ -88,6 +88,22 @@ static void same_place(int line, const char *array, size_t place, int64_t got, i
 #define SAME_WALKED(got, refusal_, place_, command_, dy_, dx_, distortion_, blocks_)                                          \
     (SAME(got.refusal, refusal_), SAME(got.place, place_), SAME(got.command, command_), SAME(got.dy, dy_), SAME(got.dx, dx_), \
      SAME(got.distortion, distortion_), SAME(got.blocks, blocks_))
+
+/* A track, member by member, and every place of its travels. */
+static void same_track(int line, gauge_track track, gauge_track wanted)
+{
+    same(line, "track.homed", track.homed, wanted.homed);
+    same(line, "track.y", track.y, wanted.y);
+    same(line, "track.x", track.x, wanted.x);
+    same(line, "track.steps", track.steps, wanted.steps);
+    same(line, "track.held", track.held, wanted.held);
+    EACH_AT(line, track.travel_dy, 0, GAUGE_HELD_MOST, wanted.travel_dy[i]);
+    EACH_AT(line, track.travel_dx, 0, GAUGE_HELD_MOST, wanted.travel_dx[i]);
+    same(line, "track.sum_dy", track.sum_dy, wanted.sum_dy);
+    same(line, "track.sum_dx", track.sum_dx, wanted.sum_dx);
+}
+
+#define SAME_TRACK(got, wanted) same_track(__LINE__, got, wanted)
 
 /* ---- the layout: every member's type and offset, and every struct's size */
 
@@ -142,15 +158,20 @@ HAS(gauge_track, homed, bool, 0);
 HAS(gauge_track, y, int32_t, 4);
 HAS(gauge_track, x, int32_t, 8);
 HAS(gauge_track, steps, uint32_t, 12);
-SIZE(gauge_track, 16);
+HAS(gauge_track, held, uint32_t, 16);
+HAS(gauge_track, travel_dy, int32_t *, 20);
+HAS(gauge_track, travel_dx, int32_t *, 276);
+HAS(gauge_track, sum_dy, int32_t, 532);
+HAS(gauge_track, sum_dx, int32_t, 536);
+SIZE(gauge_track, 540);
 
 HAS(gauge_homed, refusal, uint32_t, 0);
 HAS(gauge_homed, track, gauge_track, 4);
-SIZE(gauge_homed, 20);
+SIZE(gauge_homed, 544);
 
 HAS(gauge_stepped, answer, gauge_field_answer, 0);
 HAS(gauge_stepped, track, gauge_track, 48);
-SIZE(gauge_stepped, 64);
+SIZE(gauge_stepped, 588);
 
 HAS(gauge_head, width, size_t, 0);
 HAS(gauge_head, height, size_t, 8);
@@ -402,66 +423,121 @@ static void fields(void)
     ALL_KEPT();
 }
 
+typedef struct {
+    int32_t dy, dx;
+} travel;
+
+/* The track with these travels in its first places, and their sums. The other places are kept. */
+static gauge_track holding(gauge_track track, const travel *travels, uint32_t held)
+{
+    track.held = held;
+    track.sum_dy = track.sum_dx = 0;
+    for (uint32_t i = 0; i < held; i++) {
+        track.sum_dy += track.travel_dy[i] = travels[i].dy;
+        track.sum_dx += track.travel_dx[i] = travels[i].dx;
+    }
+    return track;
+}
+
+/* A track that holds no travels, but has a stray number in every place, another in each. */
+static gauge_track stray_track(bool is_homed, int32_t y, int32_t x, uint32_t steps)
+{
+    gauge_track track = {.homed = is_homed, .y = y, .x = x, .steps = steps};
+    for (int32_t i = 0; i < GAUGE_HELD_MOST; i++) {
+        track.travel_dy[i] = 1000000 + i;
+        track.travel_dx[i] = -2000000 - i;
+    }
+    return track;
+}
+
+/* A track that holds two travels. */
+static gauge_track stands(bool is_homed, int32_t y, int32_t x, uint32_t steps)
+{
+    return holding(stray_track(is_homed, y, x, steps), (const travel[]){{3, -4}, {-16, 16}}, 2);
+}
+
+/* A track after a step by this travel, which comes behind those held; where they are 64 the oldest goes out. */
+static gauge_track led(gauge_track track, travel by)
+{
+    travel all[GAUGE_HELD_MOST + 1];
+    for (uint32_t i = 0; i < track.held; i++)
+        all[i] = (travel){track.travel_dy[i], track.travel_dx[i]};
+    all[track.held] = by;
+    track.y += by.dy;
+    track.x += by.dx;
+    track.steps++;
+    return track.held < GAUGE_HELD_MOST ? holding(track, all, track.held + 1) : holding(track, all + 1, GAUGE_HELD_MOST);
+}
+
 static void homing(void)
 {
     call = "gauge_track_new";
-    gauge_track track = gauge_track_new();
-    SAME_TRACK(track, false, 0, 0, 0);
+    gauge_track wanted = {0};
+    SAME_TRACK(gauge_track_new(), wanted);
 
+    /* Homing empties all places and sums, whatever they held, and where it leads to the old place too. */
     call = "gauge_home";
-    gauge_homed homed = gauge_home((gauge_track){false, 11, 12, 13}, 345, -678);
-    SAME(homed.refusal, GAUGE_ACCEPTED);
-    SAME_TRACK(homed.track, true, 345, -678, 0);
-    homed = gauge_home((gauge_track){true, 21, -22, 23}, 345, -1000001);
-    SAME(homed.refusal, GAUGE_BAD_HOME);
-    SAME_TRACK(homed.track, true, 21, -22, 23);
-    homed = gauge_home((gauge_track){false, 31, 32, 33}, 1000001, 0);
-    SAME(homed.refusal, GAUGE_BAD_HOME);
-    SAME_TRACK(homed.track, false, 31, 32, 33);
+    wanted = (gauge_track){.homed = true, .y = 345, .x = -678};
+    static const uint32_t numbers[] = {0, 1, 2, 63, 64, 65, 256, 1u << 31, UINT32_MAX};
+    for (size_t i = 0; i < sizeof numbers / sizeof *numbers; i++)
+        for (int is_homed = 0; is_homed <= 1; is_homed++) {
+            gauge_track track = stands(is_homed, 11, 12, 13);
+            track.held = numbers[i];
+            gauge_homed homed = gauge_home(track, 345, -678);
+            SAME(homed.refusal, GAUGE_ACCEPTED);
+            SAME_TRACK(homed.track, wanted);
+            gauge_track there = stands(is_homed, 345, -678, 0);
+            there.held = numbers[i];
+            homed = gauge_home(there, 345, -678);
+            SAME(homed.refusal, GAUGE_ACCEPTED);
+            SAME_TRACK(homed.track, wanted);
+            homed = gauge_home(track, 345, -1000001);
+            SAME(homed.refusal, GAUGE_BAD_HOME);
+            SAME_TRACK(homed.track, track);
+            homed = gauge_home(track, 1000001, 0);
+            SAME(homed.refusal, GAUGE_BAD_HOME);
+            SAME_TRACK(homed.track, track);
+        }
 }
 
-static gauge_stepped step(gauge_request request, bool is_homed, int32_t y, int32_t x, uint32_t steps)
+static gauge_stepped step(gauge_request request, gauge_track track)
 {
-    gauge_track track = {is_homed, y, x, steps};
     lend();
     return gauge_step(track, older, PELS, newer, PELS, request, list, LIST + MORE, table, TABLE + MORE);
+}
+
+/* A step that is refused so: zeros, and the old track. */
+static void step_refused(gauge_request request, gauge_track track, uint32_t refusal)
+{
+    gauge_stepped stepped = step(request, track);
+    SAME_READING(stepped.answer, refusal, 0, 0, 0, 0);
+    SAME_COUNTS(stepped.answer, 0, 0, 0, 0, 0, 0, 0);
+    SAME_TRACK(stepped.track, track);
 }
 
 static void stepping(void)
 {
     call = "gauge_step";
-    gauge_stepped stepped = step(pruned, true, 100, 200, 7);
+    gauge_stepped stepped = step(pruned, stands(true, 100, 200, 7));
     SAME_READING(stepped.answer, GAUGE_ACCEPTED, 2, -5, 4, 6);
     SAME_COUNTS(stepped.answer, 0, 1200, 626, 601, 571, 452, 748);
-    SAME_TRACK(stepped.track, true, 98, 205, 8);
+    SAME_TRACK(stepped.track, led(stands(true, 100, 200, 7), (travel){-2, 5}));
     FIELD_LENT(field_list);
-    stepped = step(squares, true, 300, 400, 17);
+    stepped = step(squares, stands(true, 300, 400, 17));
     SAME_READING(stepped.answer, GAUGE_ACCEPTED, 2, -5, 4, 6);
     SAME_COUNTS(stepped.answer, 0, 1200, 806, 767, 692, 518, 682);
-    SAME_TRACK(stepped.track, true, 298, 405, 18);
+    SAME_TRACK(stepped.track, led(stands(true, 300, 400, 17), (travel){-2, 5}));
     FIELD_LENT(squares_list);
 
-    stepped = step(pruned, false, 11, 12, 13);
-    SAME_READING(stepped.answer, GAUGE_NOT_HOMED, 0, 0, 0, 0);
-    SAME_COUNTS(stepped.answer, 0, 0, 0, 0, 0, 0, 0);
-    SAME_TRACK(stepped.track, false, 11, 12, 13);
+    step_refused(pruned, stands(false, 11, 12, 13), GAUGE_NOT_HOMED);
     ALL_KEPT();
-    stepped = step(pruned, true, 21, -22, 1000000);
-    SAME_READING(stepped.answer, GAUGE_STEPS_OVER, 0, 0, 0, 0);
-    SAME_COUNTS(stepped.answer, 0, 0, 0, 0, 0, 0, 0);
-    SAME_TRACK(stepped.track, true, 21, -22, 1000000);
+    step_refused(pruned, stands(true, 21, -22, 1000000), GAUGE_STEPS_OVER);
     ALL_KEPT();
 
     /* Out of range: the old track, but list and table as after an accepted step. */
-    stepped = step(pruned, true, -999999, 32, 33);
-    SAME_READING(stepped.answer, GAUGE_OUT_OF_RANGE, 0, 0, 0, 0);
-    SAME_COUNTS(stepped.answer, 0, 0, 0, 0, 0, 0, 0);
-    SAME_TRACK(stepped.track, true, -999999, 32, 33);
+    step_refused(pruned, stands(true, -999999, 32, 33), GAUGE_OUT_OF_RANGE);
     FIELD_LENT(field_list);
-    stepped = step(squares, true, -999998, 999996, 34);
-    SAME_READING(stepped.answer, GAUGE_OUT_OF_RANGE, 0, 0, 0, 0);
-    SAME_COUNTS(stepped.answer, 0, 0, 0, 0, 0, 0, 0);
-    SAME_TRACK(stepped.track, true, -999998, 999996, 34);
+    step_refused(squares, stands(true, -999998, 999996, 34), GAUGE_OUT_OF_RANGE);
     FIELD_LENT(squares_list);
 }
 
@@ -576,11 +652,12 @@ static void large_field(void)
 
         call_of("gauge_step, N 32, measure", measure);
         lend_large();
-        gauge_stepped stepped = gauge_step((gauge_track){true, 100, 200, 7}, large_older, LARGE_PELS, large_newer, LARGE_PELS, request, list,
-                                           LIST + MORE, large_table, LARGE_TABLE + MORE);
+        const gauge_track track = stands(true, 100, 200, 7);
+        gauge_stepped stepped =
+            gauge_step(track, large_older, LARGE_PELS, large_newer, LARGE_PELS, request, list, LIST + MORE, large_table, LARGE_TABLE + MORE);
         SAME_READING(stepped.answer, GAUGE_ACCEPTED, 2, -5, 3, 6);
         SAME(memcmp(&stepped.answer, &answer, sizeof answer), 0);
-        SAME_TRACK(stepped.track, true, 98, 205, 8);
+        SAME_TRACK(stepped.track, led(track, (travel){-2, 5}));
         EACH(list, 0, LIST, numbers[i]);
         EACH(list, LIST, LIST + MORE, NUMBER);
 
@@ -612,6 +689,22 @@ typedef struct {
     uint8_t older[64], newer[64];
 } small_pair;
 
+/* The worked pair B, whose one block has (0,1), and one like it with a tenth of its contrast: 3 in its block, so that it does not vote, and far more
+ * in the column that no block has. */
+static small_pair pair_b = {.width = 5, .height = 4}, faint = {.width = 5, .height = 4};
+static const int32_t of_b[] = {0, 1, 0};
+
+static void take_small_pictures(void)
+{
+    for (size_t i = 0; i < 20; i++) {
+        const uint8_t column = (uint8_t)(i % 5);
+        pair_b.older[i] = 10 * column;
+        faint.older[i] = column;
+        pair_b.newer[i] = column == 4 ? 99 : 10 * (column + 1);
+        faint.newer[i] = column == 4 ? 99 : column + 1;
+    }
+}
+
 static gauge_request small_request(const small_pair *pair, uint32_t search, uint32_t measure)
 {
     return (gauge_request){pair->width, pair->height, 4, search, search == 3 ? 7 : search == 4 ? 2 : 1, 0, measure};
@@ -629,6 +722,15 @@ static gauge_stepped small_step(const small_pair *pair, uint32_t search, uint32_
     const size_t pels = pair->width * pair->height;
     lend();
     return gauge_step(track, pair->older, pels, pair->newer, pels, small_request(pair, search, measure), list, SMALL_LIST, table, SMALL_TABLE);
+}
+
+/* One that is refused so: zeros, and the old track. */
+static void small_step_refused(const small_pair *pair, uint32_t search, uint32_t measure, gauge_track track, uint32_t refusal)
+{
+    gauge_stepped stepped = small_step(pair, search, measure, track);
+    SAME_READING(stepped.answer, refusal, 0, 0, 0, 0);
+    SAME_COUNTS(stepped.answer, 0, 0, 0, 0, 0, 0, 0);
+    SAME_TRACK(stepped.track, track);
 }
 
 /* What a small field leaves: so many numbers in the list, and by search 2 the sums of the older frame. */
@@ -651,43 +753,32 @@ static void small_lent(const small_pair *pair, uint32_t search, const int32_t *n
  * filled and the old track, at any place, the range's end and beyond it too; but 31 and 32 come first and leave all as it was. */
 static void none_votes(const small_pair *pair, uint32_t search, uint32_t measure, const int32_t *numbers, size_t count)
 {
-    static const gauge_track tracks[] = {
-        {true, 10, 20, 7},     {true, 0, -1000000, 0},       {true, 1000000, 1000000, 999999},
-        {true, 1000001, 0, 0}, {true, 3, INT32_MIN, 999999}, {true, -1000000, -1000000, 1},
+    const gauge_track tracks[] = {
+        stands(true, 10, 20, 7),     stands(true, 0, -1000000, 0),       stands(true, 1000000, 1000000, 999999),
+        stands(true, 1000001, 0, 0), stands(true, 3, INT32_MIN, 999999), stands(true, -1000000, -1000000, 1),
     };
     gauge_field_answer answer = small_field(pair, search, measure);
     SAME_READING(answer, GAUGE_ACCEPTED, 0, 0, 0, 0);
     small_lent(pair, search, numbers, count);
     for (size_t i = 0; i < sizeof tracks / sizeof *tracks; i++) {
-        gauge_stepped stepped = small_step(pair, search, measure, tracks[i]);
-        SAME_READING(stepped.answer, GAUGE_NO_VOTER, 0, 0, 0, 0);
-        SAME_COUNTS(stepped.answer, 0, 0, 0, 0, 0, 0, 0);
-        SAME_TRACK(stepped.track, tracks[i].homed, tracks[i].y, tracks[i].x, tracks[i].steps);
+        small_step_refused(pair, search, measure, tracks[i], GAUGE_NO_VOTER);
         small_lent(pair, search, numbers, count);
     }
-    gauge_stepped stepped = small_step(pair, search, measure, (gauge_track){false, 11, 12, 13});
-    SAME_READING(stepped.answer, GAUGE_NOT_HOMED, 0, 0, 0, 0);
-    SAME_TRACK(stepped.track, false, 11, 12, 13);
+    small_step_refused(pair, search, measure, stands(false, 11, 12, 13), GAUGE_NOT_HOMED);
     ALL_KEPT();
-    stepped = small_step(pair, search, measure, (gauge_track){true, 1000001, -22, 1000000});
-    SAME_READING(stepped.answer, GAUGE_STEPS_OVER, 0, 0, 0, 0);
-    SAME_TRACK(stepped.track, true, 1000001, -22, 1000000);
+    small_step_refused(pair, search, measure, stands(true, 1000001, -22, 1000000), GAUGE_STEPS_OVER);
     ALL_KEPT();
 }
 
-/* The worked pairs A and C, and a pair like B with a tenth of its contrast: 3 in its block, and far more in the column that no block has. */
+/* The worked pairs A and C, and the faint one. */
 static void no_voters(void)
 {
-    static small_pair a = {.width = 4, .height = 4}, c = {.width = 8, .height = 8}, faint = {.width = 5, .height = 4};
-    static const int32_t of_a[] = {0, 0, 32}, of_a_squares[] = {0, 0, 64}, of_c[12] = {0}, of_faint[] = {0, 1, 0};
+    static small_pair a = {.width = 4, .height = 4}, c = {.width = 8, .height = 8};
+    static const int32_t of_a[] = {0, 0, 32}, of_a_squares[] = {0, 0, 64}, of_c[12] = {0};
     memset(a.older, 12, 16);
     memset(a.newer, 10, 16);
     memset(c.older, 7, 64);
     memset(c.newer, 7, 64);
-    for (size_t i = 0; i < 20; i++) {
-        faint.older[i] = (uint8_t)(i % 5);
-        faint.newer[i] = (uint8_t)(i % 5 == 4 ? 99 : i % 5 + 1);
-    }
     for (uint32_t search = 1; search <= 4; search++)
         for (uint32_t measure = 1; measure <= 2; measure++) {
             call_of("pair A, search", search);
@@ -695,7 +786,7 @@ static void no_voters(void)
             call_of("pair C, search", search);
             none_votes(&c, search, measure, of_c, 12);
             call_of("a faint pair, search", search);
-            none_votes(&faint, search, measure, of_faint, 3);
+            none_votes(&faint, search, measure, of_b, 3);
         }
     call = "counts of a field without a voter";
     gauge_field_answer answer = small_field(&a, 2, 1);
@@ -721,13 +812,11 @@ static void blank_blocks(void)
         gauge_field_answer answer = small_field(&pair, 2, measure);
         SAME_READING(answer, GAUGE_ACCEPTED, 0, 1, 1, 1);
         small_lent(&pair, 2, numbers, 9);
-        gauge_stepped stepped = small_step(&pair, 2, measure, (gauge_track){true, 10, 20, 0});
+        gauge_stepped stepped = small_step(&pair, 2, measure, stands(true, 10, 20, 0));
         SAME_READING(stepped.answer, GAUGE_ACCEPTED, 0, 1, 1, 1);
-        SAME_TRACK(stepped.track, true, 10, 19, 1);
+        SAME_TRACK(stepped.track, led(stands(true, 10, 20, 0), (travel){0, -1}));
         small_lent(&pair, 2, numbers, 9);
-        stepped = small_step(&pair, 2, measure, (gauge_track){true, 10, -1000000, 0});
-        SAME_READING(stepped.answer, GAUGE_OUT_OF_RANGE, 0, 0, 0, 0);
-        SAME_TRACK(stepped.track, true, 10, -1000000, 0);
+        small_step_refused(&pair, 2, measure, stands(true, 10, -1000000, 0), GAUGE_OUT_OF_RANGE);
         small_lent(&pair, 2, numbers, 9);
     }
 }
@@ -749,6 +838,293 @@ static void one_pel_votes(void)
             pair.newer[at] = 0;
             answer = small_field(&pair, 2, 2);
             SAME_READING(answer, GAUGE_ACCEPTED, 0, 0, off >= 8, off >= 8);
+        }
+}
+
+/* ---- the last travels of a track */
+
+/* The i-th of many: all sizes from -16 to 16 come, none is (0,0), and no two numbers of them up to 64 have the same sums. */
+static travel nth(uint32_t i)
+{
+    const int32_t k = (int32_t)i;
+    return (travel){5 * k % 33 - 16, 16 - (5 * k + 5 * k * k / 32) % 33};
+}
+
+/* A homed track that holds the first of them; or as many of (0,0). */
+static gauge_track holds(uint32_t held, bool is_still)
+{
+    travel all[GAUGE_HELD_MOST];
+    for (uint32_t i = 0; i < held; i++)
+        all[i] = is_still ? (travel){0, 0} : nth(i);
+    return holding(stray_track(true, 30, -40, 7), all, held);
+}
+
+/* A step of pictures that are blank but for one block, which travels so far, each part -16 to 16. */
+static gauge_stepped travelled(gauge_track track, travel by, uint32_t search, uint32_t measure)
+{
+    enum { SIDE = 20, ALL = SIDE * SIDE };
+    static uint8_t was[ALL], is[ALL];
+    static int32_t numbers[GAUGE_LIST_LENGTH(SIDE, SIDE, 4)];
+    memset(was, 128, sizeof was);
+    memset(is, 128, sizeof is);
+    const int row = by.dy > 0 ? 16 : 0, column = by.dx > 0 ? 16 : 0;
+    for (int r = row; r < row + 4; r++)
+        for (int c = column; c < column + 4; c++)
+            is[r * SIDE + c] = was[(r - by.dy) * SIDE + c - by.dx] = (uint8_t)fibres(r, c);
+    const gauge_request request = {SIDE, SIDE, 4, search, 16, 0, measure};
+    return gauge_step(track, was, ALL, is, ALL, request, numbers, sizeof numbers / sizeof *numbers, table, TABLE);
+}
+
+/* Calls that are refused, each by another rule, of a homed track inside the range that has nothing wrong: all hand it back. */
+static void handed_back(gauge_track track)
+{
+    static const struct {
+        gauge_request request;
+        size_t list_length, table_length;
+        uint32_t refusal;
+    } bad[] = {
+        {{3, 4, 4, 2, 1, 0, 1}, 3, 30, GAUGE_BAD_SIZE},      {{5, 5, 4, 2, 1, 0, 1}, 3, 30, GAUGE_BAD_FRAME},
+        {{5, 4, 5, 2, 1, 0, 1}, 3, 30, GAUGE_BAD_N},         {{5, 4, 4, 5, 1, 0, 1}, 3, 30, GAUGE_BAD_SEARCH},
+        {{5, 4, 4, 2, 1, 0, 3}, 3, 30, GAUGE_BAD_MEASURE},   {{5, 4, 4, 2, 17, 0, 1}, 3, 30, GAUGE_BAD_WINDOW},
+        {{5, 4, 4, 2, 1, 1, 1}, 3, 30, GAUGE_BAD_THRESHOLD}, {{5, 4, 4, 2, 1, 0, 1}, 3, 29, GAUGE_SHORT_TABLE},
+        {{5, 4, 4, 2, 1, 0, 1}, 2, 30, GAUGE_SHORT_LIST},
+    };
+    lend();
+    for (size_t i = 0; i < sizeof bad / sizeof *bad; i++) {
+        gauge_stepped stepped =
+            gauge_step(track, pair_b.older, 20, pair_b.newer, 20, bad[i].request, list, bad[i].list_length, table, bad[i].table_length);
+        SAME_READING(stepped.answer, bad[i].refusal, 0, 0, 0, 0);
+        SAME_TRACK(stepped.track, track);
+    }
+    ALL_KEPT();
+    gauge_homed homed = gauge_home(track, 0, 1000001);
+    SAME(homed.refusal, GAUGE_BAD_HOME);
+    SAME_TRACK(homed.track, track);
+    small_step_refused(&faint, 2, 1, track, GAUGE_NO_VOTER);
+    gauge_track other = track;
+    other.homed = false;
+    small_step_refused(&pair_b, 2, 1, other, GAUGE_NOT_HOMED);
+    other = track;
+    other.steps = 1000000;
+    small_step_refused(&pair_b, 2, 1, other, GAUGE_STEPS_OVER);
+    other = track;
+    other.sum_dy++;
+    small_step_refused(&pair_b, 2, 1, other, GAUGE_STEPS_OVER);
+    other = track;
+    other.x = -1000000;
+    small_step_refused(&pair_b, 2, 1, other, GAUGE_OUT_OF_RANGE);
+}
+
+/* A walk that pushes out all 64 travels and more, some of which are (0,0), with refused calls on its way. */
+static void last_travels(void)
+{
+    enum { WALK = 140 };
+    travel all[WALK];
+    gauge_track track = gauge_home(holds(64, false), 1000, -2000).track, wanted = {.homed = true, .y = 1000, .x = -2000};
+    call = "gauge_home, 64 travels";
+    SAME_TRACK(track, wanted);
+    for (uint32_t i = 0; i < WALK; i++) {
+        call_of("gauge_step, travel", i);
+        all[i] = i % 9 == 4 ? (travel){0, 0} : nth(i);
+        gauge_stepped stepped = travelled(track, all[i], 1 + i % 2, 1 + i / 2 % 2);
+        SAME_READING(stepped.answer, GAUGE_ACCEPTED, -all[i].dy, -all[i].dx, 1, 1);
+        track = stepped.track;
+        wanted.y += all[i].dy;
+        wanted.x += all[i].dx;
+        wanted.steps++;
+        const uint32_t held = i < 64 ? i + 1 : 64;
+        wanted = holding(wanted, all + i + 1 - held, held);
+        SAME_TRACK(track, wanted);
+        handed_back(track);
+    }
+    call = "gauge_home, 64 travels";
+    gauge_homed homed = gauge_home(track, -3, 4);
+    SAME(homed.refusal, GAUGE_ACCEPTED);
+    SAME_TRACK(homed.track, ((gauge_track){.homed = true, .y = -3, .x = 4}));
+
+    /* The largest sums, and travels that leave them or lower them. */
+    for (int32_t part = -16; part <= 16; part += 32)
+        for (int32_t next = -16; next <= 16; next += 16) {
+            call = "64 equal travels, then another";
+            for (size_t i = 0; i < GAUGE_HELD_MOST; i++)
+                all[i] = (travel){part, -part};
+            gauge_track full = holding(stands(true, 0, 0, 0), all, GAUGE_HELD_MOST);
+            SAME(full.sum_dy, 64 * part);
+            gauge_stepped stepped = travelled(full, (travel){next, part}, 2, 1);
+            SAME_READING(stepped.answer, GAUGE_ACCEPTED, -next, -part, 1, 1);
+            SAME(stepped.track.sum_dy, 63 * part + next);
+            SAME(stepped.track.sum_dx, 63 * -part + part);
+            SAME_TRACK(stepped.track, led(full, (travel){next, part}));
+        }
+}
+
+/* A homed track inside the range: a step of B by each search and measure is accepted, or by 32 refused for what the track holds, and then list and
+ * table are as they were, whatever the steps are. 31 and 10 come before 32, 52 and 33 behind it. All refused steps hand the track back. */
+static void asked(gauge_track track, uint32_t refusal)
+{
+    static const uint32_t steps[] = {0, 1, 64, 999999};
+    gauge_track not_homed = track, all_steps = track, at_end = track;
+    not_homed.homed = false;
+    all_steps.steps = 1000000;
+    at_end.x = -1000000;
+    for (uint32_t search = 1; search <= 4; search++)
+        for (uint32_t measure = 1; measure <= 2; measure++) {
+            if (refusal == GAUGE_ACCEPTED) {
+                track.steps = steps[(search + measure) % 4];
+                gauge_stepped stepped = small_step(&pair_b, search, measure, track);
+                SAME_READING(stepped.answer, GAUGE_ACCEPTED, 0, 1, 1, 1);
+                SAME_TRACK(stepped.track, led(track, (travel){0, -1}));
+                small_lent(&pair_b, search, of_b, 3);
+                small_step_refused(&faint, search, measure, track, GAUGE_NO_VOTER);
+                small_lent(&faint, search, of_b, 3);
+                small_step_refused(&pair_b, search, measure, at_end, GAUGE_OUT_OF_RANGE);
+                small_lent(&pair_b, search, of_b, 3);
+            } else {
+                for (size_t i = 0; i < 4; i++) {
+                    track.steps = steps[i];
+                    small_step_refused(&pair_b, search, measure, track, refusal);
+                    ALL_KEPT();
+                }
+                small_step_refused(&faint, search, measure, track, refusal);
+                ALL_KEPT();
+                small_step_refused(&pair_b, search, measure, at_end, refusal);
+                ALL_KEPT();
+            }
+            small_step_refused(&pair_b, search, measure, not_homed, GAUGE_NOT_HOMED);
+            ALL_KEPT();
+            small_step_refused(&pair_b, search, measure, all_steps, GAUGE_STEPS_OVER);
+            ALL_KEPT();
+            gauge_stepped stepped =
+                gauge_step(track, pair_b.older, 20, pair_b.newer, 20, small_request(&pair_b, search, measure), list, 2, table, SMALL_TABLE);
+            SAME_READING(stepped.answer, GAUGE_SHORT_LIST, 0, 0, 0, 0);
+            SAME_TRACK(stepped.track, track);
+            ALL_KEPT();
+        }
+}
+
+static void every_number_held(void)
+{
+    for (uint32_t held = 0; held <= GAUGE_HELD_MOST; held++) {
+        call_of("a step, travels held before it", held);
+        asked(holds(held, false), GAUGE_ACCEPTED);
+    }
+}
+
+/* So many travels, or as many of (0,0), are tried in tracks built by hand. */
+static const uint32_t tried[] = {0, 1, 2, 33, 63, 64};
+enum { TRIED = 2 * sizeof tried / sizeof *tried };
+
+static gauge_track by_hand(size_t k)
+{
+    return holds(tried[k / 2], k % 2);
+}
+
+/* What is tried in one of them: a number and its place. */
+static void call_by_hand(const char *what, size_t k, int64_t number, size_t place)
+{
+    static char text[100];
+    snprintf(text, sizeof text, "%u travels%s, %s %lld, place %zu", (unsigned)tried[k / 2], k % 2 ? " of (0,0)" : "", what, (long long)number, place);
+    call = text;
+}
+
+/* Another part in one place, and the sum that follows, as far as 32 bits hold it. */
+static gauge_track with_part(gauge_track track, bool is_dx, size_t place, int32_t part)
+{
+    int32_t *const parts = is_dx ? track.travel_dx : track.travel_dy, *const sum = is_dx ? &track.sum_dx : &track.sum_dy;
+    *sum = (int32_t)((uint32_t)*sum + (uint32_t)part - (uint32_t)parts[place]);
+    parts[place] = part;
+    return track;
+}
+
+/* A held part outside -16 to 16 is refused though the sum is true; behind those held it is no fault, unless the sum counts it. */
+static void parts_by_hand(void)
+{
+    static const int32_t parts[] = {
+        16, -16, 17, -17, 127, 128, 240, 256, -256, 272, 65536, 65552, INT32_MIN, INT32_MIN + 16, INT32_MAX, INT32_MAX - 15,
+    };
+    for (size_t k = 0; k < TRIED; k++)
+        for (size_t i = 0; i < sizeof parts / sizeof *parts; i++)
+            for (int is_dx = 0; is_dx <= 1; is_dx++) {
+                const uint32_t refusal = parts[i] >= -16 && parts[i] <= 16 ? GAUGE_ACCEPTED : GAUGE_STEPS_OVER;
+                const size_t held = tried[k / 2], places[] = {0, held / 2, held - 1};
+                for (size_t j = 0; held > 0 && j < 3; j++) {
+                    call_by_hand("a held part of", k, parts[i], places[j]);
+                    asked(with_part(by_hand(k), is_dx, places[j], parts[i]), refusal);
+                }
+                if (held < GAUGE_HELD_MOST) {
+                    call_by_hand("behind them a part of", k, parts[i], held);
+                    gauge_track track = by_hand(k);
+                    (is_dx ? track.travel_dx : track.travel_dy)[held] = parts[i];
+                    asked(track, GAUGE_ACCEPTED);
+                    (is_dx ? track.travel_dx : track.travel_dy)[held] = 0;
+                    asked(with_part(track, is_dx, held, parts[i]), GAUGE_STEPS_OVER);
+                }
+            }
+
+    /* In each place; and two that make up for each other, or whose sum has more than 32 bits. */
+    for (size_t place = 0; place < GAUGE_HELD_MOST; place++) {
+        call_of("a part of 17 or -17, place", (uint32_t)place);
+        asked(with_part(holds(64, false), place % 2, place, 17), GAUGE_STEPS_OVER);
+        asked(with_part(holds(64, false), place % 2 == 0, place, -17), GAUGE_STEPS_OVER);
+        asked(with_part(with_part(holds(64, true), 0, place, 17), 0, 63 - place, -17), GAUGE_STEPS_OVER);
+        asked(with_part(with_part(holds(64, true), 1, place, INT32_MIN), 1, 63 - place, INT32_MIN), GAUGE_STEPS_OVER);
+    }
+}
+
+/* A sum that is false, all else being right. */
+static void sums_by_hand(void)
+{
+    static const int32_t offs[] = {1, -1, 16, 255, 256, -256, 65535, 65536, -65536, 1 << 24, INT32_MIN, INT32_MAX};
+    for (size_t k = 0; k < TRIED; k++) {
+        const gauge_track track = by_hand(k);
+        for (size_t i = 0; i < sizeof offs / sizeof *offs; i++)
+            for (int which = 1; which <= 3; which++) {
+                call_by_hand("a sum off by", k, offs[i], (size_t)which);
+                gauge_track other = track;
+                if (which & 1)
+                    other.sum_dy = (int32_t)((uint32_t)other.sum_dy + (uint32_t)offs[i]);
+                if (which & 2)
+                    other.sum_dx = (int32_t)((uint32_t)other.sum_dx - (uint32_t)offs[i]);
+                asked(other, GAUGE_STEPS_OVER);
+            }
+    }
+
+    /* Exchanged; of one travel less; of one more, where the next place has one too. */
+    for (uint32_t held = 1; held <= GAUGE_HELD_MOST; held++) {
+        call_of("sums exchanged, or of one less or more of", held);
+        gauge_track track = holds(held, false);
+        const int32_t sum_dy = track.sum_dy, sum_dx = track.sum_dx;
+        track.sum_dy = sum_dx;
+        track.sum_dx = sum_dy;
+        asked(track, sum_dy == sum_dx ? GAUGE_ACCEPTED : GAUGE_STEPS_OVER);
+        track.sum_dy = sum_dy;
+        track.sum_dx = sum_dx;
+        track.held = held - 1;
+        asked(track, GAUGE_STEPS_OVER);
+        gauge_track full = holds(64, false);
+        full.held = held;
+        full.sum_dy = sum_dy - nth(held - 1).dy;
+        full.sum_dx = sum_dx - nth(held - 1).dx;
+        asked(full, GAUGE_STEPS_OVER);
+    }
+}
+
+/* More than 64, with the sums of those that a number cut short would stand for. */
+static void numbers_by_hand(void)
+{
+    static const uint32_t numbers[] = {
+        65, 66, 127, 128, 255, 256, 257, 258, 289, 319, 320, 65535, 65536, 65537, 65600, 1u << 31, (1u << 31) + 1, UINT32_MAX - 63, UINT32_MAX,
+    };
+    for (size_t k = 0; k < TRIED; k++)
+        for (size_t i = 0; i < sizeof numbers / sizeof *numbers; i++) {
+            call_by_hand("held", k, numbers[i], 0);
+            gauge_track track = by_hand(k);
+            track.held = numbers[i];
+            asked(track, GAUGE_STEPS_OVER);
+            memset(track.travel_dy, 0, sizeof track.travel_dy);
+            memset(track.travel_dx, 0, sizeof track.travel_dx);
+            track.sum_dy = track.sum_dx = 0;
+            asked(track, GAUGE_STEPS_OVER);
         }
 }
 
@@ -916,10 +1292,7 @@ static void all_refuse(gauge_request request, uint32_t refusal)
     SAME_READING(answer, refusal, 0, 0, 0, 0);
     SAME_COUNTS(answer, 0, 0, 0, 0, 0, 0, 0);
     ALL_KEPT();
-    gauge_stepped stepped = step(request, false, 41, -42, 43);
-    SAME_READING(stepped.answer, refusal, 0, 0, 0, 0);
-    SAME_COUNTS(stepped.answer, 0, 0, 0, 0, 0, 0, 0);
-    SAME_TRACK(stepped.track, false, 41, -42, 43);
+    step_refused(request, stands(false, 41, -42, 43), refusal);
     ALL_KEPT();
 }
 
@@ -1475,6 +1848,7 @@ static void lengths(void)
     SAME(GAUGE_LOG_MOST(1024, 1024, 4), 458766);
     SAME(GAUGE_LOG_MOST(1024, 1024, 32), 7182);
     SAME(GAUGE_TEXT_MOST, 393236);
+    SAME(GAUGE_HELD_MOST, 64);
 }
 
 static const struct {
@@ -1518,6 +1892,7 @@ int main(void)
 {
     take_pictures();
     take_large_pictures();
+    take_small_pictures();
     memcpy(wrong_log, field_log, LOG);
     wrong_log[LOG - 1] = 5;
     measuring();
@@ -1532,6 +1907,11 @@ int main(void)
     no_voters();
     blank_blocks();
     one_pel_votes();
+    last_travels();
+    every_number_held();
+    parts_by_hand();
+    sums_by_hand();
+    numbers_by_hand();
     largest_distortions();
     one_pel();
     ceilings();

@@ -5,8 +5,11 @@ use crate::archive;
 use crate::edges::{choices, pair_of, pair_with_lengths, ABOVE_32, TOP_BIT};
 use crate::fields::BEHIND;
 use crate::group::Group;
-use crate::question::{FieldAnswer, FieldRequest, Lent, Pair, Track, MEASURES, NO_MEASURES};
-use crate::reckoning::{self, NEW};
+use crate::question::{
+    FieldAnswer, FieldRequest, Lent, Pair, Track, HELD_MOST, MEASURES, NO_MEASURES,
+};
+use crate::reckoning::{self, holding, NEW};
+use crate::rival::Vector;
 use crate::worked::{flat, frames_of_b};
 
 /// What list and table hold before a call.
@@ -42,8 +45,69 @@ fn asks(n: usize, search: u32, w: usize, t: u32, measure: u32) -> FieldRequest {
     }
 }
 
+/// What a track that stands somewhere holds.
+const TRAVELS: [Vector; 2] = [(3, -4), (-16, 16)];
+
+/// A track that holds two travels, with stray numbers in the places behind them.
 pub fn stands(homed: bool, y: i32, x: i32, steps: u32) -> Track {
-    Track { homed, y, x, steps }
+    let track = Track {
+        homed,
+        y,
+        x,
+        steps,
+        travel_dy: [NUMBER; HELD_MOST],
+        travel_dx: [NUMBER; HELD_MOST],
+        ..NEW
+    };
+    holding(track, &TRAVELS)
+}
+
+/// The same after a step of this reading: its reverse is added to the place, and comes behind the two.
+pub fn stepped_on(track: Track, (dy, dx): Vector) -> Track {
+    let there = Track {
+        y: track.y - dy as i32,
+        x: track.x - dx as i32,
+        steps: track.steps + 1,
+        ..track
+    };
+    holding(there, &[TRAVELS[0], TRAVELS[1], (-dy, -dx)])
+}
+
+/// What 32 turns away, each alone, in a track that stands as above: its steps, more than 64 held, a held part outside -16..16, and a false sum.
+pub const SPOILT: [fn(Track) -> Track; 6] = [
+    |track| Track {
+        steps: 1_000_000,
+        ..track
+    },
+    |track| Track { held: 65, ..track },
+    |mut track| {
+        track.travel_dy[1] -= 1;
+        track.sum_dy -= 1;
+        track
+    },
+    |mut track| {
+        track.travel_dx[1] += 1;
+        track.sum_dx += 1;
+        track
+    },
+    |mut track| {
+        track.sum_dy += 1;
+        track
+    },
+    |mut track| {
+        track.sum_dx -= 1;
+        track
+    },
+];
+
+/// A track as homing leaves it: no travel held, all places and sums 0.
+pub fn homed_at(y: i32, x: i32) -> Track {
+    Track {
+        homed: true,
+        y,
+        x,
+        ..NEW
+    }
 }
 
 /// A refused answer.
@@ -240,9 +304,8 @@ fn table_of_b() -> Vec<u32> {
 fn step_of_b(group: &mut Group, track: Track, measure: u32, refusal: i64) {
     let wanted = match refusal {
         0 => {
-            let there = stands(true, track.y, track.x - 1, track.steps + 1);
             let answer = FieldAnswer::accepted((0, 1), (1, 1), [0, 0, 0, 2, 2, 1], 1);
-            (answer, there)
+            (answer, stepped_on(track, (0, 1)))
         }
         _ => (refused(refusal), track),
     };
@@ -260,8 +323,8 @@ fn step_of_b(group: &mut Group, track: Track, measure: u32, refusal: i64) {
     group.same(&inputs, (&here, &there), (&kept, &kept));
 }
 
-/// B asked so that any choice of rules is broken: the first of them answers, the track's rules last. Its block votes no more where each pel has a
-/// tenth of its grey, and still has (0,1), so that 33 would apply if it did vote.
+/// B asked so that any choice of rules is broken, 32 in every way: the first of them answers, the track's rules last. Its block votes no more where
+/// each pel has a tenth of its grey, and still has (0,1), so that 33 would apply if it did vote.
 fn order((measure, by): (u32, &str)) -> u64 {
     let mut group = Group::new(format!("fields and steps, {by}, order of refusals"));
     for rules in choices(&[1, 2, 3, 4, 51, 5, 6, 9, 10, 31, 32, 52, 33]) {
@@ -284,8 +347,10 @@ fn order((measure, by): (u32, &str)) -> u64 {
         let measure = if broken(51) { measure + 256 } else { measure };
         let request = asks(n, search, w, u32::from(broken(6)), measure);
         let x = if broken(33) { -END } else { 20 };
-        let steps = if broken(32) { 1_000_000 } else { 0 };
-        let track = stands(!broken(31), 10, x, steps);
+        let mut tracks = vec![stands(!broken(31), 10, x, 0)];
+        if broken(32) {
+            tracks = SPOILT.map(|spoil| spoil(tracks[0])).to_vec();
+        }
         let table_length = if broken(9) { 29 } else { 30 };
         let before = lent(if broken(10) { 2 } else { 3 }, table_length);
 
@@ -300,13 +365,15 @@ fn order((measure, by): (u32, &str)) -> u64 {
         group.same(&inputs, answer.refusal, wanted);
         group.same(&inputs, here != before, wanted == 0);
 
-        let mut here = before.clone();
-        let (answer, after) = archive::step(track, &pair, &request, &mut here);
-        let inputs = format!("{inputs}, {track:?}");
-        group.same(&inputs, answer.refusal, first);
-        group.same(&inputs, after != track, first == 0);
-        let filled = [0, 52, 33].contains(&first);
-        group.same(&inputs, here != before, filled);
+        for track in tracks {
+            let mut here = before.clone();
+            let (answer, after) = archive::step(track, &pair, &request, &mut here);
+            let inputs = format!("{inputs}, {track:?}");
+            group.same(&inputs, answer.refusal, first);
+            group.same(&inputs, after != track, first == 0);
+            let filled = [0, 52, 33].contains(&first);
+            group.same(&inputs, here != before, filled);
+        }
     }
     group.end()
 }
@@ -424,7 +491,7 @@ fn homing() -> u64 {
             (0, i32::MAX, 11),
         ] {
             let wanted = match refusal {
-                0 => (0, stands(true, y, x, 0)),
+                0 => (0, homed_at(y, x)),
                 _ => (11, track),
             };
             let inputs = format!("{track:?}, home ({y},{x})");
@@ -490,7 +557,8 @@ fn stepping() -> u64 {
         let track = stands(true, 10, 20, 0);
         let stepped = archive::step(track, pair, &request, &mut lent(list, table));
         let own = reckoning::step(track, pair, &request, &mut lent(list, table));
-        let wanted = (answer, stands(true, y, x, 1));
+        let there = stepped_on(track, (answer.dy, answer.dx));
+        let wanted = (answer, Track { y, x, ..there });
         let inputs = format!("{track:?}, {pair}, {request}");
         group.same(&inputs, (stepped, own), (wanted, wanted));
     }

@@ -13,7 +13,7 @@
 //! | archive, question | the calls as include/gauge.h declares them; what both sides are asked and answer |
 //! | group, pictures | a group of cases; made-up pairs |
 //! | worked | the worked pairs |
-//! | edges, field_edges, voter_edges, walk_edges, log_edges, longest_logs | the ends of every range, with the expected numbers typed in |
+//! | edges, field_edges, voter_edges, travel_edges, walk_edges, log_edges, longest_logs | the ends of every range, expected numbers typed in |
 //! | measuring, searching, fields, calls | made-up pairs, and lists of calls |
 //! | half | the search to half a pel: worked pairs, edges, made-up pairs, and pairs moved by half pels |
 //! | log_calls, made_up_logs | a log through every call; made-up logs, whole and damaged |
@@ -38,6 +38,7 @@ mod question;
 mod reckoning;
 mod rival;
 mod searching;
+mod travel_edges;
 mod voter_edges;
 mod walk_edges;
 mod worked;
@@ -50,6 +51,7 @@ fn archive_cases() -> u64 {
         + edges::run()
         + field_edges::run()
         + voter_edges::run()
+        + travel_edges::run()
         + measuring::run()
         + searching::run()
         + half::run()

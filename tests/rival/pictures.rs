@@ -1,5 +1,5 @@
 //! Made-up pairs from fixed seeds: still, moved by a known vector, noisy, flat, two-valued, gradients, checkerboards, extremes, and papers
-//! with blank patches, or blank altogether; and pairs moved by half pels. Every run makes the same ones.
+//! with blank patches, or blank altogether; and pairs moved by half pels, or in one block alone. Every run makes the same ones.
 
 use crate::question::Pair;
 use crate::rival::Vector;
@@ -209,6 +209,32 @@ fn vector_outside(chance: &mut Chance, w: i64) -> Vector {
 /// A rough pair moved by this vector.
 pub fn rough_pair(chance: &mut Chance, width: usize, height: usize, vector: Vector) -> Pair {
     rough(chance, width, height).pair(vector)
+}
+
+/// A pair that is blank but for one grid block of N 4, the only voter, whose fibres lay this vector away in the older frame. It is as small as that
+/// allows.
+pub fn one_voter(chance: &mut Chance, (dy, dx): Vector) -> Pair {
+    // So many pels that whole blocks fill them; the block stands at the end that the vector leads away from.
+    let (down, along) = ((dy.abs() + 3) / 4 * 4, (dx.abs() + 3) / 4 * 4);
+    let (width, height) = (along + 4, down + 4);
+    let (row, column) = (
+        if dy < 0 { down } else { 0 },
+        if dx < 0 { along } else { 0 },
+    );
+    let mut pair = Pair {
+        older: vec![128; (width * height) as usize],
+        newer: vec![128; (width * height) as usize],
+        width: width as usize,
+        height: height as usize,
+    };
+    for r in row..row + 4 {
+        for c in column..column + 4 {
+            let pel = chance.pel() as u8;
+            pair.newer[(r * width + c) as usize] = pel;
+            pair.older[((r + dy) * width + c + dx) as usize] = pel;
+        }
+    }
+    pair
 }
 
 /// A soft pair moved by this vector in half pels. A pel is the mean of the four places that it covers in a scene twice as fine.

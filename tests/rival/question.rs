@@ -149,7 +149,11 @@ impl FieldAnswer {
     }
 }
 
-/// "The track holds homed or not, y, x and steps." Laid out as the header's gauge_track.
+/// "The track holds the last 64 travels."
+pub const HELD_MOST: usize = 64;
+
+/// "The track holds homed or not, y, x and steps"; and how many travels, "oldest first", their parts, which stand in the first places, "and the
+/// sum of each part". Laid out as the header's gauge_track.
 #[derive(Clone, Copy, PartialEq, Eq, Debug)]
 #[repr(C)]
 pub struct Track {
@@ -157,6 +161,11 @@ pub struct Track {
     pub y: i32,
     pub x: i32,
     pub steps: u32,
+    pub held: u32,
+    pub travel_dy: [i32; HELD_MOST],
+    pub travel_dx: [i32; HELD_MOST],
+    pub sum_dy: i32,
+    pub sum_dx: i32,
 }
 
 /// A log's head: "width and height (2 bytes each), N, w, search (1 each)", and the measure, "1 after command 1". Laid out as the header's

@@ -1,7 +1,7 @@
 //! The rival's field, track and reckoning: the rules' words on them, written down as directly as they read. Fields are made of
 //! the rival's own single-block searches; the reckoning knows no search, only candidates and distortions.
 
-use crate::question::{FieldAnswer, FieldRequest, Lent, Pair, Request, Track};
+use crate::question::{FieldAnswer, FieldRequest, Lent, Pair, Request, Track, HELD_MOST};
 use crate::rival::{preference_order, refused_request, search_block, Block, Vector};
 
 /// "The grid has (height / N, rounded down) × (width / N, rounded down) blocks, row by row": the pel row and column of each.
@@ -120,12 +120,17 @@ pub fn field(pair: &Pair, request: &FieldRequest, lent: &mut Lent) -> FieldAnswe
     filled(pair, request, lent)
 }
 
-/// "New: not homed, 0, 0, 0."
+/// "New: not homed, 0, 0, 0", and no travel held: "all places and sums 0".
 pub const NEW: Track = Track {
     homed: false,
     y: 0,
     x: 0,
     steps: 0,
+    held: 0,
+    travel_dy: [0; HELD_MOST],
+    travel_dx: [0; HELD_MOST],
+    sum_dy: 0,
+    sum_dx: 0,
 };
 
 /// A place of the track lies "in -1,000,000..1,000,000".
@@ -133,7 +138,7 @@ fn in_range(place: i64) -> bool {
     (-1_000_000..=1_000_000).contains(&place)
 }
 
-/// "Home (y, x), each in -1,000,000..1,000,000: homed, that place, steps 0."
+/// "Home (y, x), each in -1,000,000..1,000,000: homed, that place, steps 0." "Homing empties [the travels], all places and sums 0."
 pub fn home(track: Track, y: i32, x: i32) -> (i64, Track) {
     if !in_range(y as i64) || !in_range(x as i64) {
         return (11, track);
@@ -142,16 +147,56 @@ pub fn home(track: Track, y: i32, x: i32) -> (i64, Track) {
         homed: true,
         y,
         x,
-        steps: 0,
+        ..NEW
     };
     (0, homed)
 }
 
-/// 31 and 32, "tested after all input refusals", or 0.
-fn refused_state(track: Track) -> i64 {
+/// The travels that a track holds, "oldest first". It holds 64 at most.
+fn held(track: &Track) -> Vec<Vector> {
+    (0..track.held as usize)
+        .map(|place| (track.travel_dy[place] as i64, track.travel_dx[place] as i64))
+        .collect()
+}
+
+/// "The sum of each part."
+fn sums(travels: &[Vector]) -> Vector {
+    let add = |(y, x), &(dy, dx)| (y + dy, x + dx);
+    travels.iter().fold((0, 0), add)
+}
+
+/// The track with these travels in its first places, and their sums. The other places are kept.
+pub fn holding(mut track: Track, travels: &[Vector]) -> Track {
+    for (place, &(dy, dx)) in travels.iter().enumerate() {
+        track.travel_dy[place] = dy as i32;
+        track.travel_dx[place] = dx as i32;
+    }
+    let (sum_dy, sum_dx) = sums(travels);
+    Track {
+        held: travels.len() as u32,
+        sum_dy: sum_dy as i32,
+        sum_dx: sum_dx as i32,
+        ..track
+    }
+}
+
+/// "A track that holds more than 64, a held part outside -16..16 or a false sum."
+fn is_false(track: &Track) -> bool {
+    if track.held > 64 {
+        return true;
+    }
+    let travels = held(track);
+    let outside = |part: i64| part < -16 || part > 16;
+    travels.iter().any(|&(dy, dx)| outside(dy) || outside(dx))
+        || sums(&travels) != (track.sum_dy as i64, track.sum_dx as i64)
+}
+
+/// 31 and 32, "tested after all input refusals", or 0. 32 is "steps 1,000,000 or more", and since "the last 64 travels in the track" a false track
+/// as well.
+pub fn refused_state(track: Track) -> i64 {
     if !track.homed {
         31
-    } else if track.steps >= 1_000_000 {
+    } else if track.steps >= 1_000_000 || is_false(&track) {
         32
     } else {
         0
@@ -159,18 +204,25 @@ fn refused_state(track: Track) -> i64 {
 }
 
 /// "Adds the travel to y, x and 1 to steps"; "travel is the reading with both signs turned". 33 where "the new y or x would leave
-/// its range".
-fn travelled(track: Track, (dy, dx): Vector) -> Result<Track, i64> {
+/// its range". The travel comes behind those held; "the sixty-fifth pushes out the oldest".
+pub fn travelled(track: Track, (dy, dx): Vector) -> Result<Track, i64> {
     let (y, x) = (track.y as i64 - dy, track.x as i64 - dx);
     if !in_range(y) || !in_range(x) {
         return Err(33);
     }
-    Ok(Track {
+    let mut travels = held(&track);
+    travels.push((-dy, -dx));
+    if travels.len() == 65 {
+        travels.remove(0);
+    }
+    let there = Track {
         homed: true,
         y: y as i32,
         x: x as i32,
         steps: track.steps + 1,
-    })
+        ..track
+    };
+    Ok(holding(there, &travels))
 }
 
 /// "Step (pair, search): adds the travel to y, x and 1 to steps, and answers with the track and all that the field call answers."
@@ -215,11 +267,12 @@ pub fn exhaustive_best(block: &Block, w: i64) -> (Vector, i64) {
     ((dy, dx), distortion)
 }
 
-/// What the reckoning makes of a step: the number of its refusal, or 0, its own track after it, and for an accepted step each grid
-/// block's exhaustive best with its distortion. It is fed the inputs alone, of list and table just the lengths.
+/// What the reckoning makes of a step: the number of its refusal, or 0, its own track after it, and for an accepted step its travel and each
+/// grid block's exhaustive best with its distortion. It is fed the inputs alone, of list and table just the lengths.
 pub struct Reckoned {
     pub refusal: i64,
     pub track: Track,
+    pub travel: Vector,
     pub bests: Vec<(Vector, i64)>,
 }
 
@@ -246,16 +299,18 @@ pub fn reckoned_step(
                 of_voters.push(best.0);
             }
         }
+        let reading = majority(&of_voters).0;
         let there = if of_voters.is_empty() {
             Err(52)
         } else {
-            travelled(track, majority(&of_voters).0)
+            travelled(track, reading)
         };
         match there {
             Ok(track) => {
                 return Reckoned {
                     refusal: 0,
                     track,
+                    travel: (-reading.0, -reading.1),
                     bests,
                 }
             }
@@ -265,6 +320,7 @@ pub fn reckoned_step(
     Reckoned {
         refusal,
         track,
+        travel: (0, 0),
         bests: Vec::new(),
     }
 }

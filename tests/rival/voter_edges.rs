@@ -3,7 +3,7 @@
 //! every N and both measures, by all four searches or by those that find the exhaustive best.
 
 use crate::archive;
-use crate::field_edges::{lent, needed, refused, stands, END, SUM};
+use crate::field_edges::{lent, needed, refused, stands, stepped_on, END, SUM};
 use crate::group::Group;
 use crate::pictures::Chance;
 use crate::question::{FieldRequest, Lent, Pair, SIZES};
@@ -74,8 +74,8 @@ fn only_vote(group: &mut Group, what: &str, pair: &Pair, request: &FieldRequest,
     if voters.is_empty() {
         group.same(&inputs, (stepped, after), (refused(52), track));
     } else {
-        let (y, x) = (100 - reading.0 as i32, 200 - reading.1 as i32);
-        group.same(&inputs, (stepped, after), (own, stands(true, y, x, 6)));
+        let there = stepped_on(track, reading);
+        group.same(&inputs, (stepped, after), (own, there));
     }
     group.same(&inputs, &lent, &here);
 }
@@ -255,8 +255,8 @@ fn few_voters() -> u64 {
             }
             let track = stands(true, 0, 0, 0);
             let (stepped, after) = archive::step(track, &pair, &request, &mut there);
-            let wanted = stands(true, -reading.0 as i32, -reading.1 as i32, 1);
-            group.same(&inputs, (stepped, after), (answer, wanted));
+            let there = stepped_on(track, reading);
+            group.same(&inputs, (stepped, after), (answer, there));
         }
     }
     group.end()

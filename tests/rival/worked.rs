@@ -3,11 +3,12 @@
 //! the rival.
 
 use crate::archive;
+use crate::field_edges::{homed_at, refused, stands, stepped_on};
 use crate::group::Group;
 use crate::logs;
 use crate::question::{
     Answer, Counts, FieldAnswer, FieldRequest, Head, Lent, LogRead, Measured, Measuring, Pair,
-    Request, Track, Written, FAR_CEILINGS,
+    Request, Written, FAR_CEILINGS,
 };
 use crate::reckoning;
 use crate::rival;
@@ -267,44 +268,32 @@ fn fields_of_a_to_d(group: &mut Group) {
         group.same(&inputs, &here.table, &there.table);
 
         let inputs = format!("step of {pair}, {request}");
-        let track = |y, x, steps| Track {
-            homed: true,
-            y,
-            x,
-            steps,
-        };
-        let no_voter = FieldAnswer {
-            refusal: 52,
-            ..FieldAnswer::default()
-        };
+        let track = stands(true, 10, 20, 3);
         let wanted = match voters {
-            0 => (no_voter, track(10, 20, 3)),
-            _ => (wanted, track(10, 20 - vector.1 as i32, 4)),
+            0 => (refused(52), track),
+            _ => (wanted, stepped_on(track, vector)),
         };
         let mut after = lent(14, 100);
-        let stepped = archive::step(track(10, 20, 3), pair, &request, &mut after);
-        let own = reckoning::step(track(10, 20, 3), pair, &request, &mut lent(14, 100));
+        let stepped = archive::step(track, pair, &request, &mut after);
+        let own = reckoning::step(track, pair, &request, &mut lent(14, 100));
         group.same(&inputs, (stepped, own), (wanted, wanted));
         group.same(&inputs, after, here);
-        let reckoned = reckoning::reckoned_step(track(10, 20, 3), pair, &request, 14, 100);
+        let reckoned = reckoning::reckoned_step(track, pair, &request, 14, 100);
         let own = (reckoned.refusal, reckoned.track);
         group.same(&inputs, own, (wanted.0.refusal, wanted.1));
     }
 }
 
-/// "G* home (10,20), step B: (10,19), steps 1" and "H* home (0,-1000000), step B: 33".
+/// "G* home (10,20), step B: (10,19), steps 1" and "H* home (0,-1000000), step B: 33". G's track then holds B's travel, (0,-1), and H's none.
 fn pairs_g_and_h(group: &mut Group) {
     let pair = frames_of_b();
     let request = field_of_4(2);
-    let track = |y, x, steps| Track {
-        homed: true,
-        y,
-        x,
-        steps,
-    };
+    let mut of_g = homed_at(10, 19);
+    (of_g.steps, of_g.held) = (1, 1);
+    (of_g.travel_dx[0], of_g.sum_dx) = (-1, -1);
     for (what, place, refusal, there) in [
-        ("G", (10, 20), 0, track(10, 19, 1)),
-        ("H", (0, -1_000_000), 33, track(0, -1_000_000, 0)),
+        ("G", (10, 20), 0, of_g),
+        ("H", (0, -1_000_000), 33, homed_at(0, -1_000_000)),
     ] {
         let new = archive::new_track();
         let (homed, here) = archive::home(new, place.0, place.1);
