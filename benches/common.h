@@ -4,7 +4,7 @@
 
 static uint64_t state = 88172645463325252u;
 
-static int random_below(uint32_t n)
+static inline int random_below(uint32_t n)
 {
     state ^= state << 13;
     state ^= state >> 7;
@@ -12,7 +12,7 @@ static int random_below(uint32_t n)
     return (int)((state >> 32) % n);
 }
 
-static double now(void)
+static inline double now(void)
 {
     struct timespec t;
     clock_gettime(CLOCK_PROCESS_CPUTIME_ID, &t);
