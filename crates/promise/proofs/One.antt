@@ -11,13 +11,14 @@ use lib.IntN.{ℤ}
 use lib.ListN.{length}
 use Rattle.base.specs.Calls.{reckonCall}
 use Rattle.order.specs.declared.Vector.{Vector}
-use Rattle.order.specs.Vectors.{vec, turned}
+use Rattle.order.specs.Vectors.{vec, turned, Within, turned-within}
 use Rattle.frame.specs.Pictures.{Pair}
 use Rattle.frame.specs.Grid.{blocks}
 use Rattle.refusals.specs.declared.Request.{Request}
 use Rattle.refusals.specs.Refusals.{first-refusal-zero, requestOf}
 use Rattle.voter.specs.Voter.{voting}
 use Rattle.reading.specs.Reading.{votes, majority}
+use Rattle.reading.proofs.Majority.{majority-within}
 use Rattle.field.specs.declared.FieldAnswer.{FieldAnswer}
 use Rattle.field.specs.Field.{fieldAnswer, FieldResult, filledList, field-accepted}
 use Rattle.track.specs.declared.Track.{Track}
@@ -162,6 +163,11 @@ module _ (t : Track) (p : Pair) (w threshold : ℕ) (list : List ℤ) (table : L
           rw (step-landed t (p .older) (p .newer) request list table e)
           (record { fine = early-field e; list-same = l .list; answer-same = l .whole (sym (refusal-late e) ∙ a) })
       go (no n) = absurd (n (sym (refusal-early n) ∙ a))
+
+-- a travel lies in window 16
+pub travel-within : (p : Pair) (w : ℕ) → Within 16 (travel p w)
+unfolding travel
+travel-within p w = turned-within (majority-within (voting p) (bestOf p w) (blocks (p .setting)))
 
 pub agrees : (t : Track) (c : Call) → Agrees t c (answerTo t c)
 agrees t (home y x) = home-agrees t y x

@@ -39,7 +39,7 @@ use Rattle.promise.proofs.Blocks.{grid-worse, entries-best, sum-dropped
 use Rattle.promise.proofs.Probing.{four-step-runs, cross-runs, four-step-block, cross-block, four-step-over, cross-over}
 use Rattle.promise.proofs.One.{agrees, Taken, at-step, field-fine, answer-is, list-is, reading-is, votes-is, voters-is}
 use Rattle.promise.proofs.Closed.{closed, standing-held, stays-nowhere, travelsOf, reckoned-since}
-use Rattle.promise.proofs.Holding.{new-whole, reckoned-whole}
+use Rattle.promise.proofs.Holding.{new-holds, reckoned-holds}
 
 -- ---- an accepted step
 
@@ -118,7 +118,7 @@ held : (calls : List Call) → let last = lastHeld (travelsSince (standingOn now
 held calls = rw (stands calls) (standing-held (standingOn nowhere (acceptedCalls trackNew calls)))
 
 whole : (calls : List Call) → T (recentOk (lastTrack (run calls) .recent))
-whole calls = rw (ends calls) (reckoned-whole calls trackNew new-whole .ok)
+whole calls = rw (ends calls) (reckoned-holds calls trackNew new-holds .ok)
 
 unhomed : (calls : List Call) → NoHoming (acceptedCalls trackNew calls) → lastTrack (run calls) ≡ trackNew
 unfolding trackAt

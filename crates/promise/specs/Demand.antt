@@ -20,7 +20,7 @@ use lib.Dec.{T, leb, eqb}
 use lib.IntN.{ℤ, pos, _+ℤ_}
 use lib.Signed.{_≤ℤ_, _<ℤ_}
 use lib.ListN.{length, getD, drop}
-use Rattle.base.specs.Sum.{sumTo, sumEach}
+use Rattle.base.specs.Sum.{sumTo}
 use Rattle.base.specs.Lists.{concatTo}
 use Rattle.base.specs.Calls.{reckonCall, acceptedFrom, runFrom, lastHanded, EachCall}
 use Rattle.order.specs.declared.Vector.{Vector}

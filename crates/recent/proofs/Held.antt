@@ -4,9 +4,9 @@
 --   more-next, more-last   the places with one more; sum-more, sum-full: its sum; kept-small: a sum of at most 64 is small
 --   Whole      the test of both parts, as facts: whole-yes, whole-true
 use Prim.Native.Nat.{ℕ, zero, suc, _+_, _-_, _*_, _≤_, _<_}
-use mathlib.Core.Path.{_≡_, refl, sym, ap, _∙_}
+use mathlib.Core.Path.{_≡_, sym, ap, _∙_}
 use mathlib.Core.Logic.{_⊎_, inl, inr, ⊎-elim}
-use mathlib.Core.Bool.{Bool, true, false, _&&_}
+use mathlib.Core.Bool.{Bool, false, _&&_}
 use mathlib.Core.List.{List, [], _∷_, _++_, append-nil}
 use native.Mathlib.Numerals.{add-one}
 use native.Mathlib.Nat.{add-comm}
@@ -55,11 +55,11 @@ module _ (places : List ℤ) (held : ℕ) (sum : ℤ) where
 -- ---- the sum
 
 module _ (places : List ℤ) where
-  pub sum-none : sumHeld places 0 ≡ pos 0
+  sum-none : sumHeld places 0 ≡ pos 0
   unfolding sumHeld
   sum-none = sumEach-none (λ (z : ℤ). z)
 
-  pub sum-next : (k : ℕ) → k < length places → sumHeld places (k + 1) ≡ sumHeld places k +ℤ getD places k (pos 0)
+  sum-next : (k : ℕ) → k < length places → sumHeld places (k + 1) ≡ sumHeld places k +ℤ getD places k (pos 0)
   unfolding sumHeld
   sum-next k h = rw (add-one k, take-suc places k (pos 0) h) (sumEach-more (λ z. z) (take k places) (getD places k (pos 0)))
 
@@ -131,15 +131,16 @@ module _ (places : List ℤ) (long : length places ≡ mostHeld) where
 abbrev pub behind : List ℤ → ℕ → ℤ
 behind places k = getD places (k + 1) (pos 0)
 
-moved-up : (places : List ℤ) → length places ≡ mostHeld → drop 1 places ≡ listTo (behind places) 63
-moved-up places l =
+moved-forward : (places : List ℤ) → length places ≡ mostHeld → drop 1 places ≡ listTo (behind places) 63
+moved-forward places l =
     ext-getD (pos 0) (drop 1 places) (listTo (behind places) 63) (rw (length-drop, length-listTo) (omega arith))
     (λ i h.
     let n = length-drop 1 places in
     getD-drop 1 places i (pos 0) ∙ ap (λ (k : ℕ). getD places k (pos 0)) (add-comm 1 i) ∙ sym (getD-listTo (behind places) 63 i (pos 0) (omega arith)))
 
 module _ (places : List ℤ) (held : ℕ) (z : ℤ) (long : length places ≡ mostHeld) where
-  joined-long : held ≤ mostHeld → length (take held places ++ (z ∷ [])) ≡ held + 1
+  -- the held ones and this one
+  pub joined-long : held ≤ mostHeld → length (take held places ++ (z ∷ [])) ≡ held + 1
   joined-long h = rw (length-append, length-take-le held places (omega arith))
 
   pub more-next : held < mostHeld → set places held z ≡ placesMore places held z
@@ -160,7 +161,7 @@ module _ (places : List ℤ) (held : ℕ) (z : ℤ) (long : length places ≡ mo
   pub more-last : held ≡ mostHeld → set (fillTo places 0 (behind places) 63) 63 z ≡ placesMore places held z
   more-last e =
       rw (← more-full e, fill-zero places (behind places) 63, drop-cons places 63 (pos 0) (omega arith), drop-of-length-le places {i = 64} (omega arith))
-      (set-at (listTo (behind places) 63) _ [] z 63 (length-listTo (behind places) 63) ∙ ap (λ (p : List ℤ). p ++ (z ∷ [])) (sym (moved-up places long)))
+      (set-at (listTo (behind places) 63) _ [] z 63 (length-listTo (behind places) 63) ∙ ap (λ (p : List ℤ). p ++ (z ∷ [])) (sym (moved-forward places long)))
 
   pub sum-more : held < mostHeld → sumHeld (placesMore places held z) (heldMore held) ≡ sumHeld places held +ℤ z
   unfolding sumHeld
@@ -180,19 +181,8 @@ module _ (places : List ℤ) (held : ℕ) (z : ℤ) (long : length places ≡ mo
       ∙ same _ _ (omega (arith, added others z, added first others, added (first +ℤ others) z, less ((first +ℤ others) +ℤ z) first)))
 
 -- a sum of at most 64 parts is small
-module _ (places : List ℤ) (held : ℕ) (within : (k : ℕ) → k < held → natAbs (getD places k (pos 0)) ≤ 16) (room : held ≤ length places) where
-  sum-small : (k : ℕ) → k ≤ held → natAbs (sumHeld places k) ≤ 16 * k
-  sum-small zero h = rw (sum-none places) (omega arith)
-  sum-small (suc k) h =
-      let n = sum-next places k (omega arith) in
-      let a = added (sumHeld places k) (getD places k (pos 0)) in
-      let e = add-one k in
-      rw (← e) (rw n (omega (arith, a, sum-small k (omega arith), within k (omega arith))))
-
 pub kept-small : (places : List ℤ) (held : ℕ) (sum : ℤ) → length places ≡ mostHeld → held ≤ mostHeld → Kept places held sum → natAbs sum ≤ 1024
-kept-small places held sum l h k =
-    let s = sum-small places held (k .within) (omega arith) held (omega arith) in
-    rw (k .sum-is) (omega arith)
+kept-small places held sum l h k = rw (k .sum-is) (omega (arith, counted-sum places l held h (k .within), parts (sumHeld places held)))
 
 -- ---- both parts
 

@@ -6,7 +6,7 @@
 --   none-ok        homing leaves none of the three faults; more-ok: nor does a travel more, also to a track built by hand
 --   more-long      the places stay 64
 use Prim.Native.Nat.{ℕ, zero, suc, _+_, _-_, _≤_, _<_, min}
-use mathlib.Core.Path.{_≡_, refl, sym, ap, ap₂, _∙_}
+use mathlib.Core.Path.{_≡_, refl, ap, ap₂, _∙_}
 use mathlib.Core.List.{List, [], _∷_, _++_, map, map-append}
 use native.Mathlib.Omega.{arith}
 use borrow.Author.Count.{below-more}
@@ -22,7 +22,7 @@ use Rattle.order.specs.Vectors.{vec, Within}
 use Rattle.recent.specs.declared.Recent.{Recent}
 use Rattle.recent.specs.Recent.{mostHeld, noTravels, sumHeld, partsOk, placesMore, recentOk, heldMore, recentMore}
 use Rattle.recent.specs.Recent.{travelsIn, lastHeld, placesOf, holding}
-use Rattle.recent.proofs.Held.{Kept, kept-yes, kept-true, whole-yes, whole-true}
+use Rattle.recent.proofs.Held.{Kept, kept-yes, kept-true, joined-long, whole-yes, whole-true}
 
 -- ---- lists
 
@@ -61,11 +61,8 @@ module _ (places : List ℤ) (held : ℕ) (z : ℤ) (long : length places ≡ mo
   abbrev joined : List ℤ
   joined = take held places ++ (z ∷ [])
 
-  joined-long : length joined ≡ held + 1
-  joined-long = rw (length-append, taken)
-
   front-long : length (lastHeld joined) ≡ heldMore held
-  front-long = rw (last-long, joined-long)
+  front-long = rw (last-long, joined-long places held z long few)
 
   pub more-long : length (placesMore places held z) ≡ mostHeld
   unfolding placesMore
@@ -84,7 +81,7 @@ module _ (places : List ℤ) (held : ℕ) (z : ℤ) (long : length places ≡ mo
   kept-more s h =
       record {
         within = λ k l.
-            rw (List·getD-append (lastHeld joined) _ (pos 0) k (rw front-long l), getD-drop, joined-long)
+            rw (List·getD-append (lastHeld joined) _ (pos 0) k (rw front-long l), getD-drop, joined-long places held z long few)
             (joined-small s h _ (omega arith));
         sum-is = refl;
       }

@@ -93,7 +93,7 @@ fn held_more(held: u32) -> u32
     }
 }
 
-// One part more, in the next place; where all 64 are held, the oldest goes and the others move up.
+// One part more, in the next place; where all 64 are held, the oldest goes and the others move forward.
 fn places_more(places: [i32; MOST], held: usize, z: i32) -> [i32; MOST]
     requires { ⌜ held ≤ mostHeld ⌝ }
     ensures { λ r. ⌜ r ≡ placesMore places held z ⌝ }

@@ -1,5 +1,4 @@
 -- `state_refusal`: the three tests are those of the definition.
-use mathlib.Core.Path.{_≡_}
 use borrow.Author.Needs.{needs}
 use borrow.Author.Tests.{le-leb, lt-leb, not-true, not-false}
 use Rattle.base.specs.Tests.{passed, failed}

@@ -1,5 +1,5 @@
 -- `home`: a refusal, or the place, which comes back from its bits unchanged, and no travels.
-use mathlib.Core.Path.{_≡_, sym, ap₂, _∙_}
+use mathlib.Core.Path.{_≡_, ap₂, _∙_}
 use borrow.Author.Needs.{needs}
 use borrow.Author.Tests.{ne-eqb}
 use mir.Facts.{toZ-ofZ}

@@ -6,14 +6,12 @@ use borrow.Author.Needs.{needs}
 use denote.Ref.{now}
 use lib.Dec.{T}
 use lib.IntN.{ℤ}
-use lib.ListN.{length}
-use Rattle.order.specs.Vectors.{vec, Within}
 use Rattle.refusals.specs.declared.Request.{Request}
 use Rattle.refusals.specs.Refusals.{unless-zero, first-refusal-zero}
 use Rattle.field.specs.declared.FieldAnswer.{FieldAnswer}
 use Rattle.field_rules.specs.Rules.{fieldRefusal}
-use Rattle.field.specs.Field.{FieldResult, fieldResult, field}
-use Rattle.field.proofs.Reading.{reading-within}
+use Rattle.field.specs.Field.{fieldResult, field}
+use Rattle.field.proofs.Reading.{Reads, reading-within}
 use Rattle.track_rules.specs.Rules.{mayStep}
 use Rattle.track.specs.declared.Track.{Track}
 use Rattle.track.specs.declared.Stepped.{Stepped}
@@ -29,12 +27,6 @@ may-step t older newer q list table e =
     let b = unless-zero (t .homed) 30 _ (a .1) in
     unless-zero (mayStep (t .steps) (t .recent)) 31 0 (b .1) .0
 
--- nor a refusal of the field
-field-fine : (t : Track) (older newer : ℕ) (q : Request) (list table : ℕ) → stepRefusal t older newer q list table ≡ 0
-    → fieldRefusal older newer q list table ≡ 0
-unfolding stepRefusal
-field-fine t older newer q list table e = first-refusal-zero (fieldRefusal older newer q list table) _ e .0
-
 module _ (t : Track) (older newer : List ℕ) (q : Request) (list : List ℤ) (table : List ℕ) where
   -- a refusal
   stops : (n : ℕ) (s : Stepped) → n ≡ stepRefusalIs t older newer q list table → (n ≡ 0 → ⊥) → s ≡ unmoved n t
@@ -48,13 +40,6 @@ module _ (t : Track) (older newer : List ℕ) (q : Request) (list : List ℤ) (t
       → stepResult s filled sums ≡ trackStep t older newer q list table
   arrives a filled sums s z f e =
       ap (λ (u : Stepped). stepResult u filled sums) e ∙ ap (landed t) f ∙ sym (step-landed t older newer q list table z)
-
-  -- whose reading lies in window 16
-  reads-within : (a : FieldAnswer) (filled : List ℤ) (sums : List ℕ)
-      → stepRefusalIs t older newer q list table ≡ 0 → fieldResult a filled sums ≡ field older newer q list table → Within 16 (vec (a .dy) (a .dx))
-  reads-within a filled sums z f =
-      subst (λ (r : FieldResult). Within 16 (vec (r .answer .dy) (r .answer .dx))) (sym f)
-      (reading-within older newer q list table (field-fine t (length older) (length newer) q (length list) (length table) z))
 
 -- past the chain
 zero-is : (e : tie.Else1) →
@@ -80,7 +65,7 @@ arrive-requires : tie.Need-arrive-requires
 arrive-requires c κs =
     let f = c .before .before .before in
     let z = zero-is (f .before .before .before) in
-    (may-step _ _ _ _ _ _ z, reads-within _ _ _ _ _ _ _ _ _ z (f .field .ensures))
+    (may-step _ _ _ _ _ _ z, subst Reads (sym (f .field .ensures)) (reading-within _ _ _ _ _))
 
 same-length : tie.Need-same-length
 same-length c = search needs

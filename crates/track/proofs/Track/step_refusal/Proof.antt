@@ -1,5 +1,5 @@
 -- `step_refusal`: the field's chain, and after it the tests of the track.
-use mathlib.Core.Path.{_≡_, sym, _∙_}
+use mathlib.Core.Path.{sym, _∙_}
 use borrow.Author.Needs.{needs}
 use Rattle.refusals.specs.Refusals.{first-refusal-some, first-refusal-none}
 use Rattle.track.specs.Track.{stepRefusal}
