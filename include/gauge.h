@@ -192,7 +192,7 @@ typedef struct {
 } gauge_stepped;
 
 /* Adds the travel of a pair to the place, and 1 to the steps. The travel comes behind those held, and the sums go up by it; where 64 are held the
- * oldest goes out, the others move down by a place, and the sums go down by what went out. Lent memory is as the field call leaves it, also where 52
+ * oldest goes out, the others move forward by a place, and the sums go down by what went out. Lent memory is as the field call leaves it, also where 52
  * or 33 refuses; any other refusal leaves it as it was. Tests 1 2 3 4 51 5 6 9 10 31 32 52 33. */
 gauge_stepped gauge_step(gauge_track track, const uint8_t *older, size_t older_length, const uint8_t *newer, size_t newer_length,
                          gauge_request request, int32_t *list, size_t list_length, uint32_t *table, size_t table_length);
