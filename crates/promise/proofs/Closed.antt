@@ -12,6 +12,7 @@ use Rattle.base.specs.Calls.{reckonCall, reckoned-is}
 use Rattle.order.specs.declared.Vector.{Vector}
 use Rattle.frame.specs.Pictures.{Pair}
 use Rattle.refusals.specs.Refusals.{first-refusal-zero}
+use Rattle.recent.specs.declared.Recent.{Recent}
 use Rattle.recent.specs.Recent.{lastHeld, travelsIn, sumDown, sumAcross, holding}
 use Rattle.recent.proofs.Travels.{holding-none, holding-more, travels-held}
 use Rattle.track_rules.specs.Rules.{inRange}
@@ -57,17 +58,15 @@ leads (from y x vs) (step p w threshold list table) e = travel-more y x vs (trav
 pub closed : (cs : List Call) (s : Standing) → reckoned (trackAt s) cs ≡ trackAt (standingOn s (acceptedCalls (trackAt s) cs))
 closed = reckoned-is refusalOf accept trackAt standOn leads
 
--- what a standing's track holds
-module _ (vs : List Vector) where
-  abbrev Held : Type 0
-  Held = let r = holding vs in (travelsIn r ≡ vs) × (r .down ≡ sumDown vs) × (r .across ≡ sumAcross vs)
+-- these travels are held, and the sums are theirs
+abbrev pub Held : Recent → List Vector → Type 0
+Held r vs = (travelsIn r ≡ vs) × (r .down ≡ sumDown vs) × (r .across ≡ sumAcross vs)
 
-  holding-held : Held
-  unfolding holding
-  holding-held = (travels-held vs, refl, refl)
+holding-held : (vs : List Vector) → Held (holding vs) vs
+unfolding holding
+holding-held vs = (travels-held vs, refl, refl)
 
-pub standing-held : (s : Standing) → let last = lastHeld (travelsSince s) in let r = trackAt s .recent in
-    (travelsIn r ≡ last) × (r .down ≡ sumDown last) × (r .across ≡ sumAcross last)
+pub standing-held : (s : Standing) → Held (trackAt s .recent) (lastHeld (travelsSince s))
 unfolding trackAt
 standing-held nowhere = rw holding-none (holding-held [])
 standing-held (from y x vs) = holding-held (lastHeld vs)

@@ -23,7 +23,7 @@ use Rattle.refusals.specs.Refusals.{requestOf}
 use Rattle.field_rules.specs.Rules.{listSize}
 use Rattle.field_block.specs.Blocks.{searchAt}
 use Rattle.field.specs.Field.{fieldAnswer}
-use Rattle.recent.specs.Recent.{lastHeld, recentOk, travelsIn, sumDown, sumAcross}
+use Rattle.recent.specs.Recent.{lastHeld, recentOk}
 use Rattle.track.specs.declared.Track.{Track}
 use Rattle.track_rules.specs.Rules.{inRange}
 use Rattle.track.specs.Track.{trackNew, homedAt, StepResult}
@@ -38,7 +38,7 @@ use Rattle.promise.proofs.Blocks.{Lists, entries-third, pos-le, pos-lt,
 use Rattle.promise.proofs.Blocks.{grid-worse, entries-best, sum-dropped, sum-measured, sum-both}
 use Rattle.promise.proofs.Probing.{four-step-runs, cross-runs, four-step-block, cross-block, four-step-over, cross-over}
 use Rattle.promise.proofs.One.{agrees, Taken, at-step, field-fine, answer-is, list-is, reading-is, votes-is, voters-is}
-use Rattle.promise.proofs.Closed.{closed, standing-held, stays-nowhere, travelsOf, reckoned-since}
+use Rattle.promise.proofs.Closed.{closed, Held, standing-held, stays-nowhere, travelsOf, reckoned-since}
 use Rattle.promise.proofs.Holding.{new-holds, reckoned-holds}
 
 -- ---- an accepted step
@@ -113,8 +113,7 @@ stands : (calls : List Call) → lastTrack (run calls) ≡ trackAt (standingOn n
 unfolding trackAt
 stands calls = ends calls ∙ closed calls nowhere
 
-held : (calls : List Call) → let last = lastHeld (travelsSince (standingOn nowhere (acceptedCalls trackNew calls))) in let r = lastTrack (run calls) .recent in
-    (travelsIn r ≡ last) × (r .down ≡ sumDown last) × (r .across ≡ sumAcross last)
+held : (calls : List Call) → Held (lastTrack (run calls) .recent) (lastHeld (travelsSince (standingOn nowhere (acceptedCalls trackNew calls))))
 held calls = rw (stands calls) (standing-held (standingOn nowhere (acceptedCalls trackNew calls)))
 
 whole : (calls : List Call) → T (recentOk (lastTrack (run calls) .recent))

@@ -12,7 +12,7 @@ use native.Mathlib.Omega.{arith}
 use borrow.Author.Count.{below-more}
 use lib.Dec.{T}
 use lib.IntN.{ℤ, pos, natAbs, _+ℤ_}
-use lib.ListN.{length, getD, take, drop, replicate, length-append, length-drop, length-map, length-replicate}
+use lib.ListN.{length, getD, take, drop, replicate, length-append, length-drop, length-map}
 use lib.ListN.{List·getD-append, List·getD-map}
 use lib.Seq.{take-at, drop-at, drop-append-le, drop-drop, length-take-le, getD-at, getD-take, getD-drop, ext-getD}
 use Rattle.base.specs.Sum.{sumEach}
@@ -89,10 +89,6 @@ module _ (places : List ℤ) (held : ℕ) (z : ℤ) (long : length places ≡ mo
 -- ---- one part of a list of travels
 
 module _ (part : Vector → ℤ) (ws : List Vector) where
-  places-long : length ws ≤ mostHeld → length (placesOf part ws) ≡ mostHeld
-  unfolding placesOf
-  places-long few = rw (length-append, length-map, length-replicate) (omega arith)
-
   places-more : (v : Vector) → length ws ≤ mostHeld
       → placesMore (placesOf part ws) (length ws) (part v) ≡ placesOf part (lastHeld (ws ++ (v ∷ [])))
   unfolding placesMore placesOf
