@@ -66,6 +66,8 @@ pub last_each : {S C R : Type 0} (next : S → C → S) (handed : R → S) (cs :
     → EachCall next (λ s c r. handed r ≡ next s c) s cs rs → last_handed handed s rs ≡ foldl next s cs
 unfolding last_handed
 last_each next handed [] [] s none = refl
+last_each next handed [] (r ∷ rs) s e = elim e [ ]
+last_each next handed (c ∷ cs) [] s e = elim e [ ]
 last_each next handed (c ∷ cs) (r ∷ rs) s (more h e) = rw h (last_each next handed cs rs (next s c) e)
 
 -- a run whose calls hand back what is reckoned of them: what holds of a call on any state holds of each call

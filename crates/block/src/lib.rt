@@ -1,5 +1,7 @@
 // The single-block call: refusals 1 to 7 and 51, then the requested search, of a block at any pel row and column.
 
+#![tactic(auto)]
+
 ghost use Rattle.std.specs.Prelude.{◌≡◌};
 ghost use Rattle.search.specs.SearchResult.{refused_search};
 ghost use Rattle.block.specs.Block.{search_refusal, search_block};

@@ -1,6 +1,8 @@
 // Sums of squares of pels, of every m × m pels of a block's search window and of the block itself, for m = 1, 2, 4, 8 and 16: all in one array of 16
 // bits, each m from the one before. A box of m stands at the place of its first pel: rows of the window are N + 32 places long, those of the block N.
 
+#![tactic(auto)]
+
 ghost use Rattle.std.specs.Prelude.{◌≡◌, ℕ, ◌+◌, ◌-◌, ◌*◌, ◌≤◌, ◌<◌, T, length, get_or};
 ghost use Rattle.base.specs.Lists.{fill_to};
 ghost use Rattle.refusals.specs.Refusals.{block_size_ok};
@@ -17,7 +19,7 @@ pub const SMALL: usize = 5 * (48 * 48 + 16 * 16);
 pub const LARGE: usize = 5 * (64 * 64 + 32 * 32);
 
 // The boxes of one m: k × k of them side by side are a block of N. The window's stand at `at`, `pitch` to a row, the block's own at `own`, n to a row.
-#[derive(Drop)]
+#[derive(Clone, Copy)]
 pub struct Level {
     pub m: usize,
     pub k: usize,

@@ -1,5 +1,7 @@
 // Search 4, cross: Ghanbari's cross search, by crosses (X) at halved step sizes and a last cross (+) or (X). specs/Cross.antt has its steps 1 to 8.
 
+#![tactic(auto)]
+
 ghost use Rattle.std.specs.Prelude.{◌≡◌, ◌+◌, ◌/◌, ◌≤◌, T};
 ghost use Rattle.refusals.specs.Cross.{cross_window};
 ghost use Rattle.search.specs.Target.{Ready, target_of};

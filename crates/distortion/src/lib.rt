@@ -1,5 +1,7 @@
 // Distortion: the sum of the pel differences of two blocks, by a measure and under a ceiling.
 
+#![tactic(auto)]
+
 ghost use Rattle.std.specs.Prelude.{◌≡◌, ◌+◌, ◌*◌, ◌≤◌, ◌<◌, length};
 ghost use Rattle.measures.specs.Measures.{measure_of};
 ghost use Rattle.distortion.specs.Blocks.{block_at, distortion_by, capped, rows_apart, rows_up_to, halves_up_to, Rows, BlockRows, UpTo, BlockSum, kernel_of, size_by, measure_by, Comparable};
@@ -7,7 +9,7 @@ ghost use Rattle.distortion.specs.Blocks.{block_at, distortion_by, capped, rows_
 use frame::Setting;
 
 // The distortion of two blocks where it is at most the ceiling, else only that it is over.
-#[derive(Drop)]
+#[derive(Clone, Copy)]
 pub enum Capped {
     Within(u32),
     Over,

@@ -1,5 +1,7 @@
 // The field: every grid block searched, its vector and distortion in a lent list, and the reading and the sums over the blocks as the answer.
 
+#![tactic(auto)]
+
 ghost use Rattle.std.specs.Prelude.{◌≡◌, ◌≤◌, length, replicate};
 ghost use Rattle.order.specs.Vectors.{vector_count};
 ghost use Rattle.frame.specs.Pictures.{pair_of};
@@ -19,7 +21,7 @@ use refusals::Request;
 
 // What a field call answers: the reading with its votes and the voters, and the counts and the number dropped, summed over the blocks.
 #[repr(C)]
-#[derive(Drop)]
+#[derive(Clone, Copy)]
 pub struct FieldAnswer {
     pub refusal: u32,
     pub dy: i32,

@@ -1,5 +1,7 @@
 // A grid block of a field: what the requested search answers there, and the sums over the blocks so far.
 
+#![tactic(auto)]
+
 ghost use Rattle.std.specs.Prelude.{◌≡◌, ◌<◌, length};
 ghost use Rattle.frame.specs.Pictures.{pair_of};
 ghost use Rattle.frame.specs.Grid.{blocks};
@@ -11,7 +13,7 @@ use refusals::Request;
 use search::SearchResult;
 
 // Counts, dropped and voters, summed over the blocks so far.
-#[derive(Drop)]
+#[derive(Clone, Copy)]
 pub struct Total {
     pub counts: [u32; frame::COUNTS],
     pub dropped: u32,

@@ -1,5 +1,7 @@
 // What the field call tests before anything is filled: the request, and the lengths of list and table.
 
+#![tactic(auto)]
+
 ghost use Rattle.std.specs.Prelude.{◌≡◌};
 ghost use Rattle.field_rules.specs.Rules.{field_refusal};
 

@@ -1,6 +1,8 @@
 // Search 3, four-step: Po and Ma's four-step search, by patterns of nine points, two apart, that move until their centre stays, then the eight
 // points next to it. specs/FourStep.antt has its steps.
 
+#![tactic(auto)]
+
 ghost use Rattle.std.specs.Prelude.{◌≡◌, ◌+◌, ◌≤◌};
 ghost use Rattle.search.specs.Target.{Ready, target_of};
 ghost use Rattle.order.specs.Vectors.{same?};

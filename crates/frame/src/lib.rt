@@ -1,5 +1,7 @@
 // Frames: what goes with a pair of them, the grid of blocks, and candidates.
 
+#![tactic(auto)]
+
 ghost use Rattle.std.specs.Prelude.{◌≡◌, ◌<◌};
 ghost use Rattle.order.specs.Vectors.{vec};
 ghost use Rattle.frame.specs.Pictures.{setting, largest_distortion, Fitting};
@@ -17,7 +19,7 @@ pub const COUNTS: usize = 6;
 pub const LAST_COUNT: usize = COUNTS - 1;
 
 // What goes with a pair: width and height of its frames, the block size N, and the measure.
-#[derive(Drop)]
+#[derive(Clone, Copy)]
 pub struct Setting {
     pub width: usize,
     pub height: usize,
@@ -26,7 +28,7 @@ pub struct Setting {
 }
 
 // A block of the newer frame, at row y, column x, to be searched within window w.
-#[derive(Drop)]
+#[derive(Clone, Copy)]
 pub struct SearchBlock {
     pub setting: Setting,
     pub w: usize,
@@ -35,7 +37,7 @@ pub struct SearchBlock {
 }
 
 // A part of a frame: so many rows from row `top` on, so many columns from column `left` on.
-#[derive(Drop)]
+#[derive(Clone, Copy)]
 pub struct Region {
     pub top: usize,
     pub left: usize,
@@ -91,7 +93,7 @@ pub fn block_column(s: Setting, k: usize) -> usize
 // ---- candidates
 
 // Where the older block of a vector stands: its row and column, where the vector is a candidate.
-#[derive(Drop)]
+#[derive(Clone, Copy)]
 pub enum Older {
     At(usize, usize),
     Outside,

@@ -2,6 +2,8 @@
 // candidates measured row by row of the window, or column by column for N 8 and absolute differences. Of each the distortion and the place in the order
 // are one number, its key: the least key wins, in whatever order the candidates come.
 
+#![tactic(auto)]
+
 ghost use Rattle.std.specs.Prelude.{◌≡◌, ◌+◌, ◌-◌, ◌*◌, ◌≤◌, ◌<◌, min, T, length};
 ghost use Rattle.base.specs.Lists.{list_to};
 ghost use Rattle.measures.specs.Measures.{measure_of};

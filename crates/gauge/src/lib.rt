@@ -1,6 +1,8 @@
 // The C boundary: the gauge's calls under their C names, as include/gauge.h declares them. Each takes any input; one that may refuse says
 // so in its answer.
 
+#![tactic(auto)]
+
 ghost use Rattle.std.specs.Prelude.{◌≡◌, length, ◌≤◌};
 ghost use Rattle.order.specs.Vectors.{vec};
 ghost use Rattle.frame.specs.Pictures.{setting, pair_of};

@@ -1,5 +1,7 @@
 // Half pels: a frame's values between its pels, blocks of such values, and their distortion.
 
+#![tactic(auto)]
+
 ghost use Rattle.std.specs.Prelude.{◌≡◌, cond, ◌+◌, ◌≤◌, ◌<◌, T, length};
 ghost use Rattle.base.specs.Lists.{fill_to};
 ghost use Rattle.base.specs.Tests.{one};

@@ -1,5 +1,7 @@
 // The half-pel call: the single-block search, then the eight half-pel neighbours of its vector.
 
+#![tactic(auto)]
+
 ghost use Rattle.std.specs.Prelude.{◌≡◌, ◌≤◌, ◌<◌};
 ghost use Rattle.signed.specs.Values.{unbias};
 ghost use Rattle.frame.specs.Pictures.{pair_of};
@@ -13,7 +15,7 @@ use search::SearchResult;
 
 // What the half-pel call answers: the search's result, then the winner's vector in half pels, and its distortion.
 #[repr(C)]
-#[derive(Drop)]
+#[derive(Clone, Copy)]
 pub struct HalfResult {
     pub found: SearchResult,
     pub dy: i32,
@@ -22,14 +24,14 @@ pub struct HalfResult {
 }
 
 // An offset in half pels, each part with 1 added.
-#[derive(Drop)]
+#[derive(Clone, Copy)]
 pub struct Offset {
     pub down: usize,
     pub across: usize,
 }
 
 // The winner by now: its place among the neighbours, and its distortion.
-#[derive(Drop)]
+#[derive(Clone, Copy)]
 pub struct Winner {
     pub place: usize,
     pub least: u32,

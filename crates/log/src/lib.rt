@@ -1,5 +1,7 @@
 // The walker's step along a log: the command at a cursor, or the refusal, for a log of any bytes and a cursor built in any way.
 
+#![tactic(auto)]
+
 ghost use Rattle.std.specs.Prelude.{◌≡◌, true, ◌+◌, ◌≤◌, ◌<◌, length, get_or};
 ghost use Rattle.log_command.specs.declared.Command.TheVariants as Cmd;
 ghost use Rattle.log_command.specs.Commands.{command_size, size_by};
@@ -12,7 +14,7 @@ use log_head::Head;
 
 // How far a walk is: before the head, among the blocks with the head's numbers and how many blocks were read, after the end command, or
 // after a refusal.
-#[derive(Drop)]
+#[derive(Clone, Copy)]
 pub enum Phase {
     Start,
     Body { head: Head, blocks: usize },
@@ -21,14 +23,14 @@ pub enum Phase {
 }
 
 // Where a walk stands: the offset of the next command, and how far it is.
-#[derive(Drop)]
+#[derive(Clone, Copy)]
 pub struct Cursor {
     pub at: usize,
     pub phase: Phase,
 }
 
 // The command of one call, and the cursor after it.
-#[derive(Drop)]
+#[derive(Clone, Copy)]
 pub struct WalkStep {
     pub command: Command,
     pub next: Cursor,

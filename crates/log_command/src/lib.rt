@@ -1,5 +1,7 @@
 // What a command of a log is: its number, its size, and its operands in the bytes of a log.
 
+#![tactic(auto)]
+
 ghost use Rattle.std.specs.Prelude.{◌≡◌, ◌+◌, ◌≤◌, ◌<◌, length, get_or};
 ghost use Rattle.log_command.specs.Numbers.{be2, be4};
 ghost use Rattle.log_command.specs.Commands.{carries, is_long, head_number, block_number, size_by};
@@ -9,7 +11,7 @@ ghost use Rattle.log_command.specs.Operands.{measure_in, head_in, distortion_in}
 use log_head::Head;
 
 // What a call of the walker hands out. specs/Commands.antt has the number of each case, `command_number`, and its values, `command_values`.
-#[derive(Drop)]
+#[derive(Clone, Copy)]
 pub enum Command {
     Head(Head),
     Block { dy: i32, dx: i32, distortion: u32 },

@@ -1,5 +1,7 @@
 // A log's head and blocks: the rules for a head's numbers, and for what a block may be in a log with that head.
 
+#![tactic(auto)]
+
 ghost use Rattle.std.specs.Prelude.{◌≡◌, ◌≤◌, ◌<◌, pos};
 ghost use Rattle.frame.specs.Pictures.{Fitting};
 ghost use Rattle.frame.specs.Grid.{blocks};
@@ -10,7 +12,7 @@ use frame::Setting;
 
 // A head's numbers.
 #[repr(C)]
-#[derive(Drop)]
+#[derive(Clone, Copy)]
 pub struct Head {
     pub width: usize,
     pub height: usize,

@@ -1,5 +1,7 @@
 // The line of a command: its words and numbers, put into a lent buffer. A byte past the buffer's end is counted and not put.
 
+#![tactic(auto)]
+
 ghost use Rattle.std.specs.Prelude.{◌≡◌, false, cond, [], ◌∷◌, ◌+◌, ◌≤◌, length, pos};
 ghost use Rattle.put.specs.Put.{Put};
 ghost use Rattle.log_command.specs.declared.Command.TheVariants as Cmd;

@@ -1,5 +1,7 @@
 // Head numbers and a list of three numbers a block, as a field fills it: what writing a log tests of them, 1 3 4 51 5 10 16.
 
+#![tactic(auto)]
+
 ghost use Rattle.std.specs.Prelude.{◌≡◌, ◌+◌, ◌*◌, ◌<◌, length};
 ghost use Rattle.base.specs.FirstWrong.{first_wrong};
 ghost use Rattle.log_head.specs.Heads.{head_blocks};
@@ -8,7 +10,7 @@ ghost use Rattle.log_list.specs.Listed.{value_of, list_refusal, listed_ok, Writa
 use log_head::Head;
 
 // The first refusal of 1 3 4 51 5 10 16 that applies, or 0, and its place.
-#[derive(Drop)]
+#[derive(Clone, Copy)]
 pub struct Verdict {
     pub refusal: u32,
     pub place: usize,

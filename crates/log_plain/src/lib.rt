@@ -1,5 +1,7 @@
 // One call of the walker for callers that have no enums: cursor and command as plain numbers, by value.
 
+#![tactic(auto)]
+
 ghost use Rattle.std.specs.Prelude.{◌≡◌, pos};
 ghost use Rattle.log_head.specs.Heads.{no_head};
 ghost use Rattle.log_plain.specs.Plain.{cursor_of, plain_of, answer, answer_of, walk_from};
@@ -11,7 +13,7 @@ use log_head::Head;
 // Where a walk stands: the offset of the next command, and how far the walk is: 0 before the head, 1 among the blocks, 2 after the end,
 // any other number after a refusal. Head and blocks count among the blocks alone.
 #[repr(C)]
-#[derive(Drop)]
+#[derive(Clone, Copy)]
 pub struct Place {
     pub at: usize,
     pub phase: u32,
@@ -22,7 +24,7 @@ pub struct Place {
 // What a call of the walker answers: the command's number 1 to 6 with its values, or a refusal with its place, and where the walk then
 // stands.
 #[repr(C)]
-#[derive(Drop)]
+#[derive(Clone, Copy)]
 pub struct Walked {
     pub refusal: u32,
     pub place: usize,

@@ -1,5 +1,7 @@
 // Reads a whole log into a lent list, three numbers a block. Nothing is stored before the whole log is accepted.
 
+#![tactic(auto)]
+
 ghost use Rattle.std.specs.Prelude.{◌≡◌, [], ◌∷◌, ◌++◌, ◌+◌, ◌≤◌, pos, length, drop};
 ghost use Rattle.put.specs.Put.{Put};
 ghost use Rattle.log_head.specs.Heads.{largest_logged};
@@ -13,7 +15,7 @@ use log_head::Head;
 
 // What reading answers: the head's numbers, its measure too, or a refusal with its place.
 #[repr(C)]
-#[derive(Drop)]
+#[derive(Clone, Copy)]
 pub struct LogRead {
     pub refusal: u32,
     pub place: usize,

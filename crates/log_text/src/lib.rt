@@ -1,5 +1,7 @@
 // The text of a log: all that the program prints, put into a lent buffer. A byte past the buffer's end is counted and not put.
 
+#![tactic(auto)]
+
 ghost use Rattle.std.specs.Prelude.{◌≡◌, ◌+◌, ◌*◌, ◌≤◌, ◌<◌, length, replicate};
 ghost use mathlib.Core.List.{flat_map};
 ghost use Rattle.put.specs.Put.{Put, over_front};

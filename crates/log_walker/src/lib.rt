@@ -1,5 +1,7 @@
 // The walker: a lent log and a cursor. One command a call.
 
+#![tactic(auto)]
+
 ghost use Rattle.std.specs.Prelude.{◌≡◌};
 ghost use Rattle.log.specs.Step.{start_cursor};
 ghost use Rattle.log_walker.specs.Walkers.{next_command, next_walker};
@@ -8,7 +10,7 @@ use log::Cursor;
 use log_command::Command;
 
 // A log that is walked, and where the walk stands.
-#[derive(Drop)]
+#[derive(Clone, Copy)]
 pub struct Walker<'a> {
     pub log: &'a [u8],
     pub cursor: Cursor,

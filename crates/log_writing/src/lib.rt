@@ -1,5 +1,7 @@
 // Writes a log: head numbers and a list of three numbers a block, as bytes in a lent buffer.
 
+#![tactic(auto)]
+
 ghost use Rattle.std.specs.Prelude.{◌≡◌, cond, [], ◌∷◌, ◌+◌, ◌*◌, ◌≤◌, ◌<◌, length};
 ghost use Rattle.base.specs.Lists.{concat_to};
 ghost use Rattle.put.specs.Put.{Put};
@@ -15,7 +17,7 @@ use log_head::Head;
 
 // What writing answers: the log's length, or a refusal with its place.
 #[repr(C)]
-#[derive(Drop)]
+#[derive(Clone, Copy)]
 pub struct Written {
     pub refusal: u32,
     pub place: usize,

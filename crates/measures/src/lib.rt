@@ -1,5 +1,7 @@
 // The measures of a difference: 1 absolute, 2 squares.
 
+#![tactic(auto)]
+
 ghost use Rattle.std.specs.Prelude.{◌≡◌, ◌*◌, ◌≤◌};
 ghost use Rattle.signed.specs.Values.{abs_diff};
 ghost use Rattle.measures.specs.Measures.{measure_ok, measure_of};

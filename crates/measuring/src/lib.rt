@@ -1,5 +1,7 @@
 // The measuring call: the distortion of one vector at one place under a ceiling, and the number of rows measured.
 
+#![tactic(auto)]
+
 ghost use Rattle.std.specs.Prelude.{◌≡◌, ◌+◌, ◌*◌, ◌≤◌, length};
 ghost use Rattle.order.specs.Vectors.{vec};
 ghost use Rattle.measures.specs.Measures.{measure_of};
@@ -12,7 +14,7 @@ use distortion::Capped;
 use frame::{Older, Setting};
 
 // The distortion and the rows measured where it is at most the ceiling, else that it is over, and the rows.
-#[derive(Drop)]
+#[derive(Clone, Copy)]
 pub enum Measurement {
     Within(u32, u32),
     Over(u32),
@@ -20,7 +22,7 @@ pub enum Measurement {
 
 // What the measuring call answers. `over` is 1 where the distortion passes the ceiling.
 #[repr(C)]
-#[derive(Drop)]
+#[derive(Clone, Copy)]
 pub struct Measured {
     pub refusal: u32,
     pub distortion: u32,

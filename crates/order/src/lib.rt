@@ -2,6 +2,8 @@
 // specs/ has the rule and the table; proofs/Order.antt shows that the table has each vector of window 16, once, in the rule's order.
 // A caller asks for the table once and lends it down: each use of the constant copies it.
 
+#![tactic(auto)]
+
 mod preference;
 
 ghost use Rattle.std.specs.Prelude.{◌≡◌, ◌<◌};
@@ -16,7 +18,7 @@ pub const VECTORS: usize = 1089;
 pub const NUMBERS: usize = 2 * VECTORS;
 
 // A motion vector: how far down and how far to the right the older block stands from the newer one.
-#[derive(Drop)]
+#[derive(Clone, Copy)]
 pub struct Vector {
     pub dy: i32,
     pub dx: i32,

@@ -1,6 +1,8 @@
 // The page's boundary: the calls that the page in web/ makes, over numbers and slices alone. Each takes any input and puts its answer over the front of
 // lent arrays, as far as it fits: the parts of vectors over `vectors`, all other numbers, the refusal first, over `answer`.
 
+#![tactic(auto)]
+
 ghost use Rattle.std.specs.Prelude.{◌≡◌, [], ◌∷◌, length};
 ghost use Rattle.order.specs.Vectors.{vec};
 ghost use Rattle.frame.specs.Pictures.{setting, pair_of};

@@ -1,5 +1,7 @@
 // How searches 3 and 4 probe points: the best so far, and the points of a pattern around it, in the table's order.
 
+#![tactic(auto)]
+
 ghost use Rattle.std.specs.Prelude.{◌≡◌, ◌+◌, ◌≤◌, ◌<◌, pos, nat_abs, ◌+ℤ◌, ◌*ℤ◌, length};
 ghost use Rattle.signed.specs.Int.{eq_z};
 ghost use Rattle.signed.specs.Values.{unbias};
@@ -13,7 +15,7 @@ use search::{MeasuredCandidate, SearchResult};
 use signed::Shifted;
 
 // The best vector seen by now, its parts kept as dy + 16 and dx + 16, with its distortion and the number measured.
-#[derive(Drop)]
+#[derive(Clone, Copy)]
 pub struct BestSoFar {
     pub y: usize,
     pub x: usize,

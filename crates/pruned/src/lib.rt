@@ -1,6 +1,8 @@
 // Search 2, Gharavi-Alkhansari's pruned search, of one block. While many candidates remain the distances of all of them are worked out at once: what
 // remains after m is just those whose distance at m is within the limit, so no list is needed; the few are listed and looked up one by one.
 
+#![tactic(auto)]
+
 ghost use Rattle.std.specs.Prelude.{◌≡◌, true, ◌++◌, ℕ, ◌+◌, ◌-◌, ◌*◌, ◌≤◌, ◌<◌, min, T, length, get_or, take, replicate};
 ghost use Rattle.measures.specs.Measures.{measure_of};
 ghost use Rattle.order.specs.declared.Vector.{Vector};
@@ -25,7 +27,7 @@ use search::SearchResult;
 pub const FEW: usize = 64;
 
 // The search between two resolutions: how many candidates remain, E, and whether the candidates are listed.
-#[derive(Drop)]
+#[derive(Clone, Copy)]
 pub struct Remaining {
     pub count: usize,
     pub bound: u32,

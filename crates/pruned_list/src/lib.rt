@@ -2,6 +2,8 @@
 // candidate's spot, 64 × row + column of window 16. So the least key is the nearest's, and equals go by the preference order. Those that remain to the
 // end are measured, and the one of least distortion chosen.
 
+#![tactic(auto)]
+
 ghost use Rattle.std.specs.Prelude.{◌≡◌, ◌+◌, ◌*◌, ◌≤◌, ◌<◌, min, ◌++◌, length, drop};
 ghost use Rattle.base.specs.Lists.{list_to, fill_to};
 ghost use Rattle.distortion.specs.Blocks.{capped};

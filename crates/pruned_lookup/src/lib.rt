@@ -1,5 +1,7 @@
 // The distances at m of candidates, looked up in the boxes of a block and its search window: of one candidate, and of all that are listed.
 
+#![tactic(auto)]
+
 ghost use Rattle.std.specs.Prelude.{◌≡◌, ℕ, ◌+◌, ◌*◌, ◌/◌, ◌%◌, ◌≤◌, ◌<◌, length, get_or};
 ghost use Rattle.base.specs.Lists.{fill_to};
 ghost use Rattle.boxes.specs.Boxes.{level_of};

@@ -1,6 +1,8 @@
 // The distances of all candidates at once, by absolute differences. The candidate at row i and column j of its reach stands at place (N + 32) i + j;
 // places between rows are computed too, and never looked at. Blocks of 16 × 16 pels at most are added up in 16 bits, and N 32 is four of them.
 
+#![tactic(auto)]
+
 ghost use Rattle.std.specs.Prelude.{◌≡◌, ℕ, ◌+◌, ◌-◌, ◌*◌, ◌≤◌, ◌<◌, T, length, get_or};
 ghost use Rattle.base.specs.Lists.{fill_to};
 ghost use Rattle.base.specs.Sum.{sum_to};

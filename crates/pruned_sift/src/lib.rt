@@ -1,6 +1,8 @@
 // The distances of all candidates as numbers of 32 bits, row after row: the nearest, how many are within a limit, and these listed as keys. A row whose
 // least number cannot matter is passed over; each row's least is worked out once.
 
+#![tactic(auto)]
+
 ghost use Rattle.std.specs.Prelude.{◌≡◌, ℕ, ◌+◌, ◌-◌, ◌*◌, ◌≤◌, ◌<◌, min, leb, length, get_or, take, drop};
 ghost use Rattle.base.specs.Sum.{sum_to};
 ghost use Rattle.base.specs.Lists.{list_to};

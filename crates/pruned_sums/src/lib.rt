@@ -1,5 +1,7 @@
 // The summed-area table of a part of a frame.
 
+#![tactic(auto)]
+
 ghost use Rattle.std.specs.Prelude.{◌≡◌, ◌++◌, ℕ, ◌+◌, ◌*◌, ◌≤◌, ◌<◌, length, get_or, drop};
 ghost use Rattle.base.specs.Lists.{fill_to};
 ghost use Rattle.distortion.specs.Blocks.{block_at};

@@ -1,6 +1,8 @@
 // The distances of all candidates at once, by squares, in 32 bits, where N × m is at most 256. The candidate at row i and column j of its reach stands at
 // place (N + 32) i + j; places between rows are computed too, and never looked at.
 
+#![tactic(auto)]
+
 ghost use Rattle.std.specs.Prelude.{◌≡◌, ℕ, ◌+◌, ◌*◌, ◌≤◌, ◌<◌, T, length, get_or};
 ghost use Rattle.base.specs.Lists.{fill_to};
 ghost use Rattle.base.specs.Sum.{sum_to};

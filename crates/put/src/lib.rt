@@ -1,6 +1,8 @@
 // Bytes and decimal digits put into a lent buffer, where a byte past the end is counted and not put, and a block's numbers put into a lent
 // list.
 
+#![tactic(auto)]
+
 ghost use Rattle.std.specs.Prelude.{◌≡◌, [], ◌∷◌, ◌+◌, ◌≤◌, ◌<◌, pos, length};
 ghost use Rattle.put.specs.Put.{Put};
 ghost use Rattle.put.specs.Digits.{digits, decimal};

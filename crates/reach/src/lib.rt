@@ -1,5 +1,7 @@
 // Which vectors of window 16 are a block's candidates: some of its 33 rows, some of its 33 columns. And what a row and a column add to a vector's key.
 
+#![tactic(auto)]
+
 ghost use Rattle.std.specs.Prelude.{◌≡◌, ◌*◌, ◌≤◌, ◌<◌, min};
 ghost use Rattle.base.specs.Lists.{list_to};
 ghost use Rattle.signed.specs.Values.{abs_diff};

@@ -1,5 +1,7 @@
 // The reading: the vector that most voters have, with its votes, by one vote a voter and one walk along the preference order.
 
+#![tactic(auto)]
+
 ghost use Rattle.std.specs.Prelude.{◌≡◌, ◌<◌, length, get_or};
 ghost use Rattle.order.specs.Preference.{preference, flat};
 ghost use Rattle.order.specs.Vectors.{Within, vector_count};
@@ -8,7 +10,7 @@ ghost use Rattle.reading.specs.Tally.{code, voted, reading_in};
 use order::Vector;
 
 // The vector of most voters, with its votes.
-#[derive(Drop)]
+#[derive(Clone, Copy)]
 pub struct Reading {
     pub dy: i32,
     pub dx: i32,

@@ -1,5 +1,7 @@
 // The travels that a track holds: the last 64, oldest first, and the sum of each part.
 
+#![tactic(auto)]
+
 ghost use Rattle.std.specs.Prelude.{◌≡◌, ◌≤◌, T, nat_abs, length};
 ghost use Rattle.order.specs.Vectors.{vec, Within};
 ghost use Rattle.recent.specs.Recent.{most_held, no_travels, sum_held, parts_ok, places_more, recent_ok, held_more, recent_more};
@@ -12,7 +14,7 @@ pub const MOST: usize = 64;
 
 // The travels held, oldest first: travel k is (dy[k], dx[k]); and the sum of each part.
 #[repr(C)]
-#[derive(Drop)]
+#[derive(Clone, Copy)]
 pub struct Recent {
     pub held: u32,
     pub dy: [i32; MOST],

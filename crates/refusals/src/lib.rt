@@ -1,5 +1,7 @@
 // The refusals 1 to 7 and 51: each rule as a test, and the chains of tests with which the calls begin.
 
+#![tactic(auto)]
+
 ghost use Rattle.std.specs.Prelude.{◌≡◌, ◌+◌, leb};
 ghost use Rattle.refusals.specs.Cross.{cross_window, log2};
 ghost use Rattle.refusals.specs.Refusals.{side_ok, block_size_ok, block_ok, search_ok, window_ok};
@@ -9,7 +11,7 @@ use frame::Setting;
 
 // A request for a search: the frames' width and height, N, the search 1 to 4, its window w, the threshold T of search 4, and the measure.
 #[repr(C)]
-#[derive(Drop)]
+#[derive(Clone, Copy)]
 pub struct Request {
     pub width: usize,
     pub height: usize,

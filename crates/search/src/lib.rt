@@ -1,5 +1,7 @@
 // What the four searches share: the distortion of a candidate, and the answer.
 
+#![tactic(auto)]
+
 ghost use Rattle.std.specs.Prelude.{◌≡◌, ◌-◌, ◌≤◌, pos, ◌+ℤ◌};
 ghost use Rattle.signed.specs.Int.{up};
 ghost use Rattle.order.specs.Vectors.{vec};
@@ -11,7 +13,7 @@ use frame::{Older, SearchBlock};
 
 // What a search answers: a vector, its distortion, six counts for m = 32, 16, 8, 4, 2, 1, and the number dropped.
 #[repr(C)]
-#[derive(Drop)]
+#[derive(Clone, Copy)]
 pub struct SearchResult {
     pub refusal: u32,
     pub dy: i32,
@@ -39,7 +41,7 @@ pub fn past(d: i32, at: usize, from: usize) -> usize
 }
 
 // The distortion of a candidate under a ceiling, or nothing where a vector is none.
-#[derive(Drop)]
+#[derive(Clone, Copy)]
 pub enum MeasuredCandidate {
     Distortion(u32),
     OverCeiling,

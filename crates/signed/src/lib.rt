@@ -1,6 +1,8 @@
 // Signed numbers: every signed operation of the gauge, each with its result as an equation. Where a caller of the gauge may hand in any number,
 // no function asks anything of it.
 
+#![tactic(auto)]
+
 ghost use Rattle.std.specs.Prelude.{◌≡◌, ◌≤◌, ◌<◌, leb, nat_abs, neg_ℤ, ◌+ℤ◌, ◌-ℤ◌};
 ghost use Rattle.signed.specs.Values.{abs_diff, shifted_by, moved_by, bias, unbias, doubled, signed_byte, byte_of};
 
@@ -68,7 +70,7 @@ pub fn exchanged(sum: i32, more: i32, less: i32) -> i32
 }
 
 // A coordinate moved by an offset.
-#[derive(Drop)]
+#[derive(Clone, Copy)]
 pub enum Shifted {
     At(usize),
     Outside,
@@ -122,7 +124,7 @@ pub fn half_part(d: i32, u: usize) -> i32
 }
 
 // A track's place after a travel.
-#[derive(Drop)]
+#[derive(Clone, Copy)]
 pub enum Moved {
     To(i32),
     Out,

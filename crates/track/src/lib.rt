@@ -1,5 +1,7 @@
 // The track, by value: where the paper stands. Home sets it, a step adds the travel of a pair of pictures; each hands the track and an answer back.
 
+#![tactic(auto)]
+
 ghost use Rattle.std.specs.Prelude.{◌≡◌, T};
 ghost use Rattle.order.specs.Vectors.{vec, Within};
 ghost use Rattle.track_rules.specs.Rules.{may_step};
@@ -11,7 +13,7 @@ use refusals::Request;
 
 // Homed or not, the place, the steps since it was homed, and the last 64 travels.
 #[repr(C)]
-#[derive(Drop)]
+#[derive(Clone, Copy)]
 pub struct Track {
     pub homed: bool,
     pub y: i32,
@@ -22,7 +24,7 @@ pub struct Track {
 
 // What Home answers.
 #[repr(C)]
-#[derive(Drop)]
+#[derive(Clone, Copy)]
 pub struct Homed {
     pub refusal: u32,
     pub track: Track,
@@ -30,7 +32,7 @@ pub struct Homed {
 
 // What a step answers: the track, and all that the field call answers.
 #[repr(C)]
-#[derive(Drop)]
+#[derive(Clone, Copy)]
 pub struct Stepped {
     pub answer: FieldAnswer,
     pub track: Track,

@@ -1,5 +1,7 @@
 // The track's rules in plain numbers: where it may be homed, when it may step, and where a travel leads.
 
+#![tactic(auto)]
+
 ghost use Rattle.std.specs.Prelude.{◌≡◌};
 ghost use Rattle.track_rules.specs.Rules.{home_refusal, state_refusal, refused_arrival, arrive};
 
@@ -7,7 +9,7 @@ use recent::Recent;
 use signed::Moved;
 
 // The place after a travel, or 52 or 33 and zeros.
-#[derive(Drop)]
+#[derive(Clone, Copy)]
 pub struct Arrival {
     pub refusal: u32,
     pub y: i32,

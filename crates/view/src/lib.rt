@@ -1,5 +1,7 @@
 // The row view: N pels of one row as the very part of the older or the newer frame, and its companion.
 
+#![tactic(auto)]
+
 ghost use Rattle.std.specs.Prelude.{◌≡◌, length};
 ghost use Rattle.frame.specs.Pictures.{pair_of};
 ghost use Rattle.view.specs.View.{view_refusal, view_place, row_view, part_start};
@@ -8,7 +10,7 @@ use frame::Setting;
 
 // A row view as a place in its frame: where the part begins, and how many pels it has.
 #[repr(C)]
-#[derive(Drop)]
+#[derive(Clone, Copy)]
 pub struct RowView {
     pub refusal: u32,
     pub place: usize,

@@ -1,5 +1,7 @@
 // Voters: whether a block of the newer frame has contrast enough for its vector to count.
 
+#![tactic(auto)]
+
 ghost use Rattle.std.specs.Prelude.{◌≡◌, ◌+◌, ◌*◌, ◌%◌, ◌≤◌, ◌<◌, min, max, length};
 ghost use Rattle.distortion.specs.Blocks.{block_at};
 ghost use Rattle.frame.specs.Grid.{blocks, block_row, block_column};

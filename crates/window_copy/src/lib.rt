@@ -1,6 +1,8 @@
 // Rows of a frame copied into an array: a block's search window, or the block itself, 64 places to a row. A copy is read faster than its frame where it
 // is measured many times. And whether such rows have one grey.
 
+#![tactic(auto)]
+
 ghost use Rattle.std.specs.Prelude.{◌≡◌, ◌+◌, ◌*◌, ◌≤◌, ◌<◌, length, get_or};
 ghost use Rattle.base.specs.Lists.{fill_to};
 ghost use Rattle.window_copy.specs.Copy.{copied_rows, copy_up_to};

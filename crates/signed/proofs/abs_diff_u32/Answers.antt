@@ -8,30 +8,16 @@ use mir.Facts.{to_z-of_z}
 use mir.ValLaws.{to_z_pos}
 use Rattle.signed.specs.Int.{less}
 use Rattle.signed.specs.Values.{abs_diff_is}
-use Rattle.signed.proofs.abs_diff_u32.Statement.{statement}
-use Rattle.signed.proofs.abs_diff_u32.Tie as tie
+use Rattle.signed.proofs.abs_diff_u32.Goals as goal
 
-cast-magnitude : tie.Need-overflow-cast-magnitude
-cast-magnitude c = search rules
-
-cast-magnitude-2 : tie.Need-overflow-cast-magnitude-2
-cast-magnitude-2 c = search rules
-
-sub-magnitude : tie.Need-overflow-sub-magnitude
-sub-magnitude c =
+pub overflow_sub-a : goal.overflow_sub-a
+overflow_sub-a c =
     rw (to_z_pos w32 c.args.a (omega (arith, c.requires)), to_z_pos w32 c.args.b (omega (arith, c.requires)))
     (omega (arith, c.requires, less (pos c.args.a) (pos c.args.b)))
 
-magnitude-requires : tie.Need-magnitude-requires
-magnitude-requires c κs = search rules
-
-returns : tie.Need-returns
+pub returns : goal.returns
 returns c =
     let s = c.before in
     c.magnitude.ensures
-    ∙ ap nat_abs (to_z-of_z (sub-magnitude s))
+    ∙ ap nat_abs (to_z-of_z (overflow_sub-a s))
     ∙ rw (to_z_pos w32 s.args.a (omega (arith, s.requires)), to_z_pos w32 s.args.b (omega (arith, s.requires))) (abs_diff_is s.args.a s.args.b)
-
-pub abs-diff-u32-spec : {M : Type 1} → statement M
-abs-diff-u32-spec =
-    tie.close (tie.spec cast-magnitude cast-magnitude-2 sub-magnitude magnitude-requires returns)

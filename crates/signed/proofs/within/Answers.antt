@@ -1,0 +1,7 @@
+-- `within`: the magnitude, compared at the width of w.
+use borrow.Author.Rules.{rules}
+use mir.Facts.{to_z-of_z}
+use Rattle.signed.proofs.within.Goals as goal
+
+pub returns : goal.returns
+returns c = rw (c.magnitude.ensures, to_z-of_z c.before.ranges.d)
