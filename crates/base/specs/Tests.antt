@@ -53,6 +53,10 @@ passed {r} e h = sym e ∙ not-false r h
 pub failed : {r t : Bool} → r ≡ t → not r ≡ true → t ≡ false
 failed {r} e h = sym e ∙ not-true r h
 
+-- the same, where what the code went on by is told of r itself
+pub told : {r t b : Bool} → r ≡ t → r ≡ b → t ≡ b
+told e h = sym e ∙ h
+
 -- 1 where a test holds
 abbrev pub one : Bool → ℕ
 one t = cond t 1 0
