@@ -1,0 +1,72 @@
+-- `request_refusal`: the pair's chain, and after it the tests of search, measure, window and threshold.
+use mathlib.Core.Path.{◌≡◌, ap, sym, ◌∙◌}
+use borrow.Author.Rules.{rules}
+use Rattle.base.specs.Tests.{told}
+use Rattle.measures.specs.Measures.{measure_ok}
+use Rattle.refusals.specs.Refusals.{unless, search_ok, window_ok, threshold_ok, pair_refusal, request_refusal, setting_of, first_refusal_some, first_refusal_none}
+use Rattle.refusals.proofs.request_refusal.Goals as goal
+use Rattle.refusals.proofs.request_refusal.Goals.{After-pair_refusal-refusal, After-threshold_ok-threshold, Else-refusal-ne0}
+
+-- what the pair's chain gave, and past it the rest of the chain
+gave : (d : After-pair_refusal-refusal) → let a = d.args in d.pair_refusal-refusal.result ≡ pair_refusal a.older a.newer (setting_of a.q)
+gave d = d.pair_refusal-refusal.ensures ∙ ap (pair_refusal _ _) d.setting_of.ensures
+
+rest : (d : Else-refusal-ne0) →
+    let a = d.args in
+    request_refusal a.older a.newer a.q
+    ≡ unless (search_ok a.q.search) 4
+    (unless (measure_ok a.q.measure) 51 (unless (window_ok a.q.search a.q.w) 5 (unless (threshold_ok a.q.search a.q.measure a.q.t) 6 0)))
+unfolding request_refusal
+rest d = rw (← (gave d.before)) (first_refusal_none _ _ d.if-refusal-ne0.false)
+
+-- the same at the last of the four tests, and what the first two of them gave
+past : (t : After-threshold_ok-threshold) →
+    let a = t.args in
+    request_refusal a.older a.newer a.q
+    ≡ unless (search_ok a.q.search) 4
+    (unless (measure_ok a.q.measure) 51 (unless (window_ok a.q.search a.q.w) 5 (unless (threshold_ok a.q.search a.q.measure a.q.t) 6 0)))
+past t = rest t.before.before.before.before
+
+searched : (t : After-threshold_ok-threshold) →
+    t.search_ok-search.result ≡ search_ok t.args.q.search
+searched t = t.search_ok-search.ensures
+
+measured : (t : After-threshold_ok-threshold) →
+    t.measure_ok-measure.result ≡ measure_ok t.args.q.measure
+measured t = t.measure_ok-measure.ensures
+
+pub returns-then-refusal-ne0 : goal.returns-then-refusal-ne0
+unfolding request_refusal
+returns-then-refusal-ne0 c = rw (← (gave (goal.at.returns-then-refusal-ne0 c).After-pair_refusal-refusal)) (sym (first_refusal_some _ _ c.if-refusal-ne0.true))
+
+pub returns-then-not-search : goal.returns-then-not-search
+returns-then-not-search c =
+    rw (past (goal.at.returns-then-not-search c).After-threshold_ok-threshold, told (searched (goal.at.returns-then-not-search c).After-threshold_ok-threshold) c.if-not-search.true)
+
+pub returns-then-not-measure : goal.returns-then-not-measure
+returns-then-not-measure c =
+    rw (past (goal.at.returns-then-not-measure c).After-threshold_ok-threshold, told (searched (goal.at.returns-then-not-measure c).After-threshold_ok-threshold) c.if-not-search.false, told (measured (goal.at.returns-then-not-measure c).After-threshold_ok-threshold) c.if-not-measure.true)
+
+pub returns-then-not-window : goal.returns-then-not-window
+returns-then-not-window c =
+    rw (past (goal.at.returns-then-not-window c).After-threshold_ok-threshold, told (searched (goal.at.returns-then-not-window c).After-threshold_ok-threshold) c.if-not-search.false, told (measured (goal.at.returns-then-not-window c).After-threshold_ok-threshold) c.if-not-measure.false, told c.window_ok-window.ensures c.if-not-window.true)
+
+pub returns-then-not-threshold : goal.returns-then-not-threshold
+returns-then-not-threshold c =
+    rw (
+      past (goal.at.returns-then-not-threshold c).After-threshold_ok-threshold,
+      told (searched (goal.at.returns-then-not-threshold c).After-threshold_ok-threshold) c.if-not-search.false,
+      told (measured (goal.at.returns-then-not-threshold c).After-threshold_ok-threshold) c.if-not-measure.false,
+      told c.window_ok-window.ensures c.if-not-window.false,
+      told c.threshold_ok-threshold.ensures c.if-not-threshold.true,
+    )
+
+pub returns : goal.returns
+returns c =
+    rw (
+      past (goal.at.returns c).After-threshold_ok-threshold,
+      told (searched (goal.at.returns c).After-threshold_ok-threshold) c.if-not-search.false,
+      told (measured (goal.at.returns c).After-threshold_ok-threshold) c.if-not-measure.false,
+      told c.window_ok-window.ensures c.if-not-window.false,
+      told c.threshold_ok-threshold.ensures c.if-not-threshold.false,
+    )
