@@ -74,7 +74,7 @@ module _ (older newer : List ℕ) (b : SearchBlock) (s : Standing b) (some : 0 <
 
   -- the window's rows and columns
   sides : ((reach b).rows + n - 1 ≤ n + 32) × ((reach b).columns + n - 1 ≤ n + 32)
-  sides = let k = reach_bounds b s in omega (arith, k.few-rows, k.few-columns)
+  sides = let k = reach_bounds b s in omega (arith, k.few_rows, k.few_columns)
 
   window_room : 0 + ((reach b).rows + n - 1) * (n + 32) + ((reach b).columns + n - 1) ≤ length first + (n + 32)
   window_room = omega (arith, mul-le-mul_right (n + 32) sides.0, sides.1, area_is n)
@@ -102,7 +102,7 @@ module _ (older newer : List ℕ) (b : SearchBlock) (s : Standing b) (some : 0 <
       let k = reach_bounds b s in
       let row : i - r.top + p < r.rows + n - 1 = omega (arith, h.top, h.bottom) in
       let column : j - r.left + q < r.columns + n - 1 = omega (arith, h.left, h.right) in
-      let o = older-at b.y b.x i j (omega (arith, k.first-row, h.top)) (omega (arith, k.first-column, h.left)) in
+      let o = older-at b.y b.x i j (omega (arith, k.first_row, h.top)) (omega (arith, k.first_column, h.left)) in
       let e : (n + 32) * (i - r.top + p) + (j - r.left + q) ≡ 0 + (i - r.top + p) * (n + 32) + (j - r.left + q) =
       omega (arith, mul_comm (n + 32) (i - r.top + p)) in
       stored_before _ n window ((n + 32) * (n + 32)) n n _ 0 own_room
@@ -110,7 +110,7 @@ module _ (older newer : List ℕ) (b : SearchBlock) (s : Standing b) (some : 0 <
       ∙ ap (λ (u : ℕ). get_or window u 0) e
       ∙ stored_in _ (r.columns + n - 1) first 0 (n + 32) (r.rows + n - 1) _ _ 0 window_room sides.1 row column
       ∙ ap (λ (u : ℕ). get_or older u 0) (further width (b.y + r.top - 16) (b.x + r.left - 16) (i - r.top + p) (j - r.left + q))
-      ∙ rw (o.0, o.1, moved b.y i r.top p h.top k.first-row, moved b.x j r.left q h.left k.first-column) refl
+      ∙ rw (o.0, o.1, moved b.y i r.top p h.top k.first_row, moved b.x j r.left q h.left k.first_column) refl
 
   pub own_pel : (p q : ℕ) → p < n → q < n
       → get_or both ((n + 32) * (n + 32) + (n * p + q)) 0 ≡ newer_block (pair_of older newer b.setting) b.y b.x p q

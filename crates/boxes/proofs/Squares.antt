@@ -99,7 +99,7 @@ module _ (older newer : List ℕ) (b : SearchBlock) (ready : Ready older newer b
   span = span_of n (reach b)
 
   pub short : span ≤ (n + 32) * 32 + 33
-  short = let k = reach_bounds b standing in span_short n (reach b) (omega (arith, k.few-rows)) (omega (arith, k.few-columns))
+  short = let k = reach_bounds b standing in span_short n (reach b) (omega (arith, k.few_rows)) (omega (arith, k.few_columns))
 
   pub first_small : (u : ℕ) → u < area n → get_or pels u 0 ≤ 255
   first_small = pels_small older newer b standing some first (omega arith) olds news small

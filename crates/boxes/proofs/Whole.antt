@@ -53,7 +53,7 @@ module _ (older newer : List ℕ) (b : SearchBlock) (large : b.setting.n ≡ 32)
 
       at : (p q u : ℕ) → p < 2 → q < 2 → u ≡ level_at n 16 + ((n + 32) * (y + p * 16) + (x + q * 16))
           → get_or boxes u 0 ≡ square_sum (older_block (pair_of older newer b.setting) b.y b.x (grid_vector i j)) 16 p q
-      at p q u hp hq e = ap (λ (z : ℕ). get_or boxes z 0) e ∙ k.older-square i j 16 p q h cut (two p hp) (two q hq)
+      at p q u hp hq e = ap (λ (z : ℕ). get_or boxes z 0) e ∙ k.older_square i j 16 p q h cut (two p hp) (two q hq)
 
   pub whole_newer : whole_of boxes (own_at n 16) (16 * n) ≡ square_sum (newer_block (pair_of older newer b.setting) b.y b.x) 32 0 0
   whole_newer =
@@ -63,4 +63,4 @@ module _ (older newer : List ℕ) (b : SearchBlock) (large : b.setting.n ≡ 32)
     where
       at : (p q u : ℕ) → p < 2 → q < 2 → u ≡ own_at n 16 + (n * (p * 16) + q * 16)
           → get_or boxes u 0 ≡ square_sum (newer_block (pair_of older newer b.setting) b.y b.x) 16 p q
-      at p q u hp hq e = ap (λ (z : ℕ). get_or boxes z 0) e ∙ k.newer-square 16 p q cut (two p hp) (two q hq)
+      at p q u hp hq e = ap (λ (z : ℕ). get_or boxes z 0) e ∙ k.newer_square 16 p q cut (two p hp) (two q hq)

@@ -141,7 +141,7 @@ get_d_from a l k = ap (λ (z : List ℕ). get_or z k 0) (part_to_end l a) ∙ ge
 pub block_begins : (older newer : List ℕ) (width n a b : ℕ) → BlockRows older newer width n a b → (a ≤ length newer) × (b ≤ length older)
 block_begins older newer width n a b k =
     let first = row_fits 0 n width (omega (arith, (block_size n k.allowed).least)) in
-    (omega (arith, k.in-newer), omega (arith, k.in-older))
+    (omega (arith, k.in_newer), omega (arith, k.in_older))
 
 -- the pieces of blocks that begin at places a and b are the pieces of two frames that begin there
 pieces_from : (μ : Measure) (ceiling : ℕ) (older newer : List ℕ) (width a b n : ℕ) (at : ℕ → ℕ) (pieces : ℕ)
@@ -160,8 +160,8 @@ pub by_four : (older newer : List ℕ) (width n a b m groups : ℕ) → BlockRow
 by_four older newer width n a b m groups k e four few =
     let rows : n * width ≡ 4 * groups * width = rw (e, four) in
     record {
-      in_newer = omega (arith, k.in-newer, length_from a newer);
-      in_older = omega (arith, k.in-older, length_from b older);
+      in_newer = omega (arith, k.in_newer, length_from a newer);
+      in_older = omega (arith, k.in_older, length_from b older);
       wide = k.wide;
       thin = omega arith;
       few = few;

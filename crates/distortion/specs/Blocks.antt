@@ -190,7 +190,7 @@ pub kernel_sum : {measure n kernel ceiling : ℕ} {older newer : List ℕ} {widt
     → BlockSum (measure_by kernel) ceiling older newer width (size_by kernel) a b d
     → BlockSum measure ceiling older newer width n a b d
 kernel_sum k s =
-    record { up_to = rw (k.size, k.measure-is) at s.up_to; is = rw (k.size, k.measure-is) at s.is }
+    record { up_to = rw (k.size, k.measure_is) at s.up_to; is = rw (k.size, k.measure_is) at s.is }
 
 module _ (ceiling : ℕ) (f : ℕ → ℕ) where
   pub sum_up_to_none : sum_up_to ceiling f 0 ≡ 0
@@ -278,15 +278,15 @@ pub begins : (older newer : List ℕ) (s : Setting) (y x r c : ℕ) → Comparab
 begins older newer s y x r c k =
     let p = k.placed in
     let f = p.paired.fitting in (
-      omega (arith, row_fits y s.height s.width (omega (arith, f.some, p.down)), p.across, p.paired.newer-whole),
-      omega (arith, row_fits r s.height s.width (omega (arith, f.some, k.down)), k.across, p.paired.older-whole),
+      omega (arith, row_fits y s.height s.width (omega (arith, f.some, p.down)), p.across, p.paired.newer_whole),
+      omega (arith, row_fits r s.height s.width (omega (arith, f.some, k.down)), k.across, p.paired.older_whole),
     )
 
 pub block-inside : (older newer : List ℕ) (s : Setting) (y x r c : ℕ) → Comparable older newer s y x r c
     → BlockRows older newer s.width s.n (y * s.width + x) (r * s.width + c)
 block-inside older newer s y x r c k = record {
-  in_newer = omega (arith, mul-le-mul_right s.width k.placed.down, add-mul y s.n s.width, k.placed.across, k.placed.paired.newer-whole);
-  in_older = omega (arith, mul-le-mul_right s.width k.down, add-mul r s.n s.width, k.across, k.placed.paired.older-whole);
+  in_newer = omega (arith, mul-le-mul_right s.width k.placed.down, add-mul y s.n s.width, k.placed.across, k.placed.paired.newer_whole);
+  in_older = omega (arith, mul-le-mul_right s.width k.down, add-mul r s.n s.width, k.across, k.placed.paired.older_whole);
   wide = k.placed.paired.fitting.wide;
   allowed = k.placed.paired.allowed;
 }

@@ -57,9 +57,9 @@ module _ (older : List ℕ) (b : SearchBlock) (s : Standing b) (small : b.settin
       let r = reach b in
       let k = reach_bounds b s in
       let row = b.y + r.top - 16 in
-      let fits = room r.top r.left r.rows r.columns n k.few-rows k.few-columns k.rows k.columns small in
+      let fits = room r.top r.left r.rows r.columns n k.few_rows k.few_columns k.rows k.columns small in
       let there =
-      rw (moved b.y i r.top h.top k.first-row, moved b.x j r.left h.left k.first-column) at
+      rw (moved b.y i r.top h.top k.first_row, moved b.x j r.left h.left k.first_column) at
       (further width row (b.x + r.left - 16) (i - r.top) (j - r.left) p q) in
       ap (λ (k : ℕ). get_or (window_copy older b window) k 0) (within i j r.top r.left p q h.top h.left)
       ∙ stored_in _ (r.columns + n - 1) window (64 * r.top + r.left) 64 (r.rows + n - 1) (i - r.top + p) (j - r.left + q) 0
@@ -73,7 +73,7 @@ module _ (older : List ℕ) (b : SearchBlock) (s : Standing b) (small : b.settin
   window_copy_long =
       let r = reach b in
       let k = reach_bounds b s in
-      let fits = room r.top r.left r.rows r.columns n k.few-rows k.few-columns k.rows k.columns small in
+      let fits = room r.top r.left r.rows r.columns n k.few_rows k.few_columns k.rows k.columns small in
       stored_long _ (r.columns + n - 1) window (64 * r.top + r.left) 64 (r.rows + n - 1) (rw window_long fits.0) ∙ window_long
 
 -- in reach, the rows of the two blocks in the frames have the distortion of that vector
@@ -83,7 +83,7 @@ pub in_frames : (older newer : List ℕ) (b : SearchBlock) → Standing b → (i
 unfolding distortion
 in_frames older newer b s i j h =
     let k = reach_bounds b s in
-    let o = older-at b.y b.x i j (omega (arith, k.first-row, h.top)) (omega (arith, k.first-column, h.left)) in
+    let o = older-at b.y b.x i j (omega (arith, k.first_row, h.top)) (omega (arith, k.first_column, h.left)) in
     sym (block_rows (measure_of b.setting.measure) older newer b.setting.width b.y b.x (b.y + i - 16) (b.x + j - 16) b.setting.n)
     ∙ rw (o.0, o.1) refl
 
@@ -107,4 +107,4 @@ module _ (older newer : List ℕ) (b : SearchBlock) (s : Standing b) (small : b.
 
   pub key-in-copy : (kernel : ℕ) → Kernel b.setting.measure b.setting.n kernel → (i j : ℕ) → InReach (reach b) i j
       → key_in_copy (measure_by kernel) (size_by kernel) (window_copy older b window) (block_copy newer b block) i j ≡ key_at older newer b i j
-  key-in-copy kernel k i j h = rw (k.size, k.measure-is) (ap (λ (d : ℕ). key_of d i j) (in_copy i j h))
+  key-in-copy kernel k i j h = rw (k.size, k.measure_is) (ap (λ (d : ℕ). key_of d i j) (in_copy i j h))

@@ -63,7 +63,7 @@ module _ (K : ℕ → ℕ → ℕ) (r : Region) where
           subst (λ (k : ℕ). InReach r k j → below ≤ K k j) (sym q) (b.least j) h
 
   pub led_last : Around r → (key : ℕ) → Led K r 17 key → LeastKey K r key
-  led_last a key d = record { some = d.some; least = λ i j h. d.least i j h (omega (arith, h.bottom, a.few-rows)) }
+  led_last a key d = record { some = d.some; least = λ i j h. d.least i j h (omega (arith, h.bottom, a.few_rows)) }
 
 -- ---- columns
 

@@ -25,7 +25,7 @@ module _ (older newer : List ℕ) (b : SearchBlock) (ready : Ready older newer b
   pub around : Around (reach b)
   around =
       let k = bounds in
-      record { above = k.above; below = k.below; few_rows = k.few-rows; before = k.before; behind = k.behind; few_columns = k.few-columns }
+      record { above = k.above; below = k.below; few_rows = k.few_rows; before = k.before; behind = k.behind; few_columns = k.few_columns }
 
   pub middle : InReach (reach b) 16 16
   middle = let k = bounds in record { top = k.above; bottom = k.below; left = k.before; right = k.behind }

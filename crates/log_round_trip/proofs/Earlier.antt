@@ -76,7 +76,7 @@ module _ (e : Earlier) (a : Allowed e) where
       )
 
   far : (k : ℕ) → k < grid_blocks e → distortion_ok h (distortion e k) ≡ true
-  far k l = go (distortion e k) (a.not-below k l) (a.not-over k l)
+  far k l = go (distortion e k) (a.not_below k l) (a.not_over k l)
     where
       go : (z : ℤ) → dn z ≡ 0 → up z ≤ 255 * (e.n * e.n) → distortion_ok h z ≡ true
       go (pos d) p q = le-leb d (largest_in h) (rw (largest_same e.n) q)
@@ -88,7 +88,7 @@ module _ (e : Earlier) (a : Allowed e) where
 
   -- no distortion takes four bytes
   two_bytes : (k : ℕ) → k < grid_blocks e → is_long (up (distortion e k)) ≡ false
-  two_bytes k l = le-ltb 65535 (up (distortion e k)) (omega (arith, a.not-over k l, mul-le-mul short short))
+  two_bytes k l = le-ltb 65535 (up (distortion e k)) (omega (arith, a.not_over k l, mul-le-mul short short))
 
   block_same : (k : ℕ) → k < grid_blocks e → earlier_block e k ≡ command_bytes (block_command e.field k)
   unfolding earlier_block block_command
@@ -142,7 +142,7 @@ module _ (e : Earlier) (a : Allowed e) where
       let log = log_of h e.field in
       let pass : AllPass h e.field = record { listed = record { fine = fine; few = blocks_few (setting_in h) (headed h fine).fitting; room = omega (arith, a.whole) }; each = entries } in
       let written : (write_log h e.field log).answer.refusal ≡ 0 = rw (Writing.writes h e.field log (record { pass = pass; fits = omega arith })) in
-      let back = round_trip.written-reads-back h e.field log written list (omega (arith, a.whole)) in
+      let back = round_trip.written_reads_back h e.field log written list (omega (arith, a.whole)) in
       rw (← log_same, a.whole) (rw (take_all (3 * grid_blocks e) e.field (omega (arith, a.whole))) at back)
 
 -- ---- and what is read with measure 1 and another N than 32 is one of them

@@ -107,7 +107,7 @@ module _ (p : Pair) (w y x : ℕ) (allowed : T (block_size_ok p.setting.n)) (sma
         go true e =
             let h = pruned_holds p w y x (block_size_power p.setting.n allowed) small down across in
             let r = in_mem (preferred k) gone (true_T (is_gone k) e) in
-            let same_place : r.0 ≡ k = once r.0 k (picked passes vector_count (h.dropped-from r.1)).0 (picked passes vector_count (h.left-from m)).0
+            let same_place : r.0 ≡ k = once r.0 k (picked passes vector_count (h.dropped_from r.1)).0 (picked passes vector_count (h.left_from m)).0
             r.2 in
             absurd (h.apart m (subst (λ (j : ℕ). j ∈ gone) same_place r.1))
 

@@ -51,7 +51,7 @@ module _ (t : Track) (p : Pair) (w threshold : ℕ) (list : List ℤ) (table : L
   answer = s.stepped.answer
 
   answered : answer ≡ field_answer p (request_of p.setting 2 w threshold)
-  answered = k.answer-same ∙ answer_is t p w threshold list table k.fine
+  answered = k.answer_same ∙ answer_is t p w threshold list table k.fine
 
   travels : (v : Vector) × Most (voting p) (best_of p w) (blocks p.setting) v × (travel p w ≡ turned v) × (answer.dy ≡ v.dy) × (answer.dx ≡ v.dx)
       × (answer.votes ≡ votes (voting p) (best_of p w) (blocks p.setting) v) × (answer.voters ≡ voters_in p)
@@ -60,10 +60,10 @@ module _ (t : Track) (p : Pair) (w threshold : ℕ) (list : List ℤ) (table : L
     majority (voting p) (best_of p w) (blocks p.setting),
     majority_most (voting p) (best_of p w) (blocks p.setting) (λ j h votes. best_within p w fine j h),
     refl,
-    ap (λ (a : FieldAnswer). a.dy) k.answer-same ∙ ap (λ (v : Vector). v.dy) (reading_is t p w threshold list table k.fine),
-    ap (λ (a : FieldAnswer). a.dx) k.answer-same ∙ ap (λ (v : Vector). v.dx) (reading_is t p w threshold list table k.fine),
-    ap (λ (a : FieldAnswer). a.votes) k.answer-same ∙ votes_is t p w threshold list table k.fine,
-    ap (λ (a : FieldAnswer). a.voters) k.answer-same ∙ voters_is t p w threshold list table k.fine,
+    ap (λ (a : FieldAnswer). a.dy) k.answer_same ∙ ap (λ (v : Vector). v.dy) (reading_is t p w threshold list table k.fine),
+    ap (λ (a : FieldAnswer). a.dx) k.answer_same ∙ ap (λ (v : Vector). v.dx) (reading_is t p w threshold list table k.fine),
+    ap (λ (a : FieldAnswer). a.votes) k.answer_same ∙ votes_is t p w threshold list table k.fine,
+    ap (λ (a : FieldAnswer). a.voters) k.answer_same ∙ voters_is t p w threshold list table k.fine,
   )
 
   listed : s.list ≡ best_entries p w ++ drop (list_size p.setting) list

@@ -110,13 +110,13 @@ module _ (older newer : List ℕ) (b : SearchBlock) (ready : Ready older newer b
     pel_grey i j k l h hk hl =
         let r = reach b in
         let a = reach_bounds b standing in
-        let o = older-at b.y b.x i j (omega (arith, a.first-row, h.top)) (omega (arith, a.first-column, h.left)) in
+        let o = older-at b.y b.x i j (omega (arith, a.first_row, h.top)) (omega (arith, a.first_column, h.left)) in
         let place = running_place width (b.y + r.top - 16) (b.x + r.left - 16) (i - r.top + k) (j - r.left + l) in
         rw (
           o.0,
           o.1,
-          moved b.y i r.top k h.top a.first-row,
-          moved b.x j r.left l h.left a.first-column,
+          moved b.y i r.top k h.top a.first_row,
+          moved b.x j r.left l h.left a.first_column,
           ← place,
           ← add_assoc from ((i - r.top + k) * width) (j - r.left + l),
         )
@@ -164,7 +164,7 @@ module _ (older newer : List ℕ) (b : SearchBlock) (ready : Ready older newer b
         let vector = ap preferred c.best ∙ choice in
         rw none
         (same_result (sym vector) (sym (ap D vector ∙ none))
-        (whole_counts (length (resolutions n)) (length (places_of b)) (few_rounds n ready.placed.paired.allowed) ∙ sym c.all-counts)
+        (whole_counts (length (resolutions n)) (length (places_of b)) (few_rounds n ready.placed.paired.allowed) ∙ sym c.all_counts)
         (omega (arith, c.dropped)))
 
 pub blank_is : (older newer : List ℕ) (b : SearchBlock) → Ready older newer b

@@ -249,5 +249,5 @@ module _ (older newer : List ℕ) (b : SearchBlock) where
           let (f, c) = going_ends last in
           let vector : v ≡ preferred (least_of (λ c. D (preferred c)) end.left) = ev ∙ ap preferred (sym c.best) in
           let cost : d ≡ D (preferred (least_of (λ c. D (preferred c)) end.left)) = ed ∙ ap D vector in
-          let counted = ea ∙ slots_ended g.slots q.count ∙ sym c.all-counts in
+          let counted = ea ∙ slots_ended g.slots q.count ∙ sym c.all_counts in
           rw (counted, ec ∙ sym c.dropped, cost, vector) refl

@@ -79,7 +79,7 @@ pub reach_room : (b : SearchBlock) → Standing b → (r : Region) → r ≡ rea
     → (r.rows * r.columns ≤ 1089) × (r.top + r.rows ≤ 33) × (r.left + r.columns ≤ 33) × (0 < r.rows * r.columns)
 reach_room b s r e =
     let d = reach_bounds b s in
-    rw e (mul-le-mul {n₂ = 33} {m₂ = 33} (omega (arith, d.few-rows)) (omega (arith, d.few-columns)), d.few-rows, d.few-columns, mul-le-mul {n₁ = 1} {m₁ = 1} d.rows d.columns)
+    rw e (mul-le-mul {n₂ = 33} {m₂ = 33} (omega (arith, d.few_rows)) (omega (arith, d.few_columns)), d.few_rows, d.few_columns, mul-le-mul {n₁ = 1} {m₁ = 1} d.rows d.columns)
 
 -- some spots that are not listed
 pub unlisted_held : (b : SearchBlock) (m : ℕ) (ts keys : List ℕ) (count bound : ℕ) → length ts ≡ count → T (by_all b.setting m count)

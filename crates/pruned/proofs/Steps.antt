@@ -134,7 +134,7 @@ module _ {older newer : List ℕ} {b : SearchBlock} {r : Region} {boxes : List �
   side_small = omega (arith, s.inside, size_small)
 
   pub region_small : (0 < r.rows) × (r.rows ≤ 33) × (r.columns ≤ 33)
-  region_small = let d = reach_bounds b (ready_standing older newer b s.ready) in rw s.region (d.rows, omega (arith, d.few-rows), omega (arith, d.few-columns))
+  region_small = let d = reach_bounds b (ready_standing older newer b s.ready) in rw s.region (d.rows, omega (arith, d.few_rows), omega (arith, d.few_columns))
 
   pub resolution : Resolution b.setting.n m
   resolution = resolved b.setting.n m s.exponent size_small s.inside s.power

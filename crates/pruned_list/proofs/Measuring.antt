@@ -28,13 +28,13 @@ module _ (older newer : List ℕ) (b : SearchBlock) (ready : Ready older newer b
     bounds = reach_bounds b (ready_standing older newer b ready)
 
     pub spot_behind : (16 ≤ b.y + t / 64) × (16 ≤ b.x + t % 64)
-    spot_behind = (omega (arith, bounds.first-row, on.top), omega (arith, bounds.first-column, on.left))
+    spot_behind = (omega (arith, bounds.first_row, on.top), omega (arith, bounds.first_column, on.left))
 
     pub spot_block : Comparable older newer b.setting b.y b.x (b.y + t / 64 - 16) (b.x + t % 64 - 16)
     spot_block = record {
       placed = ready.placed;
       down = omega (arith, bounds.last_row, on.bottom, spot_behind);
-      across = omega (arith, bounds.last-column, on.right, spot_behind);
+      across = omega (arith, bounds.last_column, on.right, spot_behind);
     }
 
   pub distortion_small : Bytes older → Bytes newer → (v : Vector) → distortion_to older newer b v < 134217728

@@ -53,8 +53,8 @@ module _ (older newer : List ℕ) (b : SearchBlock) (boxes : List ℕ) (k : Boxe
     rows_looked m c =
         sum_over_ext (n / m) (n / m) _ _ (λ p q hp hq.
         ap₂ (measure_of measure).diff
-        (ap (λ (u : ℕ). get_or boxes u 0) (own p q) ∙ k.newer-square m p q c hp hq)
-        (ap (λ (u : ℕ). get_or boxes u 0) (at p q) ∙ k.older-square i j m p q h c hp hq))
+        (ap (λ (u : ℕ). get_or boxes u 0) (own p q) ∙ k.newer_square m p q c hp hq)
+        (ap (λ (u : ℕ). get_or boxes u 0) (at p q) ∙ k.older_square i j m p q h c hp hq))
       where
         own : (p q : ℕ) → own_at n m + n * (p * m) + q * m ≡ own_at n m + (n * (p * m) + q * m)
         own p q = omega arith

@@ -172,14 +172,14 @@ module _ (n m s k dy dx at own span : ℕ) (boxes : List ℕ) (few : n ≤ 32) (
         ∙ box_parts (λ u. get_or boxes ((n + 32) * (n + 32) + u) 0) n k m own
         ∙ ap (λ (x : ℕ). box (λ u. get_or boxes ((n + 32) * (n + 32) + u) 0) n x own) all
         ∙ sym (f.levels.own s own whole own_in);
-    older_small = λ t h. rw (part-at t) (omega (arith, f.window-small s (t + at) whole (part_in t h), most));
+    older_small = λ t h. rw (part-at t) (omega (arith, f.window_small s (t + at) whole (part_in t h), most));
     narrow = λ t h.
         let b = sum_over_bound (255 * m * m) k k
         (λ p q. abs_diff (get_or boxes (own_at n m + own + p * (n * m) + m * q) 0) (get_or boxes (level_at n m + at + p * ((n + 32) * m) + t + m * q) 0))
         (λ p q hp hq.
         difference_small _ _ (255 * m * m)
-        (rw (newer_at p q) (f.own-small m _ cut (newer_in p q hp hq)))
-        (rw (older-at p q t) (f.window-small m _ cut (older_in p q t hp hq h)))) in
+        (rw (newer_at p q) (f.own_small m _ cut (newer_in p q hp hq)))
+        (rw (older-at p q t) (f.window_small m _ cut (older_in p q t hp hq h)))) in
         omega (arith, b, most_parts, most);
   }
 

@@ -91,8 +91,8 @@ module _ (older newer : List ℕ) (b : SearchBlock) (boxes : List ℕ) (x : Boxe
   distance_is cut =
       rw (measure_absolute 1 refl)
       (sum_over_ext (n / m) (n / m) _ _ (λ p q hp hq.
-      ap₂ abs_diff (ap (λ (u : ℕ). get_or boxes u 0) (newer_index p q) ∙ x.newer-square m p q cut hp hq)
-      (ap (λ (u : ℕ). get_or boxes u 0) (older_index p q) ∙ x.older-square i j m p q h cut hp hq)))
+      ap₂ abs_diff (ap (λ (u : ℕ). get_or boxes u 0) (newer_index p q) ∙ x.newer_square m p q cut hp hq)
+      (ap (λ (u : ℕ). get_or boxes u 0) (older_index p q) ∙ x.older_square i j m p q h cut hp hq)))
 
   -- whole blocks
   whole_is : n ≡ 32 → whole_at boxes ((n + 32) * y + z) ≡ distance_to older newer b 1 32 (grid_vector i j)

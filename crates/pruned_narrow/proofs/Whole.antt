@@ -51,8 +51,8 @@ module _ (boxes : List ℕ) (l : Level) (k at own : ℕ) (w : Level) (size : ℕ
         sum_to_mono (λ r. sum_to (λ q. older t r q - newer r q) k) s p (λ r hr. minus_le (older t r) (newer r) k),
         sum_to_more s p,
         prefix_le s (p + 1) k (omega arith),
-        squared.older-sum t ht,
-        squared.older-small t ht,
+        squared.older_sum t ht,
+        squared.older_small t ht,
       )
 
   block_is : (p : ℕ)
@@ -83,13 +83,13 @@ module _ (boxes : List ℕ) (l : Level) (k at own : ℕ) (w : Level) (size : ℕ
   distance : (t : ℕ) → t < size → turned (get_or (stored k) t 0) (sum t) v
       ≡ distance_of boxes (l.at + at) below (l.own + own) under l.m k t
   distance t h =
-      rw (filled_at zeros (rows k) size long t h, ← squared.older-sum t h, ← squared.newer-sum) (absolute_is k (older t) newer)
+      rw (filled_at zeros (rows k) size long t h, ← squared.older_sum t h, ← squared.newer_sum) (absolute_is k (older t) newer)
 
   pub turn_fits : (t : ℕ) → t < size → (get_or (stored k) t 0 ≤ sum t) × (sum t ≤ get_or (stored k) t 0 + v) × (turned (get_or (stored k) t 0) (sum t) v ≤ 65535)
   turn_fits t h =
       let e = filled_at zeros (rows k) size long t h in
-      let o = squared.older-sum t h in
-      let n = squared.newer-sum in (
+      let o = squared.older_sum t h in
+      let n = squared.newer_sum in (
         omega (arith, e, o, more_le k (older t) newer),
         omega (arith, e, o, n, less_le k (older t) newer),
         rw (distance t h) (squared.narrow t h),

@@ -68,8 +68,8 @@ module _ (D : ℕ → ℕ) (dist : ℕ → ℕ → ℕ) (ks : List ℕ) where
       record {
         attained = either_one (dec_le s.bound (D near));
         best = h.best;
-        left_from = h.left-from;
-        dropped_from = h.dropped-from;
+        left_from = h.left_from;
+        dropped_from = h.dropped_from;
         dropped-over = λ i. lt_of_le_of_lt (min-le_left _ _) (h.dropped-over i);
         apart = h.apart;
       }
@@ -79,7 +79,7 @@ module _ (D : ℕ → ℕ) (dist : ℕ → ℕ → ℕ) (ks : List ℕ) where
 
       either_one : Dec (s.bound ≤ D near) → Attained D ks (min s.bound (D near))
       either_one (yes l) = let (k, i, e) = h.attained in (k, i, e ∙ sym (min-eq_left l))
-      either_one (no l) = (near, h.left-from (least_of_mem (dist m) s.left (holds_some h)), sym (min-eq_right (le_of_lt (lt_of_not-le l))))
+      either_one (no l) = (near, h.left_from (least_of_mem (dist m) s.left (holds_some h)), sym (min-eq_right (le_of_lt (lt_of_not-le l))))
 
   pub sift_holds : (limit : ℕ → ℕ → ℕ) (m : ℕ) (s : Pruning) → Safe D dist limit m → Holds D ks s → Holds D ks (sift dist limit m s)
   unfolding sift
@@ -87,8 +87,8 @@ module _ (D : ℕ → ℕ) (dist : ℕ → ℕ → ℕ) (ks : List ℕ) where
       record {
         attained = h.attained;
         best = parted_first (safe (least_of D ks) s.bound (bound_ge h)) p h.best;
-        left_from = λ i. h.left-from (parted_kept p i).0;
-        dropped_from = λ i. ⊎_elim (λ j. h.dropped-from j) (λ j. h.left-from (parted_over p j).0) (Memᴰ.append_cases s.dropped i);
+        left_from = λ i. h.left_from (parted_kept p i).0;
+        dropped_from = λ i. ⊎_elim (λ j. h.dropped_from j) (λ j. h.left_from (parted_over p j).0) (Memᴰ.append_cases s.dropped i);
         dropped-over = λ i. ⊎_elim (λ j. h.dropped-over j) (λ j. worse (parted_over p j).1) (Memᴰ.append_cases s.dropped i);
         apart = λ i d.
             ⊎_elim (λ j. h.apart (parted_kept p i).0 j) (λ j. not-le_of_lt (parted_over p j).1 (parted_kept p i).1) (Memᴰ.append_cases s.dropped d);

@@ -137,7 +137,7 @@ module _ (b : SearchBlock) (s : Standing b) where
       ∙ sum_to_ext _ _ (reach b).rows (λ i hi.
       total_list_to _ _ (reach b).columns
       ∙ sum_to_ext _ _ (reach b).columns (λ j hj.
-      let h : (reach b).left + j < 64 = omega (arith, (reach_bounds b s).few-columns) in
+      let h : (reach b).left + j < 64 = omega (arith, (reach_bounds b s).few_columns) in
       ap F (ap₂ grid_vector (spot_row ((reach b).top + i) ((reach b).left + j) h) (spot_column ((reach b).top + i) ((reach b).left + j) h))))
 
   -- and over the places in the table
@@ -147,10 +147,10 @@ module _ (b : SearchBlock) (s : Standing b) where
   total_places F =
       total_pick _ _ vector_count
       ∙ table_grid (λ v. cond (passes v) (F v) 0)
-      ∙ sum_span _ 33 (reach b).top (reach b).rows k.few-rows
+      ∙ sum_span _ 33 (reach b).top (reach b).rows k.few_rows
       (λ i n. sum_to_zero _ 33 (λ j hj. outside i j (λ p. n p.top p.bottom)))
       ∙ sum_to_ext _ _ (reach b).rows (λ i hi.
-      sum_span _ 33 (reach b).left (reach b).columns k.few-columns (λ j n. outside _ j (λ p. n p.left p.right))
+      sum_span _ 33 (reach b).left (reach b).columns k.few_columns (λ j n. outside _ j (λ p. n p.left p.right))
       ∙ sum_to_ext _ _ (reach b).columns (λ j hj.
       let p = reach_yes b s ((reach b).top + i) ((reach b).left + j)
       (record { top = omega arith; bottom = omega arith; left = omega arith; right = omega arith }) in

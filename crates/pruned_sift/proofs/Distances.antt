@@ -29,12 +29,12 @@ pub laid : (b : SearchBlock) → Standing b → (n : ℕ) → n ≤ 32 → (numb
 laid b s n small numbers long =
     let k = reach_bounds b s in
     let p : n + 32 ≤ 64 = omega arith in
-    let q : (reach b).rows - 1 ≤ 32 = omega (arith, k.few-rows) in
+    let q : (reach b).rows - 1 ≤ 32 = omega (arith, k.few_rows) in
     record {
       around =
-          record { above = k.above; below = k.below; few_rows = k.few-rows; before = k.before; behind = k.behind; few_columns = k.few-columns };
+          record { above = k.above; below = k.below; few_rows = k.few_rows; before = k.before; behind = k.behind; few_columns = k.few_columns };
       narrow = p;
-      room = omega (arith, mul-le-mul p q, k.few-columns);
+      room = omega (arith, mul-le-mul p q, k.few_columns);
     }
 
 -- what is kept of a list, by values that are the same on it

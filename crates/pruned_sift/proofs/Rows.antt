@@ -127,10 +127,10 @@ module _ (numbers : List ℕ) (pitch : ℕ) (r : Region) (least : List ℕ) wher
               rows.3,
               l i hi,
               columns.3,
-              code_small (r.top + i) (r.left + j) (omega (arith, d.around.few-rows)) (omega (arith, d.around.few-columns)),
+              code_small (r.top + i) (r.left + j) (omega (arith, d.around.few_rows)) (omega (arith, d.around.few_columns)),
             )),
       )
 
 -- 0 is no more than any
 pub zeros_bound : {numbers : List ℕ} {pitch : ℕ} {r : Region} → Laid numbers pitch r → LowerBounds numbers pitch r (replicate 33 0)
-zeros_bound d i j hi hj = omega (arith, get_or-replicate {A = ℕ} 33 i 0 0 (omega (arith, d.around.few-rows)))
+zeros_bound d i j hi hj = omega (arith, get_or-replicate {A = ℕ} 33 i 0 0 (omega (arith, d.around.few_rows)))

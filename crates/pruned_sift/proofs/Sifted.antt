@@ -28,7 +28,7 @@ module _ {numbers : List ℕ} {pitch : ℕ} {r : Region} (l : Laid numbers pitch
 
   pub place_small : (i : ℕ) → i < r.rows → pitch * i ≤ 2112
   place_small i h =
-      let e : i ≤ 33 = omega (arith, l.around.few-rows) in
+      let e : i ≤ 33 = omega (arith, l.around.few_rows) in
       mul-le-mul l.narrow e
 
 -- ---- how many

@@ -48,7 +48,7 @@ module _ (frame : List ℕ) (width : ℕ) (a : Region) where
 
   module _ (before table : List ℕ) (r from here : ℕ) (g : SumsGoing before table r from here) where
     pub sums_read : (c : ℕ) → c ≤ a.columns → get_or table (here + c) 0 ≡ area part r c
-    sums_read c h = rw (g.filled, g.here-is) (sums_at part a.columns (r + 1) r c _ (omega arith) h)
+    sums_read c h = rw (g.filled, g.here_is) (sums_at part a.columns (r + 1) r c _ (omega arith) h)
 
     module _ (f : Fillable frame width a (length before)) where
       -- the entries of row r fit
@@ -62,7 +62,7 @@ module _ (frame : List ℕ) (width : ℕ) (a : Region) where
         -- the next row has room
         pub sums_room : here + (a.columns + 1) + (a.columns + 1) ≤ length table
         sums_room =
-            omega (arith, g.here-is, g.long, f.table, row_next r (a.columns + 1), row_fits (r + 1) (a.rows + 1) (a.columns + 1) (omega arith))
+            omega (arith, g.here_is, g.long, f.table, row_next r (a.columns + 1), row_fits (r + 1) (a.rows + 1) (a.columns + 1) (omega arith))
 
         -- the pels of row r lie in the frame
         pub sums_pels : from + a.columns ≤ length frame
@@ -84,9 +84,9 @@ module _ (frame : List ℕ) (width : ℕ) (a : Region) where
           low = omega arith;
           long = length_fill table _ _ (a.columns + 1) sums_room ∙ g.long;
           from_is = omega (arith, g.from_is, row_next (a.top + r) width);
-          here_is = omega (arith, g.here-is, row_next r (a.columns + 1));
+          here_is = omega (arith, g.here_is, row_next r (a.columns + 1));
           filled =
-              let e : here + (a.columns + 1) ≡ (r + 1) * (a.columns + 1) = omega (arith, g.here-is, row_next r (a.columns + 1)) in
+              let e : here + (a.columns + 1) ≡ (r + 1) * (a.columns + 1) = omega (arith, g.here_is, row_next r (a.columns + 1)) in
               ap (λ (t : List ℕ). fill_to t (here + (a.columns + 1)) (next_row frame from table here) (a.columns + 1)) g.filled
               ∙ rw (e, fill_join (sums_to part a.columns (r + 1)) before _ (a.columns + 1) _ (length_sums part a.columns (r + 1)), sums-row)
               (rw (concat_to_more _ (r + 1), row_next (r + 1) (a.columns + 1)));

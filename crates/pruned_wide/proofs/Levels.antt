@@ -137,8 +137,8 @@ module _ (n m span : ℕ) (boxes : List ℕ) (few : n ≤ 32) (cut : Cut n m) (a
         (λ p q. squared (get_or boxes (own_at n m + p * (n * m) + m * q) 0) (get_or boxes (level_at n m + p * ((n + 32) * m) + t + m * q) 0))
         (λ p q hp hq.
         diff_most 2 _ _ most most_some
-        (rw (newer_at p q) (f.own-small m _ cut (newer_in p q hp hq)))
-        (rw (older-at p q t) (f.window-small m _ cut (older_in p q t hp hq h)))) in
+        (rw (newer_at p q) (f.own_small m _ cut (newer_in p q hp hq)))
+        (rw (older-at p q t) (f.window_small m _ cut (older_in p q t hp hq h)))) in
         omega (arith, b, all_most);
     small = (omega (arith, add-mul n 32 m, product, cut.inside), omega (arith, product));
   }
@@ -175,8 +175,8 @@ module _ (older newer : List ℕ) (b : SearchBlock) (boxes : List ℕ) (x : Boxe
   distance_is cut =
       sum_over_ext (n / m) (n / m) _ _ (λ p q hp hq.
       ap₂ (measure_of 2).diff
-      (ap (λ (u : ℕ). get_or boxes u 0) (newer_index p q) ∙ x.newer-square m p q cut hp hq)
-      (ap (λ (u : ℕ). get_or boxes u 0) (older_index p q) ∙ x.older-square i j m p q h cut hp hq))
+      (ap (λ (u : ℕ). get_or boxes u 0) (newer_index p q) ∙ x.newer_square m p q cut hp hq)
+      (ap (λ (u : ℕ). get_or boxes u 0) (older_index p q) ∙ x.older_square i j m p q h cut hp hq))
 
   distance-at : (d numbers : List ℕ) (span : ℕ) → span ≤ length d → (N : ℕ) → N ≡ n → Cut N m → numbers ≡ fill_to d 0 (squares_at boxes N m) span
       → span ≡ span_of N (reach b) → get_or numbers ((N + 32) * y + z) 0 ≡ distance_to older newer b 2 m (grid_vector i j)

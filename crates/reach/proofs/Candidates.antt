@@ -113,7 +113,7 @@ module _ (b : SearchBlock) (s : Standing b) where
   }
 
   pub reach_small : (i j : ℕ) → InReach (reach b) i j → (i < 33) × (j < 33)
-  reach_small i j h = (omega (arith, h.bottom, reach_bounds.few-rows), omega (arith, h.right, reach_bounds.few-columns))
+  reach_small i j h = (omega (arith, h.bottom, reach_bounds.few_rows), omega (arith, h.right, reach_bounds.few_columns))
 
   pub reach_yes : (i j : ℕ) → InReach (reach b) i j → T (candidate b.setting b.w b.y b.x (grid_vector i j))
   unfolding reach
@@ -148,9 +148,9 @@ module _ (b : SearchBlock) (s : Standing b) where
   unfolding candidates
   reach_count =
       places_counted b.setting b.w b.y b.x
-      ∙ sum_span _ 33 r.top r.rows k.few-rows (λ i n. sum_to_zero _ 33 (λ j hj. outside i j (λ q. n q.top q.bottom)))
+      ∙ sum_span _ 33 r.top r.rows k.few_rows (λ i n. sum_to_zero _ 33 (λ j hj. outside i j (λ q. n q.top q.bottom)))
       ∙ sum_to_ext _ (λ i. r.columns) r.rows (λ i hi.
-      sum_span _ 33 r.left r.columns k.few-columns (λ j n. outside _ j (λ q. n q.left q.right))
+      sum_span _ 33 r.left r.columns k.few_columns (λ j n. outside _ j (λ q. n q.left q.right))
       ∙ sum_to_ext _ (λ j. 1) r.columns (λ j hj.
       let q : InReach (reach b) (r.top + i) (r.left + j) = record { top = omega arith; bottom = omega arith; left = omega arith; right = omega arith } in
       ap (λ t. cond t 1 0) (T_true (passes _) (reach_yes (r.top + i) (r.left + j) q)))

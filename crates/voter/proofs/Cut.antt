@@ -51,7 +51,7 @@ module _ (newer : List ℕ) (s : Setting) (y x : ℕ) (h : Standing (length newe
       let k = block-inside newer newer s y x y x itself in
       let small = size_small s.n h.framed.allowed in
       let size = block_size s.n h.framed.allowed in
-      rw (part_to_end, length-drop, ← e) (omega (arith, k.in-newer), k.wide, omega arith, omega (arith, size.power, pow-suc 2 size.doublings))
+      rw (part_to_end, length-drop, ← e) (omega (arith, k.in_newer), k.wide, omega arith, omega (arith, size.power, pow-suc 2 size.doublings))
 
   pub standing_votes : (n : ℕ) (r : Bool) → s.n ≡ n → r ≡ is_voter n (block_at (part_from (y * s.width + x) newer) s.width 0 0)
       → r ≡ is_voter s.n (block_at newer s.width y x)

@@ -32,7 +32,7 @@ module _ (f g : ℕ → ℕ) where
   pub seen_more : (k low high x y : ℕ) → Seen k low high → x ≡ f k → y ≡ g k → y ≤ 255 → Seen (k + 1) (min low x) (max high y)
   unfolding largest_to smallest_to
   seen_more k low high x y s e h small = record {
-    low_is = rw (add-one, e, s.low-is);
+    low_is = rw (add-one, e, s.low_is);
     high_is = rw (add-one, h, s.high_is);
     low_small = omega (arith, s.low_small);
     high_small = omega (arith, s.high_small);
@@ -62,4 +62,4 @@ module _ (n : ℕ) (b : Block) where
 
   pub seen_last : (low high : ℕ) → Columns n low high → leb (low + 8) high ≡ is_voter n b
   unfolding is_voter smallest largest
-  seen_last low high s = rw (s.low-is, s.high_is, smallest_turned b n n, largest_turned b n n)
+  seen_last low high s = rw (s.low_is, s.high_is, smallest_turned b n n, largest_turned b n n)

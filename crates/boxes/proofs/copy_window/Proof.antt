@@ -26,9 +26,9 @@ inside s =
     omega (
       arith,
       add-mul (b.y + r.top - 16) (r.rows + b.setting.n - 1) width,
-      mul-le-mul_right width (let h : b.y + r.top - 16 + (r.rows + b.setting.n - 1) ≤ b.setting.height = omega (arith, k.first-row, k.last_row, k.rows) in h),
-      k.first-column,
-      k.last-column,
+      mul-le-mul_right width (let h : b.y + r.top - 16 + (r.rows + b.setting.n - 1) ≤ b.setting.height = omega (arith, k.first_row, k.last_row, k.rows) in h),
+      k.first_column,
+      k.last_column,
       k.columns,
       s.requires.2,
     )
@@ -47,7 +47,7 @@ near : (s : tie.Start) → let b = s.args.b in let r = s.args.r in
 near s =
     let k = bounds s in
     let p = s.requires.0 in
-    omega (arith, k.first-row, k.first-column, k.last_row, k.last-column, k.rows, k.columns, k.few-rows, k.few-columns, p.high, p.wide)
+    omega (arith, k.first_row, k.first_column, k.last_row, k.last_column, k.rows, k.columns, k.few_rows, k.few_columns, p.high, p.wide)
 
 add_row : tie.Need-overflow-add-row
 add_row c = omega (arith, near c.before.before.before.before.before)

@@ -31,19 +31,19 @@ bounds s = subst (λ (r : Region). Bounds s.args.b r) (sym s.requires.1) (reach_
 copy-window-requires : tie.Need-copy-window-requires
 copy-window-requires c κs =
     let s = c.before.before.before.before in
-    (standing s, few s, omega (arith, (ready s).placed.paired.older-whole), s.requires.1, omega (arith, s.requires.2))
+    (standing s, few s, omega (arith, (ready s).placed.paired.older_whole), s.requires.1, omega (arith, s.requires.2))
 
 copy-block-requires : tie.Need-copy-block-requires
 copy-block-requires c κs =
     let s = c.before.before.before.before.before.before.before.before in
     let p = (ready s).placed.paired in
-    (standing s, few s, omega (arith, p.newer-whole), omega (arith, s.requires.2, c.before.before.before.copy-window.auto.1.1.1.0))
+    (standing s, few s, omega (arith, p.newer_whole), omega (arith, s.requires.2, c.before.before.before.copy-window.auto.1.1.1.0))
 
 span-requires : tie.Need-span-requires
 span-requires c κs =
     let s = c.before.before.before.before.before.before.before.before.before.before.before.before in
     let k = bounds s in
-    (few s, k.rows, omega (arith, k.few-rows), omega (arith, k.few-columns))
+    (few s, k.rows, omega (arith, k.few_rows), omega (arith, k.few_columns))
 
 -- the pels as the two copies leave them
 pels-are : (c : tie.After-span) → let a = c.before.before.before.before.before.before.before.before.before.before.before.before.before.args in
@@ -67,7 +67,7 @@ fill-from-pels-requires c κs =
     let k = bounds s in
     let p = pels-are c in (
       (ready s).placed.paired.allowed,
-      rw c.span.ensures (span_short s.args.b.setting.n s.args.r (omega (arith, k.few-rows)) (omega (arith, k.few-columns))),
+      rw c.span.ensures (span_short s.args.b.setting.n s.args.r (omega (arith, k.few_rows)) (omega (arith, k.few_columns))),
       omega (arith, s.requires.2, c.before.before.before.before.before.before.before.before.copy-window.auto.1.1.1.0, c.before.before.before.before.copy-block.auto.1.1.0),
       λ u h.
           subst (λ (xs : List ℕ). get_or xs u 0 ≤ 255) (sym p)

@@ -16,12 +16,12 @@ fill-table-requires : tie.Need-fill-table-requires
 fill-table-requires c κs =
     let r = c.before.before.before.before.requires in
     let p = (requested _ _ _ r.fine).paired in
-    record { wide = p.fitting.wide; high = p.fitting.high; whole = p.older-whole; room = r.table-room }
+    record { wide = p.fitting.wide; high = p.fitting.high; whole = p.older_whole; room = r.table_room }
 
 fill-list-requires : tie.Need-fill-list-requires
 fill-list-requires c κs =
     let r = (start c.before.before.before.before).requires in
-    (r.fine, (r.list-room, refl))
+    (r.fine, (r.list_room, refl))
 
 table-requires : tie.Need-table-requires
 table-requires c κs = search rules

@@ -74,7 +74,7 @@ is-voter-at-requires c κs =
     let s = start l in
     let q = (requested _ _ _ s.pre.0).paired in
     rw l.before.before.setting-of.ensures
-    (record { fitting = q.fitting; allowed = q.allowed; whole = q.newer-whole }, omega (arith, l.loop.inv.1))
+    (record { fitting = q.fitting; allowed = q.allowed; whole = q.newer_whole }, omega (arith, l.loop.inv.1))
 
 -- whether block k votes
 votes : (c : tie.After-is-voter-at invariant-loop decreases-loop) →

@@ -24,7 +24,7 @@ eight s = kernel_is (sym s.requires.3) s.requires.0.placed.paired.allowed
 -- eight rows of the block lie inside its frame
 inside : (s : tie.Start) → let b = s.args.b in let width = b.setting.width in
     b.y * width + b.x + 8 * width + 8 ≤ length s.args.newer.now + width
-inside s = rw (← (eight s).size) at (block-inside _ _ _ _ _ _ _ (at_its_place _ _ _ s.requires.0)).in-newer
+inside s = rw (← (eight s).size) at (block-inside _ _ _ _ _ _ _ (at_its_place _ _ _ s.requires.0)).in_newer
 
 -- what the copies hold
 abbrev start : tie.After-copy-rows2 → tie.Start
@@ -43,12 +43,12 @@ keys : (k : tie.After-copy-rows2) (i j : ℕ) → let a = (start k).args in InRe
 keys k i j h =
     let e = eight (start k) in
     ap₂ (λ (w v : List ℕ). key_by_column w v i j) (window-is k) (block-is k)
-    ∙ key-in-strip _ _ _ refl _ (ready_standing _ _ _ (start k).requires.0) _ refl (sym e.size) (sym e.measure-is) i j h
+    ∙ key-in-strip _ _ _ refl _ (ready_standing _ _ _ (start k).requires.0) _ refl (sym e.size) (sym e.measure_is) i j h
 
 copy-window-requires : tie.Need-copy-window-requires
 copy-window-requires c κs =
     let s = c.before.before.before.before in
-    (ready_standing _ _ _ s.requires.0, size _ _ _ s.requires.0, omega (arith, s.requires.0.placed.paired.older-whole), s.requires.1, refl)
+    (ready_standing _ _ _ s.requires.0, size _ _ _ s.requires.0, omega (arith, s.requires.0.placed.paired.older_whole), s.requires.1, refl)
 
 mul-here : tie.Need-overflow-mul-here
 mul-here c = omega (arith, (begins _ _ _ _ _ _ _ (at_its_place _ _ _ c.before.before.before.before.before.before.requires.0)).0)

@@ -13,7 +13,7 @@ use Rattle.full.proofs.by_rows.Tie as tie
 copy-window-requires : tie.Need-copy-window-requires
 copy-window-requires c κs =
     let s = c.before.before.before.before in
-    (ready_standing _ _ _ s.requires.0, size _ _ _ s.requires.0, omega (arith, s.requires.0.placed.paired.older-whole), s.requires.1, refl)
+    (ready_standing _ _ _ s.requires.0, size _ _ _ s.requires.0, omega (arith, s.requires.0.placed.paired.older_whole), s.requires.1, refl)
 
 mul-copy-rows : tie.Need-overflow-mul-copy-rows
 mul-copy-rows c = omega (arith, (begins _ _ _ _ _ _ _ (at_its_place _ _ _ c.before.before.before.before.before.before.requires.0)).0)
@@ -28,7 +28,7 @@ copy-rows-requires : tie.Need-copy-rows-requires
 copy-rows-requires c κs =
     let s = c.before.before.before.before.before.before.before.before in
     let k = block-inside _ _ _ _ _ _ _ (at_its_place _ _ _ s.requires.0) in
-    (k.in-newer, omega (arith, size _ _ _ s.requires.0), k.wide, omega arith, omega (arith, size _ _ _ s.requires.0))
+    (k.in_newer, omega (arith, size _ _ _ s.requires.0), k.wide, omega arith, omega (arith, size _ _ _ s.requires.0))
 
 kernel-requires : tie.Need-kernel-requires
 kernel-requires c κs = omega (arith, size _ _ _ c.before.before.before.before.before.before.before.before.before.before.before.before.requires.0)

@@ -26,10 +26,10 @@ strip-long : (c : tie.After-copy-strip invariant-loop decreases-loop) → length
 strip-long c = ap length c.copy-strip.ensures ∙ length_in_rows _ 40 8
 
 add-bottom : tie.Need-overflow-add-bottom invariant-loop decreases-loop
-add-bottom c = omega (arith, c.before.requires.3.few-rows)
+add-bottom c = omega (arith, c.before.requires.3.few_rows)
 
 add_right : tie.Need-overflow-add-right invariant-loop decreases-loop
-add_right c = omega (arith, c.before.before.requires.3.few-columns)
+add_right c = omega (arith, c.before.before.requires.3.few_columns)
 
 codes-of-requires : tie.Need-codes-of-requires invariant-loop decreases-loop
 codes-of-requires c κs = omega arith
@@ -43,7 +43,7 @@ copy-strip-requires : tie.Need-copy-strip-requires invariant-loop decreases-loop
 copy-strip-requires c κs =
     let l = c.before.before in
     let p = (start l).requires in
-    (p.0, omega (arith, p.3.few-columns), l.loop.invariant.2)
+    (p.0, omega (arith, p.3.few_columns), l.loop.invariant.2)
 
 slice-aggregate-column-least : tie.Need-slice-aggregate-column-least invariant-loop decreases-loop
 slice-aggregate-column-least c = omega (arith, strip-long c.before)
@@ -52,10 +52,10 @@ column-least-requires : tie.Need-column-least-requires invariant-loop decreases-
 column-least-requires c κs =
     let l = c.before.before.before.before.before.before in
     let p = (start l).requires in
-    (strip-long c.before.before.before, p.1, p.2, omega (arith, p.3.few-columns), omega arith, p.3.few-rows, l.before.codes-of.ensures)
+    (strip-long c.before.before.before, p.1, p.2, omega (arith, p.3.few_columns), omega arith, p.3.few_rows, l.before.codes-of.ensures)
 
 add-j : tie.Need-overflow-add-j invariant-loop decreases-loop
-add-j c = let l = c.before.before.before.before.before.before.before in omega (arith, (start l).requires.3.few-columns)
+add-j c = let l = c.before.before.before.before.before.before.before in omega (arith, (start l).requires.3.few_columns)
 
 loop-less : tie.Need-loop-smaller invariant-loop decreases-loop
 loop-less c = omega arith

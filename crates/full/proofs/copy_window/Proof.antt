@@ -25,9 +25,9 @@ inside s =
     omega (
       arith,
       add-mul (b.y + r.top - 16) (r.rows + b.setting.n - 1) width,
-      mul-le-mul_right width (let h : b.y + r.top - 16 + (r.rows + b.setting.n - 1) ≤ b.setting.height = omega (arith, k.first-row, k.last_row, k.rows) in h),
-      k.first-column,
-      k.last-column,
+      mul-le-mul_right width (let h : b.y + r.top - 16 + (r.rows + b.setting.n - 1) ≤ b.setting.height = omega (arith, k.first_row, k.last_row, k.rows) in h),
+      k.first_column,
+      k.last_column,
       k.columns,
       s.requires.2,
     )
@@ -40,46 +40,46 @@ small s =
     mul-le-mul {n₂ = 1024} {m₂ = 1024} (omega (arith, k.last_row, k.rows, s.requires.0.high)) s.requires.0.wide
 
 add_row : tie.Need-overflow-add-row
-add_row c = let k = bounds c.before.before.before.before in omega (arith, k.first-row, k.first-column, k.last_row, k.last-column, k.rows, k.columns, k.few-rows, k.few-columns, c.before.before.before.before.requires.0)
+add_row c = let k = bounds c.before.before.before.before in omega (arith, k.first_row, k.first_column, k.last_row, k.last_column, k.rows, k.columns, k.few_rows, k.few_columns, c.before.before.before.before.requires.0)
 
 sub_row : tie.Need-overflow-sub-row
-sub_row c = let k = bounds c.before.before.before.before in omega (arith, k.first-row, k.first-column, k.last_row, k.last-column, k.rows, k.columns, k.few-rows, k.few-columns, c.before.before.before.before.requires.0)
+sub_row c = let k = bounds c.before.before.before.before in omega (arith, k.first_row, k.first_column, k.last_row, k.last_column, k.rows, k.columns, k.few_rows, k.few_columns, c.before.before.before.before.requires.0)
 
 add-column : tie.Need-overflow-add-column
-add-column c = let k = bounds c.before.before.before.before.before.before in omega (arith, k.first-row, k.first-column, k.last_row, k.last-column, k.rows, k.columns, k.few-rows, k.few-columns, c.before.before.before.before.before.before.requires.0)
+add-column c = let k = bounds c.before.before.before.before.before.before in omega (arith, k.first_row, k.first_column, k.last_row, k.last_column, k.rows, k.columns, k.few_rows, k.few_columns, c.before.before.before.before.before.before.requires.0)
 
 sub-column : tie.Need-overflow-sub-column
-sub-column c = let k = bounds c.before.before.before.before.before.before in omega (arith, k.first-row, k.first-column, k.last_row, k.last-column, k.rows, k.columns, k.few-rows, k.few-columns, c.before.before.before.before.before.before.requires.0)
+sub-column c = let k = bounds c.before.before.before.before.before.before in omega (arith, k.first_row, k.first_column, k.last_row, k.last_column, k.rows, k.columns, k.few_rows, k.few_columns, c.before.before.before.before.before.before.requires.0)
 
 mul-copy-rows : tie.Need-overflow-mul-copy-rows
 mul-copy-rows c = omega (arith, small c.before.before.before.before.before.before)
 
 add-copy-rows : tie.Need-overflow-add-copy-rows
-add-copy-rows c = let s = c.before.before.before.before.before.before in omega (arith, small s, (bounds s).last-column, s.requires.0.wide)
+add-copy-rows c = let s = c.before.before.before.before.before.before in omega (arith, small s, (bounds s).last_column, s.requires.0.wide)
 
 add-copy-rows-2 : tie.Need-overflow-add-copy-rows-2
-add-copy-rows-2 c = let k = bounds c.before.before.before.before.before.before.before in omega (arith, k.first-row, k.first-column, k.last_row, k.last-column, k.rows, k.columns, k.few-rows, k.few-columns, c.before.before.before.before.before.before.before.requires.0)
+add-copy-rows-2 c = let k = bounds c.before.before.before.before.before.before.before in omega (arith, k.first_row, k.first_column, k.last_row, k.last_column, k.rows, k.columns, k.few_rows, k.few_columns, c.before.before.before.before.before.before.before.requires.0)
 
 sub-copy-rows : tie.Need-overflow-sub-copy-rows
-sub-copy-rows c = let k = bounds c.before.before.before.before.before.before.before in omega (arith, k.first-row, k.first-column, k.last_row, k.last-column, k.rows, k.columns, k.few-rows, k.few-columns, c.before.before.before.before.before.before.before.requires.0)
+sub-copy-rows c = let k = bounds c.before.before.before.before.before.before.before in omega (arith, k.first_row, k.first_column, k.last_row, k.last_column, k.rows, k.columns, k.few_rows, k.few_columns, c.before.before.before.before.before.before.before.requires.0)
 
 add-copy-rows-3 : tie.Need-overflow-add-copy-rows-3
-add-copy-rows-3 c = let k = bounds c.before.before.before.before.before.before.before.before in omega (arith, k.first-row, k.first-column, k.last_row, k.last-column, k.rows, k.columns, k.few-rows, k.few-columns, c.before.before.before.before.before.before.before.before.requires.0)
+add-copy-rows-3 c = let k = bounds c.before.before.before.before.before.before.before.before in omega (arith, k.first_row, k.first_column, k.last_row, k.last_column, k.rows, k.columns, k.few_rows, k.few_columns, c.before.before.before.before.before.before.before.before.requires.0)
 
 sub-copy-rows-2 : tie.Need-overflow-sub-copy-rows-2
-sub-copy-rows-2 c = let k = bounds c.before.before.before.before.before.before.before.before in omega (arith, k.first-row, k.first-column, k.last_row, k.last-column, k.rows, k.columns, k.few-rows, k.few-columns, c.before.before.before.before.before.before.before.before.requires.0)
+sub-copy-rows-2 c = let k = bounds c.before.before.before.before.before.before.before.before in omega (arith, k.first_row, k.first_column, k.last_row, k.last_column, k.rows, k.columns, k.few_rows, k.few_columns, c.before.before.before.before.before.before.before.before.requires.0)
 
 mul-copy-rows-2 : tie.Need-overflow-mul-copy-rows-2
-mul-copy-rows-2 c = let k = bounds c.before.before.before.before.before.before.before.before.before.before in omega (arith, k.first-row, k.first-column, k.last_row, k.last-column, k.rows, k.columns, k.few-rows, k.few-columns, c.before.before.before.before.before.before.before.before.before.before.requires.0)
+mul-copy-rows-2 c = let k = bounds c.before.before.before.before.before.before.before.before.before.before in omega (arith, k.first_row, k.first_column, k.last_row, k.last_column, k.rows, k.columns, k.few_rows, k.few_columns, c.before.before.before.before.before.before.before.before.before.before.requires.0)
 
 add-copy-rows-4 : tie.Need-overflow-add-copy-rows-4
-add-copy-rows-4 c = let k = bounds c.before.before.before.before.before.before.before.before.before.before.before in omega (arith, k.first-row, k.first-column, k.last_row, k.last-column, k.rows, k.columns, k.few-rows, k.few-columns, c.before.before.before.before.before.before.before.before.before.before.before.requires.0)
+add-copy-rows-4 c = let k = bounds c.before.before.before.before.before.before.before.before.before.before.before in omega (arith, k.first_row, k.first_column, k.last_row, k.last_column, k.rows, k.columns, k.few_rows, k.few_columns, c.before.before.before.before.before.before.before.before.before.before.before.requires.0)
 
 copy-rows-requires : tie.Need-copy-rows-requires
 copy-rows-requires c κs =
     let s = c.before.before.before.before.before.before.before.before.before.before.before in
     let k = bounds s in
-    (inside s, omega (arith, s.requires.1, s.requires.4, k.few-rows, k.few-columns, k.rows, k.columns), s.requires.0.wide, omega arith, omega (arith, s.requires.1, k.few-rows))
+    (inside s, omega (arith, s.requires.1, s.requires.4, k.few_rows, k.few_columns, k.rows, k.columns), s.requires.0.wide, omega arith, omega (arith, s.requires.1, k.few_rows))
 
 returns : tie.Need-returns
 returns c = rw (← c.before.before.before.before.before.before.before.before.before.before.before.before.requires.3) c.copy-rows.ensures

@@ -22,7 +22,7 @@ add-row-least c = search rules
 row-least-requires : tie.Need-row-least-requires
 row-least-requires c κs =
     let p = c.before.before.before.before.before.requires in
-    (p.0, p.1, p.2, p.3, omega (arith, p.4.few-rows), omega arith, omega (arith, p.4.few-columns), p.5, p.6)
+    (p.0, p.1, p.2, p.3, omega (arith, p.4.few_rows), omega arith, omega (arith, p.4.few_columns), p.5, p.6)
 
 returns-3 : tie.Need-returns-3
 returns-3 c =

@@ -24,7 +24,7 @@ few : (k : tie.After-reach) → let r = k.reach.result in (r.rows ≤ 33) × (r.
 few k =
     let s = k.before.before.before in
     let d = reach_bounds s.args.b (ready_standing _ _ _ s.requires) in
-    rw k.reach.ensures (omega (arith, d.few-rows), mul-le-mul {n₂ = 33} {m₂ = 33} (omega (arith, d.few-rows)) (omega (arith, d.few-columns)))
+    rw k.reach.ensures (omega (arith, d.few_rows), mul-le-mul {n₂ = 33} {m₂ = 33} (omega (arith, d.few_rows)) (omega (arith, d.few_columns)))
 
 reach-requires : tie.Need-reach-requires
 reach-requires c κs = ready_standing _ _ _ c.before.before.requires
@@ -62,7 +62,7 @@ returns c =
       to_z-of_z (sfits_of c.before.before.unbiased2.type-inv),
       c.before.before.before.unbiased.ensures,
       c.before.before.unbiased2.ensures,
-      a.distortion-is,
+      a.distortion_is,
       c.only-at-one.ensures,
       places,
       ← a.is,

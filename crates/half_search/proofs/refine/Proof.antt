@@ -78,7 +78,7 @@ half-block-requires : tie.Need-half-block-requires invariant-loop decreases-loop
 half-block-requires c κs =
     let p = (refining c.before).placed in (
       record {
-        whole = p.paired.newer-whole;
+        whole = p.paired.newer_whole;
         fitting = p.paired.fitting;
         small = small c.before;
         down = omega (arith, p.down);
@@ -116,7 +116,7 @@ try-at-requires : tie.Need-try-at-requires invariant-loop decreases-loop
 try-at-requires c κs =
     let o = c.before.before.before.neighbour.ensures in
     let p = (refining c.before.before.before.before.before.before.before.before.before).placed.paired in (
-      record { whole = p.older-whole; fitting = p.fitting; allowed = p.allowed; stored = ap length c.before.before.before.before.before.before.before.half-block.ensures ∙ half_long _ _ _ _ _ _ refl (small c.before.before.before.before.before.before.before.before.before) },
+      record { whole = p.older_whole; fitting = p.fitting; allowed = p.allowed; stored = ap length c.before.before.before.before.before.before.before.half-block.ensures ∙ half_long _ _ _ _ _ _ refl (small c.before.before.before.before.before.before.before.before.before) },
       omega (arith, c.before.before.before.before.before.before.before.before.before.before.before.past.ensures.1, o.1),
       omega (arith, c.before.before.before.before.before.before.before.before.before.past2.ensures.1, o.2),
     )

@@ -55,7 +55,7 @@ row-requires : tie.Need-row-requires invariant-loop decreases-loop
 row-requires c κs =
     let l = c.before.before in
     let s = l.before.before.before in
-    omega (arith, turn l c.before.loop-test.true, row_next l.loop.rows s.args.s.width, s.requires.in-newer, s.requires.in-older)
+    omega (arith, turn l c.before.loop-test.true, row_next l.loop.rows s.args.s.width, s.requires.in_newer, s.requires.in_older)
 
 add-sum : tie.Need-overflow-add-sum invariant-loop decreases-loop
 add-sum c =
@@ -67,13 +67,13 @@ add-p : tie.Need-overflow-add-p invariant-loop decreases-loop
 add-p c =
     let l = c.before.before.before in
     let s = l.before.before.before in
-    omega (arith, turn l c.before.before.loop-test.true, row_next l.loop.rows s.args.s.width, s.requires.in-newer, s.requires.wide)
+    omega (arith, turn l c.before.before.loop-test.true, row_next l.loop.rows s.args.s.width, s.requires.in_newer, s.requires.wide)
 
 add-q : tie.Need-overflow-add-q invariant-loop decreases-loop
 add-q c =
     let l = c.before.before.before in
     let s = l.before.before.before in
-    omega (arith, turn l c.before.before.loop-test.true, row_next l.loop.rows s.args.s.width, s.requires.in-older, s.requires.wide)
+    omega (arith, turn l c.before.before.loop-test.true, row_next l.loop.rows s.args.s.width, s.requires.in_older, s.requires.wide)
 
 add-rows : tie.Need-overflow-add-rows invariant-loop decreases-loop
 add-rows c = omega arith

@@ -27,9 +27,9 @@ inside s =
     omega (
       arith,
       add-mul (b.y + r.top - 16) (r.rows + b.setting.n - 1) width,
-      mul-le-mul_right width (let h : b.y + r.top - 16 + (r.rows + b.setting.n - 1) ≤ b.setting.height = omega (arith, k.first-row, k.last_row, k.rows) in h),
-      k.first-column,
-      k.last-column,
+      mul-le-mul_right width (let h : b.y + r.top - 16 + (r.rows + b.setting.n - 1) ≤ b.setting.height = omega (arith, k.first_row, k.last_row, k.rows) in h),
+      k.first_column,
+      k.last_column,
       k.columns,
       s.requires.3,
     )
@@ -49,7 +49,7 @@ near s =
     let k = bounds s in
     let p = s.requires.0 in
     let n = block_size s.args.b.setting.n s.requires.1 in
-    omega (arith, k.first-row, k.first-column, k.last_row, k.last-column, k.rows, k.columns, k.few-rows, k.few-columns, p.high, p.wide, n.least, n.most)
+    omega (arith, k.first_row, k.first_column, k.last_row, k.last_column, k.rows, k.columns, k.few_rows, k.few_columns, p.high, p.wide, n.least, n.most)
 
 -- the start, from each step on
 abbrev at_row : tie.After-struct-known2 → tie.Start

@@ -33,14 +33,14 @@ first-is c = c.block-distortion.ensures ∙ sym (still_cost _ _ _)
 is-blank-requires : tie.Need-is-blank-requires
 is-blank-requires c κs =
     let p = c.before.before.before.before.before.requires in
-    (ready_standing _ _ _ p, p.placed.paired.allowed, c.before.reach.ensures, omega (arith, p.placed.paired.older-whole))
+    (ready_standing _ _ _ p, p.placed.paired.allowed, c.before.reach.ensures, omega (arith, p.placed.paired.older_whole))
 
 blank-answer-requires : tie.Need-blank-answer-requires
 blank-answer-requires c κs =
     let s = c.before.before.before.before.before.before.before in
     let d = reach_bounds s.args.b (ready_standing _ _ _ s.requires) in
     let e = c.before.before.before.reach.ensures in
-    (s.requires.placed.paired.allowed, rw e (omega (arith, d.few-rows)), rw e (omega (arith, d.few-columns)))
+    (s.requires.placed.paired.allowed, rw e (omega (arith, d.few_rows)), rw e (omega (arith, d.few_columns)))
 
 returns : tie.Need-returns
 returns c =

@@ -80,7 +80,7 @@ level-requires-2 : tie.Need-level-requires-2 invariant-loop decreases-loop
 level-requires-2 c κs =
     let t = c.before.before.before.before.loop.invariant.0 in
     let h : 2 ≤ c.before.before.before.before.loop.m = omega (arith, c.before.before.before.loop-test.true) in
-    (turning_search t h, turning_facing t h, t.room, t.numbers-long)
+    (turning_search t h, turning_facing t h, t.room, t.numbers_long)
 
 add-slot-2 : tie.Need-overflow-add-slot-2 invariant-loop decreases-loop
 add-slot-2 c = omega (arith, turning_slot c.before.before.before.before.before.before.before.loop.invariant.0 (omega (arith, c.before.before.before.before.before.before.loop-test.true)))

@@ -108,16 +108,16 @@ loop-again c =
     )
 
 add-add-turned : tie.Need-overflow-add-add-turned invariant-loop decreases-loop
-add-add-turned c = let l = c.before.before in let h = (start l).requires.3.older-room in search rules
+add-add-turned c = let l = c.before.before in let h = (start l).requires.3.older_room in search rules
 
 add-add-turned-2 : tie.Need-overflow-add-add-turned-2 invariant-loop decreases-loop
-add-add-turned-2 c = let l = c.before.before.before in let h = (start l).requires.3.newer-room in search rules
+add-add-turned-2 c = let l = c.before.before.before in let h = (start l).requires.3.newer_room in search rules
 
 mul-add-turned : tie.Need-overflow-mul-add-turned invariant-loop decreases-loop
-mul-add-turned c = let l = c.before.before.before in let h = (start l).requires.3.newer-room in search rules
+mul-add-turned c = let l = c.before.before.before in let h = (start l).requires.3.newer_room in search rules
 
 shared-slice-read-add-turned : tie.Need-shared-slice-read-add-turned invariant-loop decreases-loop
-shared-slice-read-add-turned c = (start c.before.before.before.before).pre.3.newer-room
+shared-slice-read-add-turned c = (start c.before.before.before.before).pre.3.newer_room
 
 add-turned-requires : tie.Need-add-turned-requires invariant-loop decreases-loop
 add-turned-requires c κs =
@@ -128,7 +128,7 @@ add-turned-requires c κs =
       s.pre.0,
       rows-length s a.k _ e,
       s.pre.1,
-      s.pre.3.older-room,
+      s.pre.3.older_room,
       subst (λ (xs : List ℕ). (t : ℕ) → t < a.size → (get_or xs t 0 ≤ get_or a.boxes.now (a.w.at + a.at + t) 0)
           × (get_or a.boxes.now (a.w.at + a.at + t) 0 ≤ get_or xs t 0 + get_or a.boxes.now (a.w.own + a.own) 0)
           × (turned (get_or xs t 0) (get_or a.boxes.now (a.w.at + a.at + t) 0) (get_or a.boxes.now (a.w.own + a.own) 0) ≤ 65535)) (sym e)

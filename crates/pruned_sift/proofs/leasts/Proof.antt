@@ -29,10 +29,10 @@ least-of-row-requires : tie.Need-least-of-row-requires invariant-loop decreases-
 least-of-row-requires c κs = let l = c.before.before in row_room (start l).requires l.loop.i (omega arith)
 
 mul-least : tie.Need-overflow-mul-least invariant-loop decreases-loop
-mul-least c = omega (arith, (start c.before.before.before).pre.around.few-rows)
+mul-least c = omega (arith, (start c.before.before.before).pre.around.few_rows)
 
 array-write-least : tie.Need-array-write-least invariant-loop decreases-loop
-array-write-least c = omega (arith, (start c.before.before.before).pre.around.few-rows)
+array-write-least c = omega (arith, (start c.before.before.before).pre.around.few_rows)
 
 add-i : tie.Need-overflow-add-i invariant-loop decreases-loop
 add-i c = omega arith
@@ -45,7 +45,7 @@ loop-again c =
     let o = c.before.before.before in
     let l = o.loop in
     let a = (start o).args in
-    let small : l.i < 33 = omega (arith, (start o).requires.around.few-rows) in (
+    let small : l.i < 33 = omega (arith, (start o).requires.around.few_rows) in (
       omega arith,
       simp length-set l.invariant.1,
       stored_more (λ k. least_from 4294967295 (λ j. get_or a.numbers.now j 0) (a.pitch * k) a.r.columns) l.least l.i _ (omega (arith, l.invariant.1)) l.invariant.2 c.least-of-row.ensures,

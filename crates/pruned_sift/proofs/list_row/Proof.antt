@@ -42,7 +42,7 @@ code_is l h =
 
 -- a column in reach, and room for its key
 column : (l : tie.At-loop invariant-loop decreases-loop) → l.loop.j < (start l).args.r.columns → (start l).args.r.left + l.loop.j < 33
-column l h = omega (arith, (start l).requires.0.around.few-columns)
+column l h = omega (arith, (start l).requires.0.around.few_columns)
 
 room : (l : tie.At-loop invariant-loop decreases-loop) → l.loop.j < (start l).args.r.columns → l.loop.n < length (start l).args.keys.now
 room l h =
@@ -65,10 +65,10 @@ mul-from : tie.Need-overflow-mul-from invariant-loop decreases-loop
 mul-from c = let s = c.before.before in omega (arith, place_small s.requires.0 s.args.i s.requires.1)
 
 add-code-of : tie.Need-overflow-add-code-of invariant-loop decreases-loop
-add-code-of c = let s = c.before.before.before in omega (arith, s.requires.0.around.few-rows, s.requires.1)
+add-code-of c = let s = c.before.before.before in omega (arith, s.requires.0.around.few_rows, s.requires.1)
 
 code-of-requires : tie.Need-code-of-requires invariant-loop decreases-loop
-code-of-requires c κs = let s = c.before.before.before in (omega arith, omega (arith, s.requires.0.around.few-rows, s.requires.1))
+code-of-requires c κs = let s = c.before.before.before in (omega arith, omega (arith, s.requires.0.around.few_rows, s.requires.1))
 
 loop-holds : tie.Need-loop-init invariant-loop decreases-loop
 unfolding list_to kept
@@ -88,7 +88,7 @@ add-keys-2 c =
     let l = c.before.before.before.before in
     let h = column l (omega arith) in
     let a = (start l).args in
-    let s : a.r.top + a.i < 33 = omega (arith, (start l).requires.0.around.few-rows, (start l).requires.1) in
+    let s : a.r.top + a.i < 33 = omega (arith, (start l).requires.0.around.few_rows, (start l).requires.1) in
     omega (arith, code_is l h, code_small (a.r.top + a.i) (a.r.left + l.loop.j) s h)
 
 mul-keys-2 : tie.Need-overflow-mul-keys-2 invariant-loop decreases-loop
@@ -129,7 +129,7 @@ loop-again c =
     let v = number_on a.numbers.now a.pitch a.r in
     let g : ℕ → ℕ = λ k. 64 * (a.r.top + a.i) + (a.r.left + k) in
     let h : l.j < a.r.columns = omega arith in
-    let d = number-on a.numbers.now a.pitch a.r a.i l.j (start o).requires.0.around.few-columns h in
+    let d = number-on a.numbers.now a.pitch a.r a.i l.j (start o).requires.0.around.few_columns h in
     let k = code_is o (column o h) ∙ key_of_spot (a.r.top + a.i) (a.r.left + l.j) (omega (arith, column o h)) in
     ⊎_elim
     (λ w.

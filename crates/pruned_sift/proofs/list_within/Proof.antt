@@ -39,10 +39,10 @@ unfolding concat_to kept
 loop-holds c = (omega arith, added_first _ 0)
 
 mul-if2 : tie.Need-overflow-mul-if2 invariant-loop decreases-loop
-mul-if2 c = omega (arith, (start c.before.before).pre.0.around.few-rows)
+mul-if2 c = omega (arith, (start c.before.before).pre.0.around.few_rows)
 
 element-copy-out-if2 : tie.Need-element-copy-out-if2 invariant-loop decreases-loop
-element-copy-out-if2 c = omega (arith, (start c.before.before).pre.0.around.few-rows)
+element-copy-out-if2 c = omega (arith, (start c.before.before).pre.0.around.few_rows)
 
 list-row-requires : tie.Need-list-row-requires invariant-loop decreases-loop
 list-row-requires c κs =

@@ -26,7 +26,7 @@ codes-of-requires c κs = omega arith
 
 least-of-row-requires : tie.Need-least-of-row-requires invariant-loop decreases-loop
 least-of-row-requires c κs =
-    omega (arith, c.least-of-row-arg.given.0, c.before.before.before.requires.0.around.few-rows)
+    omega (arith, c.least-of-row-arg.given.0, c.before.before.before.requires.0.around.few_rows)
 
 cast-best : tie.Need-overflow-cast-best invariant-loop decreases-loop
 cast-best c = search rules
@@ -41,22 +41,22 @@ loop-holds : tie.Need-loop-init invariant-loop decreases-loop
 loop-holds c = (omega arith, passed_first _ _ _)
 
 mul-if2 : tie.Need-overflow-mul-if2 invariant-loop decreases-loop
-mul-if2 c = omega (arith, (start c.before.before).pre.0.around.few-rows)
+mul-if2 c = omega (arith, (start c.before.before).pre.0.around.few_rows)
 
 element-copy-out-if2 : tie.Need-element-copy-out-if2 invariant-loop decreases-loop
-element-copy-out-if2 c = omega (arith, (start c.before.before).pre.0.around.few-rows)
+element-copy-out-if2 c = omega (arith, (start c.before.before).pre.0.around.few_rows)
 
 mul-row-keys : tie.Need-overflow-mul-row-keys invariant-loop decreases-loop
 mul-row-keys c = let l = c.before.before.before.before in omega (arith, place_small (start l).requires.0 l.loop.i (omega arith))
 
 add-row-keys : tie.Need-overflow-add-row-keys invariant-loop decreases-loop
-add-row-keys c = let l = c.before.before.before.before.before in omega (arith, (start l).requires.0.around.few-rows)
+add-row-keys c = let l = c.before.before.before.before.before in omega (arith, (start l).requires.0.around.few_rows)
 
 row-keys-requires : tie.Need-row-keys-requires invariant-loop decreases-loop
 row-keys-requires c κs =
     let l = c.before.before.before.before.before.before in
     let d = (start l).requires.0 in
-    (row_room d l.loop.i (omega arith), omega (arith, d.around.few-rows), d.around.few-columns, l.before.before.before.codes-of.ensures)
+    (row_room d l.loop.i (omega arith), omega (arith, d.around.few_rows), d.around.few_columns, l.before.before.before.codes-of.ensures)
 
 add-i : tie.Need-overflow-add-i invariant-loop decreases-loop
 add-i c = omega arith

@@ -31,29 +31,29 @@ mul-within-row c =
     omega (arith, place_small (start l).requires.0 l.loop.i (omega arith))
 
 mul-within-row-2 : tie.Need-overflow-mul-within-row-2 invariant-loop decreases-loop
-mul-within-row-2 c = omega (arith, (start c.before.before).pre.0.around.few-rows)
+mul-within-row-2 c = omega (arith, (start c.before.before).pre.0.around.few_rows)
 
 element-copy-out-within-row : tie.Need-element-copy-out-within-row invariant-loop decreases-loop
-element-copy-out-within-row c = omega (arith, (start c.before.before).pre.0.around.few-rows)
+element-copy-out-within-row c = omega (arith, (start c.before.before).pre.0.around.few_rows)
 
 within-row-requires : tie.Need-within-row-requires invariant-loop decreases-loop
 within-row-requires c κs =
     let l = c.before.before.before in
     let p = (start l).requires in
-    (row_room p.0 l.loop.i (omega arith), omega (arith, p.0.around.few-columns), λ j h. p.1 l.loop.i j (omega arith) h)
+    (row_room p.0 l.loop.i (omega arith), omega (arith, p.0.around.few_columns), λ j h. p.1 l.loop.i j (omega arith) h)
 
 mul-counts : tie.Need-overflow-mul-counts invariant-loop decreases-loop
 mul-counts c =
-    omega (arith, (start c.before.before.before.before).pre.0.around.few-rows)
+    omega (arith, (start c.before.before.before.before).pre.0.around.few_rows)
 
 element-write-counts : tie.Need-element-write-counts invariant-loop decreases-loop
-element-write-counts c = omega (arith, (start c.before.before.before.before).pre.0.around.few-rows)
+element-write-counts c = omega (arith, (start c.before.before.before.before).pre.0.around.few_rows)
 
 cast-n : tie.Need-overflow-cast-n invariant-loop decreases-loop
 cast-n c = search rules
 
 add-n : tie.Need-overflow-add-n invariant-loop decreases-loop
-add-n c = omega (arith, (start c.before.before.before.before).pre.0.around.few-rows)
+add-n c = omega (arith, (start c.before.before.before.before).pre.0.around.few_rows)
 
 add-i : tie.Need-overflow-add-i invariant-loop decreases-loop
 add-i c = omega arith
@@ -69,8 +69,8 @@ loop-again c =
     let a = s.args in
     let d = s.pre.0.around in
     let counted : ℕ → ℕ = λ k. length (within a.numbers.now a.pitch a.r a.most (row_spots a.r k)) in
-    let small : l.i < 33 = omega (arith, d.few-rows) in
-    let k = kept_in_row a.numbers.now a.pitch a.r a.most l.i d.few-columns in
+    let small : l.i < 33 = omega (arith, d.few_rows) in
+    let k = kept_in_row a.numbers.now a.pitch a.r a.most l.i d.few_columns in
     let e : c.within-row.result ≡ counted l.i = omega (arith, c.within-row.ensures, k) in (
       omega arith,
       simp length-set l.invariant.1,

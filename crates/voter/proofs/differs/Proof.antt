@@ -131,7 +131,7 @@ loop-again c =
     let column = rw e at l.invariant.3 in (
       omega arith,
       rw (c.before.smaller3.ensures, c.larger3.ensures)
-          (seen_more _ _ _ _ _ _ _ l.invariant.4 column.low-is column.high_is column.high_small),
+          (seen_more _ _ _ _ _ _ _ l.invariant.4 column.low_is column.high_is column.high_small),
     )
 
 cast-result : tie.Need-overflow-cast-result invariant-loop2 decreases-loop2 invariant-loop decreases-loop

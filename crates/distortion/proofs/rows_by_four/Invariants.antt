@@ -1,0 +1,17 @@
+-- `rows_by_four`: after g turns the sum is that of the first 4 × g rows as far as the ceiling goes, and the next row's place is 4 × g × width.
+use Prim.Native.Nat.{◌+◌, ◌-◌, ◌*◌, ◌≤◌}
+use mathlib.Core.Path.{◌≡◌, sym, ap₂, ◌∙◌}
+use native.Mathlib.Nat.{zero-add, zero-mul, add-mul, mul-le-mul, mul-le-mul_right}
+use native.Mathlib.Omega.{arith}
+use Rattle.base.specs.Index.{row_next}
+use Rattle.measures.specs.Measures.{measure_of, most_small}
+use Rattle.distortion.specs.Blocks.{rows_up_to, sum_up_to_none, sum_up_to_more, sum_up_to_passed}
+use Rattle.distortion.proofs.rows_by_four.Given as goal
+
+abbrev pub invariant-loop-g : goal.invariant-loop-g
+invariant-loop-g l =
+    (l.g ≤ l.groups) × (l.p ≡ 4 * l.g * l.width) × (l.sum ≤ l.g * (4 * (l.n * (measure_of l.measure).most)))
+    × (l.sum ≡ rows_up_to (measure_of l.measure) l.ceiling l.older l.newer l.width 0 0 l.n l.g)
+
+abbrev pub decreases-loop-g : goal.decreases-loop-g
+decreases-loop-g l = l.groups - l.g

@@ -1,0 +1,18 @@
+-- `rows_by_halves`: after g turns the total is that of the first g halves as far as the ceiling goes; p and q are the places of the next two.
+use Prim.Native.Nat.{◌+◌, ◌-◌, ◌*◌, ◌≤◌}
+use mathlib.Core.Path.{◌≡◌, sym, ap₂, ◌∙◌}
+use native.Mathlib.Nat.{zero-add, zero-mul, mul-le-mul_right}
+use native.Mathlib.Omega.{arith}
+use Rattle.base.specs.Index.{row_next}
+use Rattle.measures.specs.Measures.{measure_of, most_small}
+use Rattle.distortion.specs.Blocks.{half, halves_up_to, sum_up_to_none, sum_up_to_more, sum_up_to_passed}
+use Rattle.distortion.proofs.Rows.{half_below, half-inside}
+use Rattle.distortion.proofs.rows_by_halves.Given as goal
+
+abbrev pub invariant-loop-g : goal.invariant-loop-g
+invariant-loop-g l =
+    (l.g ≤ 16) × (l.p ≡ half l.width l.g) × (l.q ≡ half l.width (l.g + 1)) × (l.total ≤ l.g * (4 * (16 * (measure_of l.measure).most)))
+    × (l.total ≡ halves_up_to (measure_of l.measure) l.ceiling l.older l.newer l.width 0 0 l.g)
+
+abbrev pub decreases-loop-g : goal.decreases-loop-g
+decreases-loop-g l = 16 - l.g
