@@ -1,0 +1,21 @@
+-- `rows_measured`: after so many rows the sum is theirs, none before has passed the ceiling, and the next row begins so many widths on.
+use Prim.Native.Nat.{◌+◌, ◌-◌, ◌*◌, ◌≤◌, ◌<◌}
+use mathlib.Core.Path.{◌≡◌, sym, ap, ◌∙◌}
+use native.Mathlib.Nat.{le_of_lt, zero-mul, mul-le-mul, mul-le-mul_right}
+use native.Mathlib.Omega.{arith}
+use Rattle.base.specs.Index.{row_next}
+use Rattle.base.specs.Sum.{sum_to_none, sum_to_more}
+use Rattle.measures.specs.Measures.{measure_of, most_small}
+use Rattle.distortion.specs.Blocks.{row_from, rows_from, size_small}
+use Rattle.measuring.specs.Measurement.{rows_measured}
+use Rattle.measuring.proofs.Passing.{rows_none, rows_more, rows_passed}
+use Rattle.measuring.proofs.rows_measured.Given as goal
+
+abbrev pub invariant-loop-rows : goal.invariant-loop-rows
+invariant-loop-rows l =
+    (l.p ≡ l.a + l.rows * l.s.width) × (l.q ≡ l.b + l.rows * l.s.width) × (l.rows ≤ l.s.n) × (l.sum ≤ l.rows * (l.s.n * (measure_of l.s.measure).most))
+    × (l.sum ≡ rows_from (measure_of l.s.measure) l.older l.newer l.s.width l.a l.b l.s.n l.rows)
+    × (rows_measured l.ceiling (rows_from (measure_of l.s.measure) l.older l.newer l.s.width l.a l.b l.s.n) l.rows ≡ l.rows)
+
+abbrev pub decreases-loop-rows : goal.decreases-loop-rows
+decreases-loop-rows l = l.s.n - l.rows

@@ -1,0 +1,55 @@
+-- `measure_candidate`: the older block is the one that the vector names, and it lies inside.
+use mathlib.Core.Path.{◌≡◌, sym, ap, ◌∙◌}
+use borrow.Author.Rules.{rules}
+use lib.Dec.{T}
+use mir.Facts.{to_z-of_z}
+use Rattle.order.specs.declared.Vector.{Vector}
+use Rattle.order.specs.Vectors.{vec}
+use Rattle.base.specs.Tests.{T_true}
+use Rattle.frame.specs.Candidates.{candidate, older_at, older_row, older_column, candidate_older, older_is, older_no}
+use Rattle.distortion.specs.Blocks.{distortion}
+use Rattle.search.specs.Target.{target_of, of_candidate, measure_candidate}
+use Rattle.search.proofs.measure_candidate.Goals as goal
+use Rattle.search.proofs.measure_candidate.Goals.{After-block_up_to, After-older_at, In-At}
+
+-- what the call for the older block answers
+found : (o : After-older_at) →
+    o.older_at.result ≡ older_at o.args.b.setting o.args.b.w o.args.b.y o.args.b.x (vec o.args.dy o.args.dx)
+found o =
+    rw (to_z-of_z o.ranges.dy, to_z-of_z o.ranges.dx) at o.older_at.ensures
+
+at-candidate : (k : In-At) →
+    T (candidate k.args.b.setting k.args.b.w k.args.b.y k.args.b.x (vec k.args.dy k.args.dx))
+    × (k.in-At.r ≡ older_row k.args.b.y (vec k.args.dy k.args.dx))
+    × (k.in-At.c ≡ older_column k.args.b.x (vec k.args.dy k.args.dx))
+at-candidate k = older_is _ _ _ _ _ _ _ (sym (let found : k.older_at.result ≡ older_at k.args.b.setting k.args.b.w k.args.b.y k.args.b.x (vec k.args.dy k.args.dx) = rw (to_z-of_z k.ranges.dy, to_z-of_z k.ranges.dx) at k.older_at.ensures in found) ∙ k.in-At.is)
+
+pub returns-in_default : goal.returns-in_default
+unfolding measure_candidate
+returns-in_default c =
+    rw (older_no _ _ _ _ _ (sym (found (goal.at.returns-in_default c).After-older_at) ∙ c.in_default.is))
+
+pub block_up_to-requires : goal.block_up_to-requires
+block_up_to-requires c =
+    let h = at-candidate c in
+    let i = candidate_older c.args.b.setting _ c.args.b.y c.args.b.x (vec c.args.dy c.args.dx) h.0 in
+    record { placed = c.requires.placed; down = rw h.1 i.down; across = rw h.2 i.across }
+
+-- the candidate's answer is what its block answers
+answer : (u : After-block_up_to) →
+    measure_candidate (target_of u.args.older.now u.args.newer.now u.args.b) u.args.ceiling (vec u.args.dy u.args.dx) ≡ of_candidate u.block_up_to.result
+unfolding measure_candidate distortion
+answer u =
+    let h = (let at-candidate : T (candidate u.args.b.setting u.args.b.w u.args.b.y u.args.b.x (vec u.args.dy u.args.dx))
+    × (u.in-At.r ≡ older_row u.args.b.y (vec u.args.dy u.args.dx))
+    × (u.in-At.c ≡ older_column u.args.b.x (vec u.args.dy u.args.dx)) = older_is _ _ _ _ _ _ _ (sym (let found : u.older_at.result ≡ older_at u.args.b.setting u.args.b.w u.args.b.y u.args.b.x (vec u.args.dy u.args.dx) = rw (to_z-of_z u.ranges.dy, to_z-of_z u.ranges.dx) at u.older_at.ensures in found) ∙ u.in-At.is) in at-candidate) in
+    let yes = T_true (candidate u.args.b.setting u.args.b.w u.args.b.y u.args.b.x (vec u.args.dy u.args.dx)) h.0 in
+    rw (u.block_up_to.ensures, h.1, h.2, yes)
+
+pub returns-in_default-block_up_to : goal.returns-in_default-block_up_to
+unfolding of_candidate
+returns-in_default-block_up_to c = sym (answer (goal.at.returns-in_default-block_up_to c).After-block_up_to ∙ ap of_candidate c.in_default-block_up_to.is)
+
+pub returns : goal.returns
+unfolding of_candidate
+returns c = sym (answer (goal.at.returns c).After-block_up_to ∙ ap of_candidate c.in-Within.is)
