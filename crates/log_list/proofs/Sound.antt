@@ -57,4 +57,4 @@ module _ (h : Head) (list : List ℤ) where
 
 -- a number of the list, as it was read, and as it is passed on
 pub through : {z v : ℤ} → mag z < 2 ^ hbits w32 → z ≡ v → to_z w32 (of_z w32 z) ≡ v
-through h e = to_z-of_z (sfits_of h) ∙ e
+through h e = to_z-of_z (sfits_of {w = w32} h) ∙ e

@@ -24,9 +24,9 @@ fn clear(table: &mut [u32], n: usize)
 
 // One row of the table, at `here`: the row at `above`, with the sums of the pels from `from` on added.
 fn fill_row(frame: &[u8], from: usize, columns: usize, table: &mut [u32], above: usize, here: usize)
-    requires columns_bound { (columns ≤ 1024) × (from + columns ≤ length frame.now) }
-    requires columns_bound_2 { (above + columns < here) × (here + columns < length table.old) }
-    requires by_index { (c : ℕ) → c ≤ columns → get_or table.old (above + c) 0 ≤ 267386880 }
+    requires inside { (columns ≤ 1024) × (from + columns ≤ length frame.now) }
+    requires room { (above + columns < here) × (here + columns < length table.old) }
+    requires small { (c : ℕ) → c ≤ columns → get_or table.old (above + c) 0 ≤ 267386880 }
     ensures { table.new ≡ fill_to table.old here (next_row frame.now from table.old above) (columns + 1) }
 {
     let mut run: u32 = 0;

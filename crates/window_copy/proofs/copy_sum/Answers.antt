@@ -10,7 +10,7 @@ use Rattle.distortion.proofs.Rows.{rows_cut}
 use Rattle.window_copy.specs.Copy.{copy_rows}
 use Rattle.window_copy.proofs.Half.{copy_on, copy_passed}
 use Rattle.window_copy.proofs.copy_sum.Goals as goal
-use Rattle.window_copy.proofs.copy_sum.Goals.{At-loop-g, Joined-g-eq2, then-g-eq2, else-g-eq2}
+use Rattle.window_copy.proofs.copy_sum.Goals.{At-loop-g, Joined-g-eq2, then-g-eq2+else-ceiling-sum, else-g-eq2}
 
 -- half way down the sum is that of eight rows
 half : (l : At-loop-g) → l.loop-g.g ≡ 2 → let a = l.args in
@@ -22,7 +22,7 @@ on : (j : Joined-g-eq2) → let a = j.args in
     2 < j.loop-g.g + 1 → copy_rows a.window.now a.block.now a.at 8 ≤ a.ceiling
 on j h =
     elim j.if-g-eq2.branch [
-      then-g-eq2 w ↦ omega (arith, half j.before.before w.if-g-eq2.true, w.if-ceiling-sum.false)
+      then-g-eq2+else-ceiling-sum w ↦ omega (arith, rw w.if-g-eq2.true at j.loop-g.invariant.4, w.if-ceiling-sum.false)
       | else-g-eq2 w ↦ j.loop-g.invariant.5 (omega (arith, w.if-g-eq2.false))
     ]
 

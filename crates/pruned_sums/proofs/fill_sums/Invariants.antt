@@ -1,0 +1,18 @@
+-- `fill_sums`: after r turns the first r + 1 rows of the table are made (`SumsGoing`).
+use Prim.Native.Nat.{ℕ, ◌+◌, ◌-◌, ◌≤◌}
+use mathlib.Core.Path.{◌∙◌}
+use native.Mathlib.Nat.{add-mul}
+use native.Mathlib.Omega.{arith}
+use borrow.Author.Rules.{rules}
+use lib.ListN.{length, get_or}
+use Rattle.base.specs.Index.{row_next}
+use Rattle.pruned_sums.specs.Filling.{Fillable}
+use Rattle.pruned_sums.proofs.Rows.{SumsGoing, sums_first, sums_room, sums_pels, sums_small, sums_more, sums_last}
+use Rattle.pruned_sums.proofs.fill_sums.Given as goal
+
+abbrev pub invariant-loop-r : goal.invariant-loop-r
+invariant-loop-r l =
+    SumsGoing l.frame l.width (record { top = l.top; left = l.left; rows = l.rows; columns = l.columns }) l.initial.table l.table l.r l.from l.here
+
+abbrev pub decreases-loop-r : goal.decreases-loop-r
+decreases-loop-r l = l.rows - l.r
