@@ -1,0 +1,20 @@
+-- `finish`: the pass at 1, the test of step 6 and the last cross are the definition's.
+use mathlib.Core.Path.{ap, ◌∙◌}
+use native.Mathlib.Omega.{arith}
+use borrow.Author.Rules.{rules}
+use Rattle.search.specs.Target.{target_of}
+use Rattle.probe.specs.BestSoFar.{point, seen_of}
+use Rattle.probe.proofs.Looks.{holds_by}
+use Rattle.cross.specs.Cross.{on_diagonal, ended, finished}
+use Rattle.cross.proofs.finish.Goals as goal
+
+pub returns : goal.returns
+unfolding finished
+returns c =
+    let a = c.args in
+    let t = target_of a.older.now a.newer.now a.b in
+    let q = c.pass_at-q in
+    holds_by c.end.ensures
+    (ap (λ k. ended t k (seen_of q.result)) c.on_diagonal-plus_cross.ensures
+    ∙ ap (λ m. ended t (on_diagonal (point a.s.y a.s.x) m.best) m) q.ensures.is)
+    (omega arith)

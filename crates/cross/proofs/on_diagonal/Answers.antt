@@ -1,0 +1,13 @@
+-- `on_diagonal`: the table is the three points of step 6.
+use lib.Dec.{lit≤}
+use borrow.Author.Rules.{rules}
+use Rattle.probe.specs.BestSoFar.{pairs}
+use Rattle.cross.specs.Cross.{diagonal, on_diagonal}
+use Rattle.cross.proofs.on_diagonal.Goals as goal
+
+pub is_in-requires : goal.is_in-requires
+is_in-requires c = let q = c.requires in (q.2, q.3, q.0, q.1, lit≤ tt)
+
+pub returns : goal.returns
+unfolding on_diagonal diagonal pairs
+returns c = c.is_in.ensures

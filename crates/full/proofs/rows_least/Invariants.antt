@@ -1,0 +1,21 @@
+-- `rows_least`: before turn t the least is that of the rows nearer than t to the middle (`Led`).
+use Prim.Native.Nat.{ℕ, ◌-◌, ◌≤◌, ◌<◌}
+use mathlib.Core.Path.{◌≡◌}
+use native.Mathlib.Omega.{arith}
+use mathlib.Core.List.{List}
+use lib.Dec.{T}
+use lib.ListN.{length}
+use Rattle.base.specs.Lists.{list_to}
+use Rattle.refusals.specs.Refusals.{block_size_ok}
+use Rattle.distortion.specs.Blocks.{size_by, measure_by}
+use Rattle.reach.specs.Keys.{code_of}
+use Rattle.full.specs.Rows.{key_in_copy, Around}
+use Rattle.full.proofs.Reached.{Led, led_first, led_more, led_last}
+use Rattle.full.proofs.rows_least.Given as goal
+
+abbrev pub invariant-loop-t : goal.invariant-loop-t
+invariant-loop-t l =
+    (0 < l.t) × (l.t ≤ 17) × Led (key_in_copy (measure_by l.kernel) (size_by l.kernel) l.window l.block) l.r l.t l.best × (l.best < 1125899906842624)
+
+abbrev pub decreases-loop-t : goal.decreases-loop-t
+decreases-loop-t l = 17 - l.t

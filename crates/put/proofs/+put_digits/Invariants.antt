@@ -1,0 +1,5 @@
+-- `put_digits`: each call asks for one digit less.
+use Rattle.put.proofs.+put_digits.Given as goal
+
+abbrev pub decreases-put_digits : goal.decreases-put_digits
+decreases-put_digits l = l.most
