@@ -9,7 +9,7 @@ use native.Mathlib.Omega.{arith}
 use borrow.Author.Tests.{leb-true, leb-false}
 use lib.Dec.{leb}
 use lib.ListN.{length}
-use Rattle.base.specs.Least.{◌∈◌, FirstLeast, here, later}
+use Rattle.base.specs.Least.{◌∈◌, FirstLeast, here, later, first_mem}
 use Rattle.pruned_rule.specs.Sift.{kept, exceeding, total}
 
 -- ys are the members of ks within the limit and ns those over it, each in its order
@@ -51,6 +51,7 @@ parted_over {v} {l} (goes h r) m =
 
 -- a first least that is within the limit is still the first least of those within it
 pub parted_first : {v : ℕ → ℕ} {l : ℕ} {ks ys ns : List ℕ} {f : ℕ → ℕ} {a : ℕ} → v a ≤ l → Parted v l ks ys ns → FirstLeast f a ks → FirstLeast f a ys
+parted_first w empty r = absurd (Memᴰ.not-nil (first_mem r))
 parted_first w (stays h r) (here e g) = here e (λ k m. g k (parted_kept r m).0)
 parted_first w (stays h r) (later lt s) = later lt (parted_first w r s)
 parted_first {v} {l} w (goes h r) (here e g) = absurd (omega (arith, ap v e))

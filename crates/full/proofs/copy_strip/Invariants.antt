@@ -15,7 +15,7 @@ abbrev pub decreases-loop-c : goal.decreases-loop-c
 decreases-loop-c l = 8 - l.c
 
 abbrev pub invariant-loop-i : goal.invariant-loop-i
-invariant-loop-i l = (l.i ≤ 40) × Rowed (λ l.i k. get_or l.window (64 * l.i + l.j + k) 0) 8 l.initial.strip l.strip l.i
+invariant-loop-i l = (l.i ≤ 40) × Rowed (λ i k. get_or l.window (64 * i + l.j + k) 0) 8 l.initial.strip l.strip l.i
 
 abbrev pub decreases-loop-i : goal.decreases-loop-i
 decreases-loop-i l = 40 - l.i

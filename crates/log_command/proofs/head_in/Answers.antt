@@ -1,0 +1,9 @@
+-- `head_in`: the operands one by one.
+use borrow.Author.Rules.{rules}
+use Rattle.log_command.specs.Operands.{head_in}
+use Rattle.log_command.proofs.head_in.Goals as goal
+
+pub returns : goal.returns
+unfolding head_in
+returns c =
+    cc (c.two.ensures.0, c.two-2.ensures.0, c.wide_u8.ensures.0, c.wide_u8-2.ensures.0, c.wide_u8-3.ensures.0, c.measure_in.ensures)
