@@ -8,13 +8,13 @@
 use Rattle.std.specs.Prelude.{ℕ, zero, suc, ◌≡◌, refl, List, [], ◌∷◌, cond, eqb, ℤ, pos}
 use Rattle.log_head.specs.declared.Head.{Head}
 use Rattle.log_head.specs.Heads.{no_head}
-use Rattle.log.specs.declared.Phase.{Phase}
-use Rattle.log.specs.declared.Phase.TheVariants.{Start, Body, Ended, Over}
-use Rattle.log.specs.declared.Cursor.{Cursor}
+use Rattle.log_cursor.specs.declared.Phase.{Phase}
+use Rattle.log_cursor.specs.declared.Phase.TheVariants.{Start, Body, Ended, Over}
+use Rattle.log_cursor.specs.declared.Cursor.{Cursor}
 use Rattle.log_command.specs.declared.Command.{Command}
 use Rattle.log_command.specs.declared.Command.TheVariants as Cmd
 use Rattle.log_command.specs.Commands.{command_number}
-use Rattle.log.specs.Step.{step_at}
+use Rattle.log_cursor.specs.Step.{step_at}
 use Rattle.log_plain.specs.declared.Place.{Place}
 use Rattle.log_plain.specs.declared.Walked.{Walked}
 

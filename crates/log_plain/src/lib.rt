@@ -6,7 +6,7 @@ ghost use Rattle.std.specs.Prelude.{◌≡◌, pos};
 ghost use Rattle.log_head.specs.Heads.{no_head};
 ghost use Rattle.log_plain.specs.Plain.{cursor_of, plain_of, answer, answer_of, walk_from};
 
-use log::{Cursor, Phase};
+use log_cursor::{Cursor, Phase};
 use log_command::Command;
 use log_head::Head;
 
@@ -169,7 +169,7 @@ fn answer_of(command: Command, next: Place) -> Walked
 pub fn walk_from(log: &[u8], p: Place) -> Walked
     ensures { result ≡ walk_from log.now p }
 {
-    let s = log::step_at(log, cursor_of(p));
+    let s = log_cursor::step_at(log, cursor_of(p));
     let command = s.command;
     let next = s.next;
     answer_of(command, plain_of(next))

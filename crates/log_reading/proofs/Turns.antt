@@ -10,15 +10,15 @@ use lib.Dec.{ltb, eqb}
 use lib.IntN.{ℤ}
 use lib.ListN.{length, drop, length-append}
 use Rattle.log_head.specs.declared.Head.{Head}
-use Rattle.log.specs.declared.Cursor.{Cursor}
+use Rattle.log_cursor.specs.declared.Cursor.{Cursor}
 use Rattle.log_command.specs.declared.Command.{Command}
 use Rattle.log_command.specs.declared.Command.TheVariants as Cmd
-use Rattle.log.specs.declared.WalkStep.{WalkStep}
+use Rattle.log_cursor.specs.declared.WalkStep.{WalkStep}
 use Rattle.log_command.specs.Commands.{command_number, is_refused, block_values}
 use Rattle.log_head.specs.Heads.{head_blocks, largest_logged, entry}
 use Rattle.put.specs.Put.{StillToPut, rest_last, put_over, over_fits}
-use Rattle.log.specs.Step.{step_at, start_cursor}
-use Rattle.log.specs.Walk.{commands_from, commands_next, walk, log_head, last_of}
+use Rattle.log_cursor.specs.Step.{step_at, start_cursor}
+use Rattle.log_cursor.specs.Walk.{commands_from, commands_next, walk, log_head, last_of}
 use Rattle.log_walks.specs.Cases.{Kind, kinds}
 use Rattle.log_walks.specs.Cases as Cases
 use Rattle.log_walks.proofs.Ends.{last_after, refused_number, ends}

@@ -10,8 +10,8 @@ use Rattle.log_head.specs.declared.Head.{Head}
 use Rattle.log_command.specs.declared.Command.{Command}
 use Rattle.log_command.specs.Commands.{command_number, command_place, command_head, is_refused, block_values}
 use Rattle.log_head.specs.Heads.{no_head, head_blocks}
-use Rattle.log.specs.Step.{step_at, start_cursor}
-use Rattle.log.specs.Walk.{walk, last_of}
+use Rattle.log_cursor.specs.Step.{step_at, start_cursor}
+use Rattle.log_cursor.specs.Walk.{walk, last_of}
 use Rattle.log_reading.specs.declared.LogRead.{LogRead}
 
 unfoldable pub field_of : List Command → List ℤ

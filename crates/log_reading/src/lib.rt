@@ -6,7 +6,7 @@ ghost use Rattle.std.specs.Prelude.{◌≡◌, [], ◌∷◌, ◌++◌, ◌+◌,
 ghost use Rattle.put.specs.Put.{Put};
 ghost use Rattle.log_head.specs.Heads.{largest_logged};
 ghost use Rattle.log_command.specs.Commands.{block_values};
-ghost use Rattle.log.specs.Walk.{walk, last_of};
+ghost use Rattle.log_cursor.specs.Walk.{walk, last_of};
 ghost use Rattle.log_reading.specs.Reading.{field_of, refused_read, refused_by, log_read, read_result, read_log};
 ghost use Rattle.log_reading.specs.Storing.{stored_distortion};
 
@@ -45,14 +45,14 @@ fn refused_by(command: Command) -> LogRead
 fn walk_end(log: &[u8]) -> Command
     ensures { result ≡ last_of (walk log.now) }
 {
-    let mut cursor = log::start();
+    let mut cursor = log_cursor::start();
     let mut last = Command::Refused {
         number: 34,
         place: 0,
     };
     let mut left = log.len() + 1;
     while left > 0 {
-        let s = log::step_at(log, cursor);
+        let s = log_cursor::step_at(log, cursor);
         let command = s.command;
         let next = s.next;
         if log_command::is_refused(command) {
@@ -69,7 +69,7 @@ fn walk_end(log: &[u8]) -> Command
 fn log_read(log: &[u8], list: usize) -> LogRead
     ensures { result ≡ log_read log.now list }
 {
-    let s = log::step_at(log, log::start());
+    let s = log_cursor::step_at(log, log_cursor::start());
     let begun = s.command;
     let next = s.next;
     if log_command::is_refused(begun) {
@@ -112,11 +112,11 @@ fn fill(log: &[u8], list: &mut [i32])
     requires { length (field_of (walk log.now)) ≤ length list.old }
     ensures { list.new ≡ field_of (walk log.now) ++ drop (length (field_of (walk log.now))) list.old }
 {
-    let mut cursor = log::start();
+    let mut cursor = log_cursor::start();
     let mut at: usize = 0;
     let mut left = log.len() + 1;
     while left > 0 {
-        let s = log::step_at(log, cursor);
+        let s = log_cursor::step_at(log, cursor);
         let command = s.command;
         let next = s.next;
         at = store(list, at, command);

@@ -26,7 +26,7 @@ use Rattle.log_command.specs.declared.Command.{Command}
 use Rattle.log_command.specs.declared.Command.TheVariants as Cmd
 use Rattle.log_command.specs.Commands.{is_long, command_bytes, block_values}
 use Rattle.log_command.specs.Logs.{block_command, log_commands, log_of}
-use Rattle.log.specs.Walk.{walk, log_head}
+use Rattle.log_cursor.specs.Walk.{walk, log_head}
 use Rattle.log_list.specs.Listed.{listed_ok, AllPass}
 use Rattle.log_reading.specs.Reading.{field_of, accepted_read, read_result, read_log}
 use Rattle.log_line.specs.Line.{spaced, worded, line_of}

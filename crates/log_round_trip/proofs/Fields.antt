@@ -18,7 +18,7 @@ use Rattle.log_command.specs.Commands.{command_bytes, block_values}
 use Rattle.log_head.specs.Heads.{head_refusal, head_blocks, is_still, entry}
 use Rattle.log_command.specs.Logs.{block_command, log_commands, log_of}
 use Rattle.log_list.specs.Listed.{value_of}
-use Rattle.log.specs.Walk.{last_of}
+use Rattle.log_cursor.specs.Walk.{last_of}
 use Rattle.log_list.specs.Listed.{listed_ok}
 use Rattle.log_reading.specs.Reading.{field_of}
 use Rattle.base.specs.Fronts.{drop_front, flat_map_append}

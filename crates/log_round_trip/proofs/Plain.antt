@@ -7,11 +7,11 @@ use native.Mathlib.Omega.{arith}
 use borrow.Author.Tests.{ne_eqb}
 use lib.Dec.{eqb}
 use lib.ListN.{length}
-use Rattle.log.specs.declared.Cursor.{Cursor}
-use Rattle.log.specs.declared.WalkStep.{WalkStep}
+use Rattle.log_cursor.specs.declared.Cursor.{Cursor}
+use Rattle.log_cursor.specs.declared.WalkStep.{WalkStep}
 use Rattle.log_command.specs.Commands.{is_refused}
-use Rattle.log.specs.Step.{step_at, start_cursor}
-use Rattle.log.specs.Walk.{commands_from, walk}
+use Rattle.log_cursor.specs.Step.{step_at, start_cursor}
+use Rattle.log_cursor.specs.Walk.{commands_from, walk}
 use Rattle.log_plain.specs.declared.Place.{Place}
 use Rattle.log_plain.specs.Plain.{phase_of, cursor_of, plain_of, cursor_plain, answer_of, walk_from, answers_from, CommandsOf, none, more}
 use Rattle.log_walks.specs.Cases.{Kind, refused, head, block, still, end, kinds}

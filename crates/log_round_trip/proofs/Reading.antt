@@ -12,8 +12,8 @@ use lib.ListN.{length, drop}
 use Rattle.log_command.specs.declared.Command.TheVariants as Cmd
 use Rattle.log_command.specs.Commands.{command_number, is_refused}
 use Rattle.log_head.specs.Heads.{head_blocks}
-use Rattle.log.specs.Step.{step_at, start_cursor}
-use Rattle.log.specs.Walk.{walk, log_head, last_of}
+use Rattle.log_cursor.specs.Step.{step_at, start_cursor}
+use Rattle.log_cursor.specs.Walk.{walk, log_head, last_of}
 use Rattle.log_reading.specs.declared.LogRead.{LogRead}
 use Rattle.log_reading.specs.Reading.{field_of, refused_read, refused_by, accepted_read, log_read, read_result, read_log}
 use Rattle.log_walks.proofs.Accepted.{walk_begins, accepted_log}

@@ -16,8 +16,8 @@ use Rattle.frame.specs.Grid.{blocks_few}
 use Rattle.log_head.specs.Heads.{setting_in, head_blocks, headed}
 use Rattle.log_list.specs.Listed.{AllPass}
 use Rattle.log_command.specs.Logs.{log_commands, log_of}
-use Rattle.log.specs.declared.WalkStep.{WalkStep}
-use Rattle.log.specs.Walk.{walk, log_head, last_of}
+use Rattle.log_cursor.specs.declared.WalkStep.{WalkStep}
+use Rattle.log_cursor.specs.Walk.{walk, log_head, last_of}
 use Rattle.log_writing.specs.Writing.{write_result, write_log}
 use Rattle.log_reading.specs.Reading.{field_of, accepted_read, read_result, read_log}
 use Rattle.base.specs.Fronts.{flat_map_append}

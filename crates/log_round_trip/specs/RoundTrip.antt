@@ -10,13 +10,13 @@
 use Rattle.std.specs.Prelude.{ℕ, ◌+◌, ◌*◌, ◌≤◌, ◌<◌, ◌≡◌, ◌↔◌, true, List, [], ◌∷◌, ◌++◌, ℤ, length, take, drop}
 use Rattle.base.specs.Lists.{Each}
 use Rattle.log_head.specs.declared.Head.{Head}
-use Rattle.log.specs.declared.Cursor.{Cursor}
+use Rattle.log_cursor.specs.declared.Cursor.{Cursor}
 use Rattle.log_command.specs.declared.Command.TheVariants as Cmd
 use Rattle.log_command.specs.Commands.{command_number, is_refused}
 use Rattle.log_head.specs.Heads.{head_blocks}
 use Rattle.log_command.specs.Logs.{log_commands, log_of}
-use Rattle.log.specs.Step.{step_at, start_cursor}
-use Rattle.log.specs.Walk.{commands_from, walk, log_head, last_of}
+use Rattle.log_cursor.specs.Step.{step_at, start_cursor}
+use Rattle.log_cursor.specs.Walk.{commands_from, walk, log_head, last_of}
 use Rattle.log_plain.specs.Plain.{plain_of, answers_from, CommandsOf}
 use Rattle.log_writing.specs.Writing.{write_result, write_log}
 use Rattle.log_reading.specs.Reading.{field_of, accepted_read, read_result, read_log}

@@ -12,12 +12,12 @@ use Rattle.log_head.specs.Heads.{head_refusal, head_blocks}
 use Rattle.log_command.specs.declared.Command.{Command}
 use Rattle.log_command.specs.declared.Command.TheVariants as Cmd
 use Rattle.log_command.specs.Commands.{command_size, command_head, is_refused}
-use Rattle.log.specs.declared.Phase.{Phase}
-use Rattle.log.specs.declared.Phase.TheVariants.{Body}
-use Rattle.log.specs.declared.Cursor.{Cursor}
-use Rattle.log.specs.declared.WalkStep.{WalkStep}
-use Rattle.log.specs.Step.{body_command, command_step, step_of, body_step, step_at, start_cursor, body_cursor}
-use Rattle.log.specs.Walk.{commands_from, commands_next, walk}
+use Rattle.log_cursor.specs.declared.Phase.{Phase}
+use Rattle.log_cursor.specs.declared.Phase.TheVariants.{Body}
+use Rattle.log_cursor.specs.declared.Cursor.{Cursor}
+use Rattle.log_cursor.specs.declared.WalkStep.{WalkStep}
+use Rattle.log_cursor.specs.Step.{body_command, command_step, step_of, body_step, step_at, start_cursor, body_cursor}
+use Rattle.log_cursor.specs.Walk.{commands_from, commands_next, walk}
 use Rattle.log_walks.specs.Cases.{Kind, kinds}
 use Rattle.log_walks.specs.Cases as Cases
 use Rattle.log_walks.proofs.Ends.{goes_on}

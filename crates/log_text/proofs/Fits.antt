@@ -11,15 +11,15 @@ use native.Mathlib.Decide.{dec_lt}
 use borrow.Author.Tests.{lt-ltb, le-ltb}
 use lib.ListN.{length, length-append}
 use Rattle.put.specs.Put.{Put, over_front, put_over}
-use Rattle.log.specs.declared.Cursor.{Cursor}
+use Rattle.log_cursor.specs.declared.Cursor.{Cursor}
 use Rattle.log_command.specs.declared.Command.TheVariants as Cmd
-use Rattle.log.specs.declared.WalkStep.{WalkStep}
+use Rattle.log_cursor.specs.declared.WalkStep.{WalkStep}
 use Rattle.log_command.specs.Numbers.{bytes2, bytes4}
 use Rattle.log_command.specs.Commands.{is_long, is_refused}
 use Rattle.log_command.specs.Operands.{distortion_in}
 use Rattle.log_head.specs.Heads.{headed, entry}
-use Rattle.log.specs.Step.{step_at, start_cursor}
-use Rattle.log.specs.Walk.{commands_from, walk}
+use Rattle.log_cursor.specs.Step.{step_at, start_cursor}
+use Rattle.log_cursor.specs.Walk.{commands_from, walk}
 use Rattle.log_walks.specs.Cases.{Kind, kinds}
 use Rattle.log_line.specs.Line.{worded, line_of}
 use Rattle.log_line.proofs.Lengths.{Short, head_line, block_line, end_line, refused_words, refused_line, still_line}

@@ -16,9 +16,9 @@ use Rattle.put.specs.Put.{Put, rest_more}
 use Rattle.log_head.specs.declared.Head.{Head}
 use Rattle.log_head.specs.Heads.{head_refusal, head_blocks}
 use Rattle.log_command.specs.declared.Command.TheVariants as Cmd
-use Rattle.log.specs.declared.Phase.TheVariants.{Body}
-use Rattle.log.specs.Step.{command_step, body_cursor}
-use Rattle.log.specs.Walk.{commands_from, commands_next}
+use Rattle.log_cursor.specs.declared.Phase.TheVariants.{Body}
+use Rattle.log_cursor.specs.Step.{command_step, body_cursor}
+use Rattle.log_cursor.specs.Walk.{commands_from, commands_next}
 use Rattle.log_walks.proofs.Steps.{still_step}
 use Rattle.log_line.specs.Line.{line_of}
 use Rattle.log_text.specs.Stills.{still_run}

@@ -5,7 +5,7 @@
 use Rattle.std.specs.Prelude.{ℕ, ◌+◌, ◌*◌, cond, length, ltb}
 use mathlib.Core.List.{List, flat_map}
 use Rattle.log_command.specs.declared.Command.TheVariants as Cmd
-use Rattle.log.specs.Walk.{walk}
+use Rattle.log_cursor.specs.Walk.{walk}
 use Rattle.log_line.specs.Line.{line_of}
 
 abbrev pub longest_log : ℕ

@@ -5,15 +5,15 @@
 ghost use Rattle.std.specs.Prelude.{◌≡◌, ◌+◌, ◌*◌, ◌≤◌, ◌<◌, length, replicate};
 ghost use mathlib.Core.List.{flat_map};
 ghost use Rattle.put.specs.Put.{Put, over_front};
-ghost use Rattle.log.specs.Step.{body_cursor};
-ghost use Rattle.log.specs.Walk.{commands_from, walk};
+ghost use Rattle.log_cursor.specs.Step.{body_cursor};
+ghost use Rattle.log_cursor.specs.Walk.{commands_from, walk};
 ghost use Rattle.log_head.specs.Heads.{head_refusal};
 ghost use Rattle.log_command.specs.declared.Command.TheVariants as Cmd;
 ghost use Rattle.log_line.specs.Line.{line_of};
 ghost use Rattle.log_text.specs.Text.{longest_log, longest_text, print_log};
 ghost use Rattle.log_text.specs.Stills.{still_run};
 
-use log::{Cursor, Phase};
+use log_cursor::{Cursor, Phase};
 use log_head::Head;
 
 // A log that is printed has no more bytes, and its text no more than these: a byte of a log prints 6 at most, the refusal 20.
@@ -30,7 +30,7 @@ fn put_from(log: &[u8], out: &mut [u8], from: usize, start: Cursor, most: usize)
     let mut at = from;
     let mut calls = most;
     while calls > 0 {
-        let s = log::step_at(log, cursor);
+        let s = log_cursor::step_at(log, cursor);
         let command = s.command;
         let next = s.next;
         at = log_line::put_line(out, at, command);
@@ -86,7 +86,7 @@ fn put_body(log: &[u8], out: &mut [u8], from: usize, first: usize, head: Head) -
     let mut k: usize = 0;
     let mut at = from;
     while k < all {
-        let command = log::body_command(log, next, head, all, k);
+        let command = log_cursor::body_command(log, next, head, all, k);
         if log_command::is_refused(command) {
             return log_line::put_line(out, at, command);
         }
@@ -113,7 +113,7 @@ fn put_walk(log: &[u8], out: &mut [u8]) -> usize
     requires { length log.now ≤ longest_log }
     ensures { Put out.old 0 (flat_map line_of (walk log.now)) out.new result }
 {
-    let s = log::step_at(log, log::start());
+    let s = log_cursor::step_at(log, log_cursor::start());
     let first = s.command;
     let next = s.next;
     let at = log_line::put_line(out, 0, first);

@@ -3,7 +3,7 @@
 --   next_command  what a call hands out
 --   next_walker   the walker after it: the same lent log, at the next cursor
 use Rattle.log_command.specs.declared.Command.{Command}
-use Rattle.log.specs.Step.{step_at}
+use Rattle.log_cursor.specs.Step.{step_at}
 use Rattle.log_walker.specs.declared.Walker.{Walker}
 
 abbrev pub next_command : Walker → Command

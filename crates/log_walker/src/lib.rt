@@ -3,10 +3,10 @@
 #![tactic(auto)]
 
 ghost use Rattle.std.specs.Prelude.{◌≡◌};
-ghost use Rattle.log.specs.Step.{start_cursor};
+ghost use Rattle.log_cursor.specs.Step.{start_cursor};
 ghost use Rattle.log_walker.specs.Walkers.{next_command, next_walker};
 
-use log::Cursor;
+use log_cursor::Cursor;
 use log_command::Command;
 
 // A log that is walked, and where the walk stands.
@@ -22,7 +22,7 @@ pub fn walk<'a>(log: &'a [u8]) -> Walker<'a>
 {
     Walker {
         log,
-        cursor: log::start(),
+        cursor: log_cursor::start(),
     }
 }
 
@@ -31,7 +31,7 @@ impl<'a> Walker<'a> {
     pub fn next(&mut self) -> Command
         ensures { (result ≡ next_command self.old) × (self.new ≡ next_walker self.old) }
     {
-        let s = log::step_at(self.log, self.cursor);
+        let s = log_cursor::step_at(self.log, self.cursor);
         self.cursor = s.next;
         s.command
     }

@@ -13,17 +13,17 @@ use borrow.Author.Tests.{le-leb, eq-eqb}
 use lib.IntN.{pos}
 use lib.ListN.{length}
 use Rattle.log_head.specs.declared.Head.{Head}
-use Rattle.log.specs.declared.Phase.TheVariants.{Body, Ended}
-use Rattle.log.specs.declared.Cursor.{Cursor}
+use Rattle.log_cursor.specs.declared.Phase.TheVariants.{Body, Ended}
+use Rattle.log_cursor.specs.declared.Cursor.{Cursor}
 use Rattle.log_command.specs.declared.Command.{Command}
 use Rattle.log_command.specs.declared.Command.TheVariants as Cmd
-use Rattle.log.specs.declared.WalkStep.{WalkStep}
+use Rattle.log_cursor.specs.declared.WalkStep.{WalkStep}
 use Rattle.log_command.specs.Numbers.{be4}
 use Rattle.log_command.specs.Commands.{command_number, command_size, command_head, is_refused, block_values}
 use Rattle.log_head.specs.Heads.{head_refusal, head_blocks, entry_ok, is_still}
-use Rattle.log.specs.Step.{command_step, standing_ok, step_at, start_cursor}
+use Rattle.log_cursor.specs.Step.{command_step, standing_ok, step_at, start_cursor}
 use Rattle.log_command.specs.Operands.{head_in, block_in, dy_in, dx_in, distortion_in}
-use Rattle.log.specs.Walk.{commands_from, walk, log_head, last_of}
+use Rattle.log_cursor.specs.Walk.{commands_from, walk, log_head, last_of}
 use Rattle.log_walks.specs.Cases.{NoMore, Stands, past, unsound, ended, over, Kind, kinds}
 use Rattle.log_walks.specs.Cases as Cases
 use Rattle.log_walks.proofs.Ends.{last_after}

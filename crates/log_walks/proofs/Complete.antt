@@ -8,16 +8,16 @@ use lib.IntN.{ℤ}
 use lib.ListN.{length, drop, length-drop}
 use Rattle.base.specs.Lists.{list_to}
 use Rattle.log_head.specs.declared.Head.{Head}
-use Rattle.log.specs.declared.Phase.TheVariants.{Body, Ended}
-use Rattle.log.specs.declared.Cursor.{Cursor}
+use Rattle.log_cursor.specs.declared.Phase.TheVariants.{Body, Ended}
+use Rattle.log_cursor.specs.declared.Cursor.{Cursor}
 use Rattle.log_command.specs.declared.Command.{Command}
 use Rattle.log_command.specs.declared.Command.TheVariants as Cmd
 use Rattle.log_command.specs.Commands.{command_bytes, command_size, is_refused}
 use Rattle.log_head.specs.Heads.{head_refusal, head_blocks, entry_ok}
 use Rattle.log_command.specs.Logs.{block_command, log_commands, log_of}
 use Rattle.log_list.specs.Listed.{value_of}
-use Rattle.log.specs.Step.{command_step, refused_step, step_at, start_cursor}
-use Rattle.log.specs.Walk.{commands_from, walk}
+use Rattle.log_cursor.specs.Step.{command_step, refused_step, step_at, start_cursor}
+use Rattle.log_cursor.specs.Walk.{commands_from, walk}
 use Rattle.base.specs.Fronts.{list_from, list_to_from}
 use Rattle.log_walks.proofs.Made.{Made, as_still, as_block, made}
 use Rattle.log_walks.proofs.Steps.{room, behind, block_step, still_step, end_step, ended_step, head_step}

@@ -6,13 +6,13 @@ use mathlib.Core.Bool.{Bool, true, false, cond}
 use native.Mathlib.Omega.{arith}
 use lib.Dec.{ltb}
 use lib.ListN.{length}
-use Rattle.log.specs.declared.Cursor.{Cursor}
+use Rattle.log_cursor.specs.declared.Cursor.{Cursor}
 use Rattle.log_command.specs.declared.Command.{Command}
 use Rattle.log_command.specs.declared.Command.TheVariants as Cmd
-use Rattle.log.specs.declared.WalkStep.{WalkStep}
+use Rattle.log_cursor.specs.declared.WalkStep.{WalkStep}
 use Rattle.log_command.specs.Commands.{command_number, is_refused}
-use Rattle.log.specs.Step.{refused_step, step_at}
-use Rattle.log.specs.Walk.{commands_from, walk, last_of}
+use Rattle.log_cursor.specs.Step.{refused_step, step_at}
+use Rattle.log_cursor.specs.Walk.{commands_from, walk, last_of}
 use Rattle.log_walks.specs.Cases.{Kind, refused, head, block, still, end, kinds}
 
 -- where the walker stands after a command

@@ -16,7 +16,7 @@ use Rattle.log_command.specs.declared.Command.{Command}
 use Rattle.log_command.specs.Commands.{command_number, block_values}
 use Rattle.log_head.specs.Heads.{setting_in, largest_in, head_refusal, headed, head_blocks, entry_ok}
 use Rattle.log_list.specs.Listed.{value_of}
-use Rattle.log.specs.Walk.{walk, log_head, last_of}
+use Rattle.log_cursor.specs.Walk.{walk, log_head, last_of}
 use Rattle.log_walks.proofs.Accepted.{AcceptedFrom, last, block, still, accepted_log}
 use Rattle.log_walks.proofs.Whole.{value_next}
 

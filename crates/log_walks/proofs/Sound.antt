@@ -15,7 +15,7 @@ use Rattle.log_command.specs.Numbers.{be2, be4, bytes2, bytes4}
 use Rattle.log_command.specs.Commands.{carries, is_long, command_number, command_bytes, command_size}
 use Rattle.log_head.specs.Heads.{head_blocks}
 use Rattle.log_command.specs.Operands.{head_in, dy_in, dx_in, distortion_in, block_in}
-use Rattle.log.specs.Walk.{walk, last_of}
+use Rattle.log_cursor.specs.Walk.{walk, last_of}
 use Rattle.base.specs.Fronts.{drop_front}
 use Rattle.log_walks.proofs.Bytes.{Bytes, byte_at, bytes_be2, bytes_be4}
 use Rattle.log_walks.proofs.Accepted.{AcceptedFrom, last, block, still, accepted_log}

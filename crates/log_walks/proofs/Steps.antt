@@ -13,14 +13,14 @@ use lib.Seq.{get_or-drop, drop-drop, drop-append_seam}
 use Rattle.signed.specs.Int.{up, same}
 use Rattle.signed.specs.Values.{byte_of, signed_byte_of}
 use Rattle.log_head.specs.declared.Head.{Head}
-use Rattle.log.specs.declared.Phase.TheVariants.{Body, Ended}
-use Rattle.log.specs.declared.Cursor.{Cursor}
+use Rattle.log_cursor.specs.declared.Phase.TheVariants.{Body, Ended}
+use Rattle.log_cursor.specs.declared.Cursor.{Cursor}
 use Rattle.log_command.specs.declared.Command.TheVariants as Cmd
 use Rattle.log_command.specs.Numbers.{be2, be4, bytes2, bytes4}
 use Rattle.log_command.specs.Commands.{carries, is_long, head_number, block_number, command_bytes, size_by, head_size, block_size}
 use Rattle.log_head.specs.Heads.{head_refusal, headed, head_blocks, entry_ok, is_still, entry}
-use Rattle.log.specs.Step.{refused_step, command_step, judged, head_taken, block_passes, block_taken, end_taken, taken_yes}
-use Rattle.log.specs.Step.{start_command, body_command, body_step, standing_ok, step_at, start_cursor}
+use Rattle.log_cursor.specs.Step.{refused_step, command_step, judged, head_taken, block_passes, block_taken, end_taken, taken_yes}
+use Rattle.log_cursor.specs.Step.{start_command, body_command, body_step, standing_ok, step_at, start_cursor}
 use Rattle.log_command.specs.Operands.{head_in, dy_in, dx_in, distortion_in}
 
 -- ---- a log that goes on with some bytes at an offset

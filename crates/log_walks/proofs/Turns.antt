@@ -5,11 +5,11 @@ use mathlib.Core.List.{List, [], flat_map}
 use mathlib.Core.Bool.{Bool, cond}
 use Rattle.put.specs.Put.{Put, StillToPut, rest_more}
 use Rattle.log_command.specs.declared.Command.{Command}
-use Rattle.log.specs.declared.Cursor.{Cursor}
-use Rattle.log.specs.declared.WalkStep.{WalkStep}
+use Rattle.log_cursor.specs.declared.Cursor.{Cursor}
+use Rattle.log_cursor.specs.declared.WalkStep.{WalkStep}
 use Rattle.log_command.specs.Commands.{is_refused}
-use Rattle.log.specs.Step.{step_at}
-use Rattle.log.specs.Walk.{commands_from, commands_next}
+use Rattle.log_cursor.specs.Step.{step_at}
+use Rattle.log_cursor.specs.Walk.{commands_from, commands_next}
 
 pub turn : {A : Type 0} (f : Command → List A) {out m before whole : List A} {at k from : ℕ} (calls : ℕ) (log : List ℕ) (c : Cursor) (s : WalkStep) (t : Bool)
     → 0 < calls → s ≡ step_at log c → t ≡ is_refused s.command

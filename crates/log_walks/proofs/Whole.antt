@@ -14,7 +14,7 @@ use Rattle.log_head.specs.Heads.{head_blocks, is_still}
 use Rattle.log_command.specs.Logs.{block_command, log_commands}
 use Rattle.log_list.specs.Listed.{value_of}
 use Rattle.log_command.specs.Operands.{block_in, dy_in, dx_in, distortion_in}
-use Rattle.log.specs.Walk.{walk, log_head, last_of}
+use Rattle.log_cursor.specs.Walk.{walk, log_head, last_of}
 use Rattle.base.specs.Fronts.{list_to_front}
 use Rattle.log_walks.proofs.Accepted.{AcceptedFrom, last, block, still, accepted_log}
 

@@ -17,12 +17,12 @@ use Rattle.log_command.specs.declared.Command.TheVariants as Cmd
 use Rattle.log_command.specs.Numbers.{be4}
 use Rattle.log_command.specs.Commands.{command_number, command_size, size_by, head_size, block_size}
 use Rattle.log_command.specs.Operands.{head_in, dy_in, dx_in, distortion_in, block_in}
-use Rattle.log.specs.declared.Phase.{Phase}
-use Rattle.log.specs.declared.Phase.TheVariants.{Start, Body, Ended, Over}
-use Rattle.log.specs.declared.Cursor.{Cursor}
-use Rattle.log.specs.declared.WalkStep.{WalkStep}
-use Rattle.log.specs.Step.{judged, taken, head_taken, head_due, block_passes, block_taken, block_due, still_due, end_taken, end_due, start_command, body_command}
-use Rattle.log.specs.Step.{refused_step, command_step, step_of, standing_ok, body_step, by_phase, step_at, standing_head, standing_blocks}
+use Rattle.log_cursor.specs.declared.Phase.{Phase}
+use Rattle.log_cursor.specs.declared.Phase.TheVariants.{Start, Body, Ended, Over}
+use Rattle.log_cursor.specs.declared.Cursor.{Cursor}
+use Rattle.log_cursor.specs.declared.WalkStep.{WalkStep}
+use Rattle.log_cursor.specs.Step.{judged, taken, head_taken, head_due, block_passes, block_taken, block_due, still_due, end_taken, end_due, start_command, body_command}
+use Rattle.log_cursor.specs.Step.{refused_step, command_step, step_of, standing_ok, body_step, by_phase, step_at, standing_head, standing_blocks}
 
 -- "34 walker called after a refusal, or after its end with no byte left, or one built by hand"
 pub data NoMore (log : List ℕ) (c : Cursor) : Type 0 where

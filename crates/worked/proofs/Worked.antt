@@ -36,9 +36,9 @@ use Rattle.recent.specs.Recent.{no_travels, sum_held, parts_ok, places_more, rec
 use Rattle.track.specs.Track.{track_home, step_refusal, arrived}
 use Rattle.log_head.specs.Heads.{head_refusal, entry_ok, is_still}
 use Rattle.log_command.specs.Numbers.{be2, be4}
-use Rattle.log.specs.Step.{judged, taken, end_taken, standing_ok, start_command, body_command, step_at}
+use Rattle.log_cursor.specs.Step.{judged, taken, end_taken, standing_ok, start_command, body_command, step_at}
 use Rattle.log_command.specs.Operands.{head_in}
-use Rattle.log.specs.Walk.{commands_from, walk as logWalk, last_of}
+use Rattle.log_cursor.specs.Walk.{commands_from, walk as logWalk, last_of}
 use Rattle.log_command.specs.Logs.{block_command, log_commands, log_of}
 use Rattle.base.specs.FirstWrong.{first_wrong}
 use Rattle.log_list.specs.Listed.{list_refusal, list_verdict}

@@ -36,7 +36,7 @@ use Rattle.track.specs.Track.{homed_at, step_result}
 use Rattle.log_head.specs.declared.Head.{Head}
 use Rattle.log_command.specs.declared.Command.{Command}
 use Rattle.log_command.specs.declared.Command.TheVariants as Cmd
-use Rattle.log.specs.Walk.{walk}
+use Rattle.log_cursor.specs.Walk.{walk}
 use Rattle.log_writing.specs.Writing.{WriteResult, write_result, write_log}
 use Rattle.log_reading.specs.Reading.{ReadResult, read_result, refused_read, accepted_read, read_log}
 use Rattle.log_text.specs.Text.{print_log}

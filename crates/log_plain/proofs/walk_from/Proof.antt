@@ -2,8 +2,8 @@
 use mathlib.Core.Path.{◌≡◌, ap, ◌∙◌}
 use borrow.Author.Rules.{rules}
 use Rattle.log_plain.specs.Plain.{walk_from, plain_of, answer_of}
-use Rattle.log.specs.declared.WalkStep.{WalkStep}
-use Rattle.log.specs.Step.{step_at}
+use Rattle.log_cursor.specs.declared.WalkStep.{WalkStep}
+use Rattle.log_cursor.specs.Step.{step_at}
 use Rattle.log_plain.proofs.walk_from.Statement.{statement}
 use Rattle.log_plain.proofs.walk_from.Tie as tie
 

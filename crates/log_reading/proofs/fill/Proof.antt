@@ -6,7 +6,7 @@ use native.Mathlib.Omega.{arith}
 use borrow.Author.Rules.{rules}
 use mathlib.Core.List.{flat_map}
 use Rattle.log_reading.proofs.Turns.{store_room, stored, step_fits}
-use Rattle.log.specs.Walk.{commands_from, walk}
+use Rattle.log_cursor.specs.Walk.{commands_from, walk}
 use Rattle.log_reading.specs.Reading.{field_of}
 use Rattle.put.specs.Put.{StillToPut, rest_first}
 use Rattle.log_walks.proofs.Turns.{turn}

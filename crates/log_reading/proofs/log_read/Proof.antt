@@ -5,9 +5,9 @@ use native.Mathlib.Omega.{arith}
 use borrow.Author.Rules.{rules}
 use borrow.Author.Tests.{lt-ltb, le-ltb, eq-eqb, ne_eqb}
 use mathlib.Core.Bool.{false}
-use Rattle.log.specs.Step.{step_at, start_cursor}
+use Rattle.log_cursor.specs.Step.{step_at, start_cursor}
 use Rattle.log_command.specs.Commands.{command_number, command_head, is_refused}
-use Rattle.log.specs.Walk.{log_head}
+use Rattle.log_cursor.specs.Walk.{log_head}
 use Rattle.log_head.specs.Heads.{head_refusal}
 use Rattle.log_walks.proofs.Accepted.{begun}
 use Rattle.log_reading.specs.Reading.{log_read}

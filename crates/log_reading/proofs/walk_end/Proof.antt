@@ -3,7 +3,7 @@ use Prim.Native.Nat.{◌+◌, ◌≤◌, ◌<◌}
 use mathlib.Core.Path.{◌≡◌}
 use native.Mathlib.Omega.{arith}
 use borrow.Author.Rules.{rules}
-use Rattle.log.specs.Walk.{commands_from, walk, last_of}
+use Rattle.log_cursor.specs.Walk.{commands_from, walk, last_of}
 use mathlib.Core.List.{◌∷◌}
 use Rattle.log_reading.proofs.Turns.{end_first, end_turn}
 use lib.ListN.{length}

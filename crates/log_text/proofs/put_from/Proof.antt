@@ -6,7 +6,7 @@ use native.Mathlib.Omega.{arith}
 use borrow.Author.Rules.{rules}
 use mathlib.Core.List.{flat_map}
 use Rattle.put.specs.Put.{StillToPut, rest_first, rest_last}
-use Rattle.log.specs.Walk.{commands_from}
+use Rattle.log_cursor.specs.Walk.{commands_from}
 use Rattle.log_walks.proofs.Turns.{turn}
 use Rattle.log_line.specs.Line.{line_of}
 use Rattle.log_text.proofs.put_from.Statement.{statement}

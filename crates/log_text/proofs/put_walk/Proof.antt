@@ -4,7 +4,7 @@ use native.Mathlib.Omega.{arith}
 use borrow.Author.Rules.{rules}
 use mathlib.Core.Bool.{false}
 use Rattle.log_command.specs.Commands.{is_refused}
-use Rattle.log.specs.Step.{step_at, start_cursor}
+use Rattle.log_cursor.specs.Step.{step_at, start_cursor}
 use Rattle.log_text.proofs.Blocks.{walk_refused, walk_begun, walk_more}
 use Rattle.log_text.proofs.put_walk.Statement.{statement}
 use Rattle.log_text.proofs.put_walk.Tie as tie

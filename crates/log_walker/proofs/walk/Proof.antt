@@ -39,20 +39,20 @@ use denote.Triple.Clauses.{ensured, lasts}
 use denote.Triple.Walked.{says, Stays, stay_none_slice, walk_of, Goes-none_slice, Walks, ends_at, walked, walk_Meets}
 use denote.Exit.{yes}
 use Rattle.log_walker.specs.declared.Walker.{Walker}
-use Rattle.log.specs.declared.Cursor.{Cursor}
+use Rattle.log_cursor.specs.declared.Cursor.{Cursor}
 use Rattle.log_walker.specs.contracts.Walker as T
 use Rattle.log_walker.proofs.Walker.TheLaws as T'
-use Rattle.log.specs.contracts.Cursor as K
-use Rattle.log.proofs.Cursor.TheLaws as K'
+use Rattle.log_cursor.specs.contracts.Cursor as K
+use Rattle.log_cursor.proofs.Cursor.TheLaws as K'
 use Rattle.log_walker.specs.contracts.walk.Key.{name as #walker·walk}
 use Rattle.log_walker.specs.contracts.walk as walk
 use Rattle.log_walker.proofs.walk.Statement as stated
 use Rattle.log_walker.proofs.walk.Code as code
-use Rattle.log.specs.Step.{start_cursor}
-use Rattle.log.specs.contracts.start as start
-use Rattle.log.proofs.start.Symbol as start-def
-use Rattle.log.proofs.start.Symbol.{name as #log·start}
-use Rattle.log.proofs.start.Met as start-thm
+use Rattle.log_cursor.specs.Step.{start_cursor}
+use Rattle.log_cursor.specs.contracts.start as start
+use Rattle.log_cursor.proofs.start.Symbol as start-def
+use Rattle.log_cursor.proofs.start.Symbol.{name as #log·start}
+use Rattle.log_cursor.proofs.start.Met as start-thm
 
 abbrev stayed : Stays (walk.ended).signature.params (walk.ended).kept
 stayed = (stay_none_slice (0 ∷ []) tt (plain (λ _. u8)) yes, tt)

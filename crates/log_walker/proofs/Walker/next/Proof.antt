@@ -43,21 +43,21 @@ use denote.Triple.Spec.{Meets, triple_of}
 use denote.Triple.Table.{entered, cited}
 use denote.Triple.Walked.{says, Stays, stay_ref, walk_of, Goes-ref, Walks, ends_at, walked, walk_Meets}
 use denote.Triple.Clauses.{ensured, lasts}
-use Rattle.log.specs.Step.{step_at}
+use Rattle.log_cursor.specs.Step.{step_at}
 use Rattle.log_walker.specs.declared.Walker.{Walker}
-use Rattle.log.specs.declared.WalkStep.{WalkStep}
+use Rattle.log_cursor.specs.declared.WalkStep.{WalkStep}
 use Rattle.log_walker.specs.contracts.Walker as T
 use Rattle.log_walker.proofs.Walker.TheLaws as T'
-use Rattle.log.specs.contracts.WalkStep as S
-use Rattle.log.proofs.WalkStep.TheLaws as S'
-use Rattle.log.specs.contracts.Cursor as K
-use Rattle.log.proofs.Cursor.TheLaws as K'
+use Rattle.log_cursor.specs.contracts.WalkStep as S
+use Rattle.log_cursor.proofs.WalkStep.TheLaws as S'
+use Rattle.log_cursor.specs.contracts.Cursor as K
+use Rattle.log_cursor.proofs.Cursor.TheLaws as K'
 use Rattle.log_command.specs.contracts.Command as C
 use Rattle.log_command.proofs.Command.TheLaws as C'
-use Rattle.log.specs.contracts.step_at as step
-use Rattle.log.proofs.step_at.Symbol as step-def
-use Rattle.log.proofs.step_at.Symbol.{name as #log·step-at}
-use Rattle.log.proofs.step_at.Met as step_thm
+use Rattle.log_cursor.specs.contracts.step_at as step
+use Rattle.log_cursor.proofs.step_at.Symbol as step-def
+use Rattle.log_cursor.proofs.step_at.Symbol.{name as #log·step-at}
+use Rattle.log_cursor.proofs.step_at.Met as step_thm
 use Rattle.log_walker.specs.contracts.Walker.next.Key.{name as #walker·Walker·next}
 use Rattle.log_walker.specs.contracts.Walker.next as next
 use Rattle.log_walker.proofs.Walker.next.Statement as stated

@@ -1,0 +1,28 @@
+-- `copy_row`: after j turns the first j pels are copied.
+use Prim.Native.Nat.{◌+◌, ◌-◌, ◌≤◌}
+use mathlib.Core.Path.{◌≡◌, refl}
+use native.Mathlib.Omega.{arith}
+use borrow.Author.Rules.{rules}
+use lib.ListN.{length, get_or, length-set}
+use Rattle.base.specs.Lists.{fill_to, fill_none, fill_more}
+use Rattle.boxes.proofs.copy_row.Goals as goal
+
+pub loop-j-init : goal.loop-j-init
+loop-j-init c = (omega arith, fill_none _ _ _, refl)
+
+pub overflow_cast-boxes : goal.overflow_cast-boxes
+overflow_cast-boxes c = omega (arith, c.shared_slice_known-1.given (c.args.from + c.loop-j.j))
+
+pub loop-j-smaller : goal.loop-j-smaller
+loop-j-smaller c = omega arith
+
+pub loop-j-preserved : goal.loop-j-preserved
+loop-j-preserved c =
+    let l = c.loop-j in
+    (omega arith, rw l.invariant.1 (fill_more _ _ _ l.j (omega arith)), simp length-set (search rules))
+
+pub returns : goal.returns
+returns c =
+    let l = c.loop-j in
+    let e : l.j ≡ c.args.columns = omega arith in
+    rw e at l.invariant.1

@@ -1,0 +1,15 @@
+-- `copy_row`: after j turns the first j pels are copied.
+use Prim.Native.Nat.{◌+◌, ◌-◌, ◌≤◌}
+use mathlib.Core.Path.{◌≡◌, refl}
+use native.Mathlib.Omega.{arith}
+use borrow.Author.Rules.{rules}
+use lib.ListN.{length, get_or, length-set}
+use Rattle.base.specs.Lists.{fill_to, fill_none, fill_more}
+use Rattle.boxes.proofs.copy_row.Given as goal
+
+abbrev pub invariant-loop-j : goal.invariant-loop-j
+invariant-loop-j l =
+    (l.j ≤ l.columns) × (l.boxes ≡ fill_to l.initial.boxes l.at (λ i. get_or l.frame (l.from + i) 0) l.j) × (length l.boxes ≡ length l.initial.boxes)
+
+abbrev pub decreases-loop-j : goal.decreases-loop-j
+decreases-loop-j l = l.columns - l.j

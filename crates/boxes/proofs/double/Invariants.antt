@@ -1,0 +1,18 @@
+-- `double`: after t turns the first t boxes are stored; what they are made of stands before them.
+use Prim.Native.Nat.{ℕ, ◌+◌, ◌-◌, ◌≤◌, ◌<◌}
+use mathlib.Core.Path.{◌≡◌, refl}
+use native.Mathlib.Omega.{arith}
+use borrow.Author.Rules.{rules}
+use mir.Val.{Fits}
+use mir.Syntax.{w16}
+use lib.ListN.{length, get_or, length-set}
+use Rattle.base.specs.Lists.{fill_to, fill_none, fill_more, fill_before}
+use Rattle.boxes.specs.Boxes.{doubled}
+use Rattle.boxes.proofs.double.Given as goal
+
+abbrev pub invariant-loop-t : goal.invariant-loop-t
+invariant-loop-t l =
+    (l.t ≤ l.size) × (l.boxes ≡ fill_to l.initial.boxes l.to (doubled l.initial.boxes l.from l.m l.below) l.t) × (length l.boxes ≡ length l.initial.boxes)
+
+abbrev pub decreases-loop-t : goal.decreases-loop-t
+decreases-loop-t l = l.size - l.t

@@ -1,0 +1,77 @@
+-- `fill`: the pels, and then the boxes of twice the m each time.
+use Prim.Native.Nat.{ℕ, ◌≤◌}
+use mathlib.Core.Path.{◌≡◌, ap, sym, ◌∙◌, subst}
+use mathlib.Core.List.{List}
+use native.Mathlib.Omega.{arith}
+use lib.ListN.{get_or}
+use Rattle.frame.specs.declared.Region.{Region}
+use Rattle.refusals.specs.Refusals.{block_size}
+use Rattle.distortion.specs.Blocks.{Bytes}
+use Rattle.search.specs.Target.{Ready}
+use Rattle.reach.specs.Reach.{Standing, reach}
+use Rattle.reach.proofs.Candidates.{Bounds, reach_bounds, ready_standing}
+use Rattle.boxes.specs.Boxes.{window_pels, block_pels, span_of}
+use Rattle.boxes.proofs.Squares.{span_short, first_small, boxed}
+use Rattle.boxes.proofs.fill.Goals as goal
+use Rattle.boxes.proofs.fill.Goals.{After-span, Start}
+
+standing : (s : Start) → Standing s.args.b
+standing s = ready_standing _ _ _ (s.requires.0)
+
+few : (s : Start) → s.args.b.setting.n ≤ 32
+few s = (block_size _ (s.requires.0).placed.paired.allowed).most
+
+bounds : (s : Start) → Bounds s.args.b s.args.r
+bounds s = subst (λ (r : Region). Bounds s.args.b r) (sym s.requires.1) (reach_bounds s.args.b (let standing : Standing s.args.b = ready_standing _ _ _ (s.requires.0) in standing))
+
+pub copy_window-requires : goal.copy_window-requires
+copy_window-requires c =
+    (standing (goal.at.copy_window-requires c).Start, few (goal.at.copy_window-requires c).Start, omega (arith, (c.requires.0).placed.paired.older_whole), c.requires.1, omega (arith, c.requires.2))
+
+pub copy_block-requires : goal.copy_block-requires
+copy_block-requires c =
+    let p = (c.requires.0).placed.paired in
+    (standing (goal.at.copy_block-requires c).Start, few (goal.at.copy_block-requires c).Start, omega (arith, p.newer_whole), omega (arith, c.requires.2, c.copy_window.auto.boxes))
+
+pub span-requires : goal.span-requires
+span-requires c =
+    let k = bounds (goal.at.span-requires c).Start in
+    (few (goal.at.span-requires c).Start, k.rows, omega (arith, k.few_rows), omega (arith, k.few_columns))
+
+-- the pels as the two copies leave them
+pels-are : (c : After-span) → let a = c.args in
+    c.copy_block.new.boxes ≡ block_pels a.newer.now a.b (window_pels a.older.now a.b a.boxes.now)
+pels-are c =
+    let a = c.args in
+    c.copy_block.ensures
+    ∙ ap (λ (xs : List ℕ). block_pels a.newer.now a.b xs) c.copy_window.ensures
+
+-- a pel is a byte
+bytes : (c : After-span) → let a = c.args in
+    Bytes a.older.now × Bytes a.newer.now
+bytes c = (
+  λ k. omega (arith, c.shared_slice_known-1.given k),
+  λ k. omega (arith, c.shared_slice_known-2-1.given k),
+)
+
+pub fill_from_pels-requires : goal.fill_from_pels-requires
+fill_from_pels-requires c =
+    let k = bounds (goal.at.fill_from_pels-requires c).Start in
+    let p = pels-are c in (
+      (c.requires.0).placed.paired.allowed,
+      rw c.span.ensures (span_short c.args.b.setting.n c.args.r (omega (arith, k.few_rows)) (omega (arith, k.few_columns))),
+      omega (arith, c.requires.2, c.copy_window.auto.boxes, c.copy_block.auto.boxes),
+      λ u h.
+          subst (λ (xs : List ℕ). get_or xs u 0 ≤ 255) (sym p)
+          (first_small c.args.older.now c.args.newer.now c.args.b (c.requires.0) (bytes c).0 (bytes c).1 _ c.requires.2 c.requires.3 u h),
+    )
+
+pub shape_of-boxes : goal.shape_of-boxes
+shape_of-boxes c = c.fill_from_pels.auto.boxes ∙ c.copy_block.auto.boxes ∙ c.copy_window.auto.boxes
+
+pub returns : goal.returns
+returns c =
+    let n = c.args.b.setting.n in
+    let span : c.span.result ≡ span_of n (reach c.args.b) = c.span.ensures ∙ ap (λ (r : Region). span_of n r) c.requires.1 in
+    let f = rw (pels-are (goal.at.returns c).After-span, span) at c.fill_from_pels.ensures in
+    boxed _ _ _ (c.requires.0) (bytes (goal.at.returns c).After-span).0 (bytes (goal.at.returns c).After-span).1 _ c.requires.2 c.requires.3 _ f.0 f.1

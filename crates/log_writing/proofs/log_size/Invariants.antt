@@ -1,0 +1,18 @@
+-- `log_size`: the bytes of head and end, and those of each block.
+use Prim.Native.Nat.{◌+◌, ◌-◌, ◌*◌, ◌≤◌, ◌<◌}
+use mathlib.Core.Path.{◌≡◌, ap, ◌∙◌}
+use native.Mathlib.Omega.{arith}
+use borrow.Author.Rules.{rules}
+use Rattle.base.specs.Lists.{concat_to}
+use Rattle.log_head.specs.Heads.{head_blocks, entry}
+use Rattle.log_writing.specs.Parts.{head_bytes, block_bytes}
+use Rattle.log_writing.proofs.Bytes.{head_few, sized_first, sized_more, sized_all}
+use lib.ListN.{length}
+use Rattle.log_command.specs.Commands.{head_number, size_by, head_size}
+use Rattle.log_writing.proofs.log_size.Given as goal
+
+abbrev pub invariant-loop-k : goal.invariant-loop-k
+invariant-loop-k l = (l.k ≤ l.n) × (l.size ≤ 14 + 7 * l.k) × (l.size ≡ l.initial.size + length (concat_to (block_bytes l.list) l.k))
+
+abbrev pub decreases-loop-k : goal.decreases-loop-k
+decreases-loop-k l = l.n - l.k

@@ -1,0 +1,17 @@
+-- `put_blocks`: each turn puts one block behind those before it.
+use Prim.Native.Nat.{◌+◌, ◌-◌, ◌*◌, ◌≤◌, ◌<◌}
+use mathlib.Core.Path.{◌≡◌, refl, ◌∙◌}
+use native.Mathlib.Omega.{arith}
+use borrow.Author.Rules.{rules}
+use Rattle.put.specs.Put.{Put, put_none, put_then}
+use Rattle.base.specs.Lists.{concat_to, concat_to_more}
+use Rattle.log_head.specs.Heads.{head_blocks, entry}
+use Rattle.log_writing.specs.Parts.{block_bytes}
+use lib.ListN.{length}
+use Rattle.log_writing.proofs.put_blocks.Given as goal
+
+abbrev pub invariant-loop-k : goal.invariant-loop-k
+invariant-loop-k l = (l.k ≤ l.n) × (l.next ≤ 9 + 7 * l.k) × (length l.out ≡ length l.initial.out) × Put l.initial.out l.at (concat_to (block_bytes l.list) l.k) l.out l.next
+
+abbrev pub decreases-loop-k : goal.decreases-loop-k
+decreases-loop-k l = l.n - l.k

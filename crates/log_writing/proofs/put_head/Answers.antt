@@ -1,0 +1,40 @@
+-- `put_head`: each number of an accepted head fits its bytes, and they are put in order.
+use mathlib.Core.Path.{◌≡◌, ◌∙◌}
+use native.Mathlib.Omega.{arith}
+use borrow.Author.Rules.{rules}
+use Rattle.log_writing.specs.Parts.{head_bytes}
+use Rattle.put.specs.Put.{put_then}
+use Rattle.log_head.specs.Heads.{headed}
+use Rattle.log_writing.proofs.put_head.Goals as goal
+
+pub put_two-height-requires : goal.put_two-height-requires
+put_two-height-requires c = (omega arith, omega (arith, (headed _ c.requires).fitting.wide))
+
+pub put_two-n-requires : goal.put_two-n-requires
+put_two-n-requires c = (omega arith, omega (arith, (headed _ c.requires).fitting.high))
+
+pub overflow_cast-h : goal.overflow_cast-h
+overflow_cast-h c = omega (arith, (headed _ c.requires).size)
+
+pub overflow_cast-h-2 : goal.overflow_cast-h-2
+overflow_cast-h-2 c = omega (arith, (headed _ c.requires).window)
+
+pub overflow_cast-h-3 : goal.overflow_cast-h-3
+overflow_cast-h-3 c = omega (arith, (headed _ c.requires).searching)
+
+pub put_measure-requires : goal.put_measure-requires
+put_measure-requires c =
+    let sizes : c.put_two-n.result ≡ 5 = omega (arith, c.put_byte-width.ensures.place, c.put_two-height.ensures.place, c.put_two-n.ensures.place) in
+    omega (arith, sizes, c.put_byte-w.ensures.place, c.put_byte-search.ensures.place, c.put_byte-measure.ensures.place)
+
+pub shape_of-out : goal.shape_of-out
+shape_of-out c =
+    let last = c.put_measure.auto.out ∙ c.put_byte-measure.kept.0 ∙ c.put_byte-search.kept.0 ∙ c.put_byte-w.kept.0 in
+    last ∙ c.put_two-n.kept.0 ∙ c.put_two-height.kept.0 ∙ c.put_byte-width.kept.0
+
+pub returns : goal.returns
+unfolding head_bytes
+returns c =
+    let last = put_then c.put_byte-w.ensures (put_then c.put_byte-search.ensures (put_then c.put_byte-measure.ensures c.put_measure.ensures)) in
+    rw (← c.head_number.ensures)
+    (put_then c.put_byte-width.ensures (put_then c.put_two-height.ensures (put_then c.put_two-n.ensures last)))

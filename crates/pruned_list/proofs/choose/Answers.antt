@@ -1,0 +1,48 @@
+-- `choose`: the least key of those measured is carried along, from 2^50 - 1 on, which no key reaches.
+use Prim.Native.Nat.{ℕ, ◌-◌, ◌≤◌, ◌<◌}
+use mathlib.Core.Path.{◌≡◌, refl, ◌∙◌}
+use mathlib.Core.List.{List, ◌∷◌}
+use native.Mathlib.Omega.{arith}
+use borrow.Author.Rules.{rules}
+use lib.ListN.{get_or}
+use Rattle.base.specs.Lists.{list_to}
+use Rattle.base.specs.Least.{least_of, least_from}
+use Rattle.frame.specs.declared.SearchBlock.{SearchBlock}
+use Rattle.distortion.specs.Blocks.{Bytes}
+use Rattle.pruned_rule.specs.Spots.{vector_on}
+use Rattle.pruned_list.specs.Listed.{spot_of, distortion_to, measured_key}
+use Rattle.pruned_list.proofs.Measuring.{distortion_small, least_first, least_more}
+use Rattle.pruned_list.proofs.choose.Goals as goal
+use Rattle.pruned_list.proofs.choose.Invariants.{key_at}
+use Rattle.pruned_list.proofs.choose.Goals.{At-loop-i}
+
+bytes : (l : At-loop-i) → let a = l.args in Bytes a.older.now × Bytes a.newer.now
+bytes l = (
+  λ i. let h = l.shared_slice_known-1.given i in omega (arith, h),
+  λ i. let h = l.shared_slice_known-2-1.given i in omega (arith, h),
+)
+
+pub loop-i-init : goal.loop-i-init
+unfolding least_of least_from list_to
+loop-i-init c = (omega arith, omega arith, refl)
+
+pub lesser_measured-best-requires : goal.lesser_measured-best-requires
+lesser_measured-best-requires c =
+    let p = c.requires in
+    (p.0, p.3 c.loop-i.i (omega arith), c.loop-i.invariant.1)
+
+pub loop-i-preserved : goal.loop-i-preserved
+loop-i-preserved c =
+    let l = c.loop-i in
+    let a = c.args in
+    let f = key_at a.older.now a.newer.now a.b a.keys.now in
+    (omega arith, omega (arith, c.lesser_measured-best.ensures), rw (least_more 1125899906842623 f l.i, ← l.invariant.2) c.lesser_measured-best.ensures)
+
+pub returns : goal.returns
+returns c =
+    let l = c.loop-i in
+    let a = c.args in
+    let f = key_at a.older.now a.newer.now a.b a.keys.now in
+    let e : l.i ≡ a.count = omega arith in
+    let small = distortion_small _ _ _ c.requires.0 (bytes (goal.at.returns c).At-loop-i).0 (bytes (goal.at.returns c).At-loop-i).1 (vector_on (spot_of (get_or a.keys.now 0 0))) in
+    ((rw e at l.invariant.2) ∙ least_first 1125899906842623 f a.count c.requires.1 (omega (arith, small)), l.invariant.1)

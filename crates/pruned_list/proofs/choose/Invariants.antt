@@ -1,0 +1,26 @@
+-- `choose`: the least key of those measured is carried along, from 2^50 - 1 on, which no key reaches.
+use Prim.Native.Nat.{ℕ, ◌-◌, ◌≤◌, ◌<◌}
+use mathlib.Core.Path.{◌≡◌, refl, ◌∙◌}
+use mathlib.Core.List.{List, ◌∷◌}
+use native.Mathlib.Omega.{arith}
+use borrow.Author.Rules.{rules}
+use lib.ListN.{get_or}
+use Rattle.base.specs.Lists.{list_to}
+use Rattle.base.specs.Least.{least_of, least_from}
+use Rattle.frame.specs.declared.SearchBlock.{SearchBlock}
+use Rattle.distortion.specs.Blocks.{Bytes}
+use Rattle.pruned_rule.specs.Spots.{vector_on}
+use Rattle.pruned_list.specs.Listed.{spot_of, distortion_to, measured_key}
+use Rattle.pruned_list.proofs.Measuring.{distortion_small, least_first, least_more}
+use Rattle.pruned_list.proofs.choose.Given as goal
+
+-- the key at a place by its distortion
+abbrev pub key_at : List ℕ → List ℕ → SearchBlock → List ℕ → ℕ → ℕ
+key_at older newer b keys j = measured_key (distortion_to older newer b) (get_or keys j 0)
+
+abbrev pub invariant-loop-i : goal.invariant-loop-i
+invariant-loop-i l =
+    (l.i ≤ l.count) × (l.best < 1125899906842624) × (l.best ≡ least_of (λ k. k) (1125899906842623 ∷ list_to (key_at l.older l.newer l.b l.keys) l.i))
+
+abbrev pub decreases-loop-i : goal.decreases-loop-i
+decreases-loop-i l = l.count - l.i

@@ -1,0 +1,29 @@
+-- `keep_within`: of the keys passed those within the limit stand in front.
+use Prim.Native.Nat.{◌-◌}
+use mathlib.Core.Logic.{⊎_elim}
+use mathlib.Core.Path.{◌≡◌}
+use native.Mathlib.Omega.{arith}
+use borrow.Author.Rules.{rules}
+use Rattle.pruned_list.proofs.Turns.{Sifting, sifting_first, sifting_yes, sifting_no, sifting_last}
+use Rattle.pruned_list.proofs.keep_within.Goals as goal
+
+pub loop-from-init : goal.loop-from-init
+loop-from-init c = sifting_first _ _ _
+
+pub loop-from-preserved : goal.loop-from-preserved
+loop-from-preserved c =
+    let l = c.loop-from in
+    let t = c.loop-from-test.true in
+    ⊎_elim
+    (λ w. rw w.1 (sifting_yes l.invariant t (omega arith) (omega (arith, w.0.taken))))
+    (λ w. rw w.1 (sifting_no l.invariant t (omega arith) (omega (arith, w.0.left))))
+    c.if-key-limit.branch
+
+pub shape_of-keys : goal.shape_of-keys
+shape_of-keys c = c.loop-from.invariant.long
+
+pub returns : goal.returns
+returns c =
+    let l = c.loop-from in
+    let e : l.from ≡ c.args.count = omega arith in
+    sifting_last (rw e at l.invariant)

@@ -1,0 +1,31 @@
+-- `nearest`: the least of the keys passed is carried along.
+use Prim.Native.Nat.{◌-◌, ◌≤◌, ◌<◌}
+use mathlib.Core.Logic.{⊎_elim}
+use mathlib.Core.Path.{◌≡◌}
+use native.Mathlib.Omega.{arith}
+use borrow.Author.Rules.{rules}
+use lib.ListN.{take}
+use Rattle.base.specs.Least.{least_of, least_of_one, least_next_yes, least_next_no}
+use Rattle.pruned_list.specs.Listed.{nearest_key}
+use Rattle.pruned_list.proofs.nearest.Goals as goal
+
+pub loop-i-init : goal.loop-i-init
+loop-i-init c =
+    let a = c.args in
+    (omega arith, omega arith, least_of_one (λ k. k) a.keys.now (omega arith))
+
+pub loop-i-preserved : goal.loop-i-preserved
+loop-i-preserved c =
+    let l = c.loop-i in
+    let keys = c.args.keys.now in
+    ⊎_elim
+    (λ w. rw w.1 (omega arith, omega arith, least_next_yes (λ k. k) keys l.i l.least l.invariant.2 l.invariant.0 (omega arith) w.0.taken))
+    (λ w. rw w.1 (omega arith, omega arith, least_next_no (λ k. k) keys l.i l.least l.invariant.2 l.invariant.0 (omega arith) w.0.left))
+    c.if-key-least.branch
+
+pub returns : goal.returns
+unfolding nearest_key
+returns c =
+    let l = c.loop-i in
+    let e : l.i ≡ c.args.count = omega arith in
+    rw e at l.invariant.2
