@@ -22,7 +22,7 @@
  *   - `next` of gauge_walked, which keeps the cursor's `at` and has phase 3.
  * Memory that is lent to a refused call keeps what it held, but for refusals 33 and 52 of a step.
  *
- * Link with libgauge.a (`rt staticlib gauge` writes it to target/staticlib/), and with gauge_text.c beside this file for
+ * Link with libgauge.a (`rt lib` in crates/gauge/ writes it to crates/gauge/out/), and with gauge_text.c beside this file for
  * gauge_refusal_text.
  */
 #ifndef GAUGE_H
