@@ -5,8 +5,8 @@
 --   window_pels     an array with the pels of the search window in it, blockPels: and those of the block
 --   doubled        what four boxes of m, side by side and one below the other, add up to
 --   Cut            m is 1, 2, 4, 8 or 16, and at most N
---   area           the places of one m; levelAt: where the boxes of m stand, field_own: those of the block itself
---   span_of         the places from the first candidate to the last; window_places, ownPlaces: those that boxes of m fill
+--   area           the places of one m; level_at: where the boxes of m stand, own_at: those of the block itself
+--   span_of         the places from the first candidate to the last; window_places, own_places: those that boxes of m fill
 --   level_of        the places of m in numbers
 --   whole_of        the sum of 32 × 32 pels by four boxes of 16
 --   Levels         an array has the boxes of what stands in it at m = 1
@@ -57,8 +57,8 @@ area n = (n + 32) * (n + 32) + n * n
 abbrev pub level_at : ℕ → ℕ → ℕ
 level_at n m = log2 m * area n
 
-abbrev pub field_own : ℕ → ℕ → ℕ
-field_own n m = level_at n m + (n + 32) * (n + 32)
+abbrev pub own_at : ℕ → ℕ → ℕ
+own_at n m = level_at n m + (n + 32) * (n + 32)
 
 abbrev pub span_of : ℕ → Region → ℕ
 span_of n r = (n + 32) * (r.rows - 1) + r.columns
@@ -70,7 +70,7 @@ abbrev pub own_places : ℕ → ℕ → ℕ
 own_places n m = (n + 1) * (n - m) + 1
 
 abbrev pub level_of : ℕ → ℕ → Level
-level_of n m = record { m = m; k = n / m; at = level_at n m; own = field_own n m; pitch = n + 32; n = n }
+level_of n m = record { m = m; k = n / m; at = level_at n m; own = own_at n m; pitch = n + 32; n = n }
 
 abbrev pub whole_of : List ℕ → ℕ → ℕ → ℕ
 whole_of boxes at below = get_or boxes at 0 + get_or boxes (at + 16) 0 + (get_or boxes (at + below) 0 + get_or boxes (at + below + 16) 0)
@@ -78,13 +78,13 @@ whole_of boxes at below = get_or boxes at 0 + get_or boxes (at + 16) 0 + (get_or
 -- f: what stands at m = 1
 pub record Levels (f : ℕ → ℕ) (n span : ℕ) (boxes : List ℕ) : Type 0 where
   pub window : (m t : ℕ) → Cut n m → t < window_places n span m → get_or boxes (level_at n m + t) 0 ≡ box f (n + 32) m t
-  pub own : (m t : ℕ) → Cut n m → t < own_places n m → get_or boxes (field_own n m + t) 0 ≡ box (λ u. f ((n + 32) * (n + 32) + u)) n m t
+  pub own : (m t : ℕ) → Cut n m → t < own_places n m → get_or boxes (own_at n m + t) 0 ≡ box (λ u. f ((n + 32) * (n + 32) + u)) n m t
 
 -- and they are as small as those of pels
 pub record Filled (n span : ℕ) (boxes : List ℕ) : Type 0 where
   pub levels : Levels (λ u. get_or boxes u 0) n span boxes
   pub window_small : (m t : ℕ) → Cut n m → t < window_places n span m → get_or boxes (level_at n m + t) 0 ≤ 255 * m * m
-  pub own_small : (m t : ℕ) → Cut n m → t < own_places n m → get_or boxes (field_own n m + t) 0 ≤ 255 * m * m
+  pub own_small : (m t : ℕ) → Cut n m → t < own_places n m → get_or boxes (own_at n m + t) 0 ≤ 255 * m * m
 
 pub record Boxed (older newer : List ℕ) (b : SearchBlock) (boxes : List ℕ) : Type 0 where
   -- also at places that no candidate has
@@ -94,5 +94,5 @@ pub record Boxed (older newer : List ℕ) (b : SearchBlock) (boxes : List ℕ) :
       → get_or boxes (level_at b.setting.n m + ((b.setting.n + 32) * (i - (reach b).top + p * m) + (j - (reach b).left + q * m))) 0
       ≡ square_sum (older_block (pair_of older newer b.setting) b.y b.x (grid_vector i j)) m p q
   pub newer_square : (m p q : ℕ) → Cut b.setting.n m → p < b.setting.n / m → q < b.setting.n / m
-      → get_or boxes (field_own b.setting.n m + (b.setting.n * (p * m) + q * m)) 0
+      → get_or boxes (own_at b.setting.n m + (b.setting.n * (p * m) + q * m)) 0
       ≡ square_sum (newer_block (pair_of older newer b.setting) b.y b.x) m p q

@@ -117,8 +117,8 @@ fn copy_block(newer: &[u8], b: SearchBlock, boxes: &mut [u16])
 
 // Boxes of 2m from those of m, `below` being m rows.
 fn double(boxes: &mut [u16], from: usize, m: usize, below: usize, to: usize, size: usize)
-    requires size_bound { (from + below + m + size ≤ to) × (to + size ≤ length boxes.old) }
-    requires by_index { (u : ℕ) → from ≤ u → u < from + below + m + size → get_or boxes.old u 0 ≤ 16383 }
+    requires room { (from + below + m + size ≤ to) × (to + size ≤ length boxes.old) }
+    requires small { (u : ℕ) → from ≤ u → u < from + below + m + size → get_or boxes.old u 0 ≤ 16383 }
     ensures { boxes.new ≡ fill_to boxes.old to (doubled boxes.old from m below) size }
 {
     let mut t: usize = 0;

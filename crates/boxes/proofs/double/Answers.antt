@@ -14,13 +14,16 @@ use Rattle.boxes.proofs.double.Goals.{At-loop-t}
 -- what is read stands before what is stored
 read : (l : At-loop-t) (u : ℕ) → l.loop-t.t < l.args.size → u < l.args.to
     → get_or l.loop-t.boxes u 0 ≡ get_or l.args.boxes.now u 0
-read l u h k = rw l.loop-t.invariant.1 (fill_before _ _ _ l.loop-t.t u 0 (omega (arith, l.requires.0.1)) k)
+read l u h k = rw l.loop-t.invariant.1 (fill_before _ _ _ l.loop-t.t u 0 (omega (arith, l.requires.room.1)) k)
 
 -- and is small
 small : (l : At-loop-t) (u : ℕ) → let a = l.args in
     l.loop-t.t < a.size → a.from ≤ u → u < a.from + a.below + a.m + a.size → get_or l.loop-t.boxes u 0 ≤ 16383
-small l u h i j = rw ((let read : l.loop-t.t < l.args.size → u < l.args.to
-    → get_or l.loop-t.boxes u 0 ≡ get_or l.args.boxes.now u 0 = rw l.loop-t.invariant.1 (fill_before _ _ _ l.loop-t.t u 0 (omega (arith, l.requires.0.1)) k) in read) h (omega (arith, l.requires.0.0))) (l.requires.1 u i j)
+small l u h i j =
+    let k : u < l.args.to = omega (arith, l.requires.room.0) in
+    let e : get_or l.loop-t.boxes u 0 ≡ get_or l.args.boxes.now u 0 =
+    rw l.loop-t.invariant.1 (fill_before _ _ _ l.loop-t.t u 0 (omega (arith, l.requires.room.1)) k) in
+    rw e (l.requires.small u i j)
 
 -- so sums of two and of four fit
 two : (a b : ℕ) → a ≤ 16383 → b ≤ 16383 → Fits w16 (a + b)
@@ -48,8 +51,8 @@ pub loop-t-preserved : goal.loop-t-preserved
 loop-t-preserved c =
     let a = c.args in
     let t = c.loop-t.t in
-    let more = fill_more a.boxes.now a.to (doubled a.boxes.now a.from a.m a.below) t (omega (arith, c.requires.0.1)) in
-    let p = c.requires.0.0 in (
+    let more = fill_more a.boxes.now a.to (doubled a.boxes.now a.from a.m a.below) t (omega (arith, c.requires.room.1)) in
+    let p = c.requires.room.0 in (
       omega arith,
       rw (
         read (goal.at.loop-t-preserved c).At-loop-t (a.from + t) (omega arith) (omega (arith, p)),

@@ -61,10 +61,11 @@ pub double-requires : goal.double-requires
 double-requires c =
     let p = c.requires in
     let t = turn (goal.at.double-requires c).At-loop-m (omega arith) (λ e. omega arith) in
-    let a = c.area-next.ensures in (
-      (omega (arith, t, a), omega (arith, t, a)),
-      λ u h i. window_small _ _ _ p.0 p.1 p.2 p.3 _ _ _ c.loop-m.invariant (omega arith) (λ e. omega arith) u h i,
-    )
+    let a = c.area-next.ensures in
+    record {
+      room = (omega (arith, t, a), omega (arith, t, a));
+      small = λ u h i. window_small _ _ _ p.0 p.1 p.2 p.3 _ _ _ c.loop-m.invariant (omega arith) (λ e. omega arith) u h i;
+    }
 
 pub overflow_add-from-in-loop-m : goal.overflow_add-from-in-loop-m
 overflow_add-from-in-loop-m c = omega (arith, turn (goal.at.overflow_add-from-in-loop-m c).At-loop-m (omega arith) (λ e. omega arith), c.area-next.ensures)
@@ -94,13 +95,14 @@ double-requires-in-loop-m c =
     let a = c.area-next.ensures in
     let d = c.double in
     let one = rw a at d.ensures in
-    let long : length d.new.0 ≡ length c.loop-m.boxes =
-    ap length one ∙ one_long _ _ _ p.0 p.1 p.2 p.3 _ _ _ c.loop-m.invariant (omega arith) (λ e. omega arith) in (
-      (omega (arith, t, a), omega (arith, t, a, long)),
-      λ u h i.
+    let long : length d.new.boxes ≡ length c.loop-m.boxes =
+    ap length one ∙ one_long _ _ _ p.0 p.1 p.2 p.3 _ _ _ c.loop-m.invariant (omega arith) (λ e. omega arith) in
+    record {
+      room = (omega (arith, t, a), omega (arith, t, a, long));
+      small = λ u h i.
           subst (λ (xs : List ℕ). get_or xs u 0 ≤ 16383) (sym one)
-          (one_small _ _ _ p.0 p.1 p.2 p.3 _ _ _ c.loop-m.invariant (omega arith) (λ e. omega arith) u h i),
-    )
+          (one_small _ _ _ p.0 p.1 p.2 p.3 _ _ _ c.loop-m.invariant (omega arith) (λ e. omega arith) u h i);
+    }
 
 pub overflow_add-from-in-loop-m-4 : goal.overflow_add-from-in-loop-m-4
 overflow_add-from-in-loop-m-4 c = omega (arith, turn (goal.at.overflow_add-from-in-loop-m-4 c).At-loop-m (omega arith) (λ e. omega arith), c.area-next.ensures)
