@@ -6,6 +6,7 @@ use native.Mathlib.Omega.{arith}
 use borrow.Author.Rules.{rules}
 use Rattle.pruned_list.proofs.Turns.{Sifting, sifting_first, sifting_yes, sifting_no, sifting_last}
 use Rattle.pruned_list.proofs.keep_within.Goals as goal
+use Rattle.pruned_list.proofs.keep_within.Goals.{then-key-limit, else-key-limit}
 
 pub loop-from-init : goal.loop-from-init
 loop-from-init c = sifting_first _ _ _
@@ -14,10 +15,10 @@ pub loop-from-preserved : goal.loop-from-preserved
 loop-from-preserved c =
     let l = c.loop-from in
     let t = c.loop-from-test.true in
-    ⊎_elim
-    (λ w. rw w.1 (sifting_yes l.invariant t (omega arith) (omega (arith, w.0.taken))))
-    (λ w. rw w.1 (sifting_no l.invariant t (omega arith) (omega (arith, w.0.left))))
-    c.if-key-limit.branch
+    elim c.if-key-limit.branch [
+      then-key-limit w ↦ rw w.kept-is (sifting_yes l.invariant t (omega arith) (omega (arith, w.if-key-limit.true)))
+      | else-key-limit w ↦ rw w.kept-is (sifting_no l.invariant t (omega arith) (omega (arith, w.if-key-limit.false)))
+    ]
 
 pub shape_of-keys : goal.shape_of-keys
 shape_of-keys c = c.loop-from.invariant.long

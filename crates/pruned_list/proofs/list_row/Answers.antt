@@ -23,7 +23,7 @@ code_is l h =
 code-low : (l : At-loop-j) → l.args.left + l.loop-j.j < 33 → let a = l.args in
     l.code_of-down.result + get_or a.codes.now (a.left + l.loop-j.j) 0 < 262144
 code-low l h = rw ((let code_is : l.args.left + l.loop-j.j < 33 → let a = l.args in
-    l.code_of-down.result + get_or a.codes.now (a.left + l.loop-j.j) 0 ≡ order_code a.row (a.left + l.loop-j.j) = let a = l.args in
+    l.code_of-down.result + get_or a.codes.now (a.left + l.loop-j.j) 0 ≡ order_code a.row (a.left + l.loop-j.j) = λ h. let a = l.args in
     let j = a.left + l.loop-j.j in
     let column = ap (λ (k : List ℕ). get_or k j 0) l.requires.2 ∙ get_d_list_to (code_of 1) 33 j 0 h in
     ap₂ ◌+◌ l.code_of-down.ensures column ∙ code_parts a.row j in code_is) h) (code_small l.args.row (l.args.left + l.loop-j.j) l.requires.0 h)
