@@ -103,7 +103,7 @@ pub fn fill(
     count: usize,
 )
     requires near { Near boxes.now n m 0 × (r.rows ≤ 33) × (r.columns ≤ 33) × (count ≤ length keys.old) }
-    requires by_index { (i : ℕ) → i < count → InReach r (spot_of (get_or keys.old i 0) / 64) (spot_of (get_or keys.old i 0) % 64) }
+    requires reached { (i : ℕ) → i < count → InReach r (spot_of (get_or keys.old i 0) / 64) (spot_of (get_or keys.old i 0) % 64) }
     ensures { (keys.new ≡ fill_to keys.old 0 (λ i.
         renewed (get_or keys.old i 0) (looked_up measure boxes.now n m r (spot_of (get_or keys.old i 0)))) count)
         × Distanced measure boxes.now n m r keys.old count keys.new }

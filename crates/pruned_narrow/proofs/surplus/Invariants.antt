@@ -1,0 +1,15 @@
+-- `surplus`: after q turns the first q squares are summed.
+use Prim.Native.Nat.{◌+◌, ◌-◌, ◌*◌, ◌≤◌, ◌<◌}
+use mathlib.Core.Path.{◌≡◌, sym}
+use native.Mathlib.Omega.{arith}
+use borrow.Author.Rules.{rules}
+use lib.ListN.{length, get_or}
+use Rattle.base.specs.Sum.{sum_to, sum_to_none, sum_to_more}
+use Rattle.pruned_narrow.proofs.Sums.{next_le}
+use Rattle.pruned_narrow.proofs.surplus.Given as goal
+
+abbrev pub invariant-loop-q : goal.invariant-loop-q
+invariant-loop-q l = (l.q ≤ l.count) × (l.sum ≡ sum_to (λ i. get_or l.boxes (l.at + l.m * i) 0 - get_or l.own i 0) l.q)
+
+abbrev pub decreases-loop-q : goal.decreases-loop-q
+decreases-loop-q l = l.count - l.q

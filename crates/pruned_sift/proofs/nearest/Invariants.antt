@@ -1,0 +1,18 @@
+-- `nearest`: after i turns the least of the key that it begins with and those of the first i rows.
+use Prim.Native.Nat.{◌+◌, ◌-◌, ◌*◌, ◌≤◌}
+use mathlib.Core.Path.{◌≡◌}
+use mathlib.Core.Logic.{⊎_elim}
+use native.Mathlib.Omega.{arith}
+use borrow.Author.Rules.{rules}
+use lib.ListN.{get_or}
+use Rattle.full.proofs.Keys.{least_least}
+use Rattle.pruned_sift.specs.Laid.{key_in}
+use Rattle.pruned_sift.proofs.Sifted.{row_room, place_small}
+use Rattle.pruned_sift.proofs.Rows.{Passed, passed_first, passed_more, passed_last, lowered_keys, lowered_over, leasts_bound, bottom_some}
+use Rattle.pruned_sift.proofs.nearest.Given as goal
+
+abbrev pub invariant-loop-i : goal.invariant-loop-i
+invariant-loop-i l = (l.i ≤ l.r.rows) × Passed (key_in l.numbers l.pitch l.r) l.r (l.bottom * 262144 + 262143) l.i l.best
+
+abbrev pub decreases-loop-i : goal.decreases-loop-i
+decreases-loop-i l = l.r.rows - l.i
