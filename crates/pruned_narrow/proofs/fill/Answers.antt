@@ -56,28 +56,28 @@ module _ (s : Start) where
 
 pub fill_32-requires : goal.fill_32-requires
 fill_32-requires c =
-    let r = large-room c (whole_large _ _ c.requires.1 c.if-m-eq32.true) in
+    let r = large-room (goal.at.fill_32-requires c).Start (whole_large _ _ c.requires.1 c.if-m-eq32.true) in
     (r.0, r.1, c.requires.6)
 
 pub returns-then-m-eq32 : goal.returns-then-m-eq32
 returns-then-m-eq32 c =
     let e = c.if-m-eq32.true in
-    done c (omega (arith, whole_large _ _ c.requires.1 e)) _ _ (λ t. sym (number_whole (boxes c) (n c) (m c) e t)) c.fill_32.ensures
+    done (goal.at.returns-then-m-eq32 c).Start (omega (arith, whole_large _ _ c.requires.1 e)) _ _ (λ t. sym (number_whole c.args.boxes.now c.args.n c.args.m e t)) c.fill_32.ensures
 
 pub fill_quarters-requires : goal.fill_quarters-requires
 fill_quarters-requires c =
     let e = c.if-n-eq32.true in
-    let r = large-room c e in
-    (subst (λ (x : ℕ). Cut x (m c)) e (other_cut _ _ c.requires.1 c.if-m-eq32.false), r.0, c.requires.3, r.1, r.2, c.requires.6)
+    let r = large-room (goal.at.fill_quarters-requires c).Start e in
+    (subst (λ (x : ℕ). Cut x c.args.m) e (other_cut _ _ c.requires.1 c.if-m-eq32.false), r.0, c.requires.3, r.1, r.2, c.requires.6)
 
 pub returns-then-n-eq32 : goal.returns-then-n-eq32
 returns-then-n-eq32 c =
     let e = c.if-n-eq32.true in
-    let cut = other_cut (n c) (m c) c.requires.1 c.if-m-eq32.false in
-    done c (omega (arith, e)) _ _ (λ t. sym (number_other (boxes c) (n c) (m c) cut t ∙ ap (λ (x : ℕ). distance_at (boxes c) x (m c) t) e)) c.fill_quarters.ensures
+    let cut = other_cut c.args.n c.args.m c.requires.1 c.if-m-eq32.false in
+    done (goal.at.returns-then-n-eq32 c).Start (omega (arith, e)) _ _ (λ t. sym (number_other c.args.boxes.now c.args.n c.args.m cut t ∙ ap (λ (x : ℕ). distance_at c.args.boxes.now x c.args.m t) e)) c.fill_quarters.ensures
 
 -- neither is 32
-rest : (c : Else-n-eq32) → (n c ≤ 16) × Cut (n c) (m c)
+rest : (c : Else-n-eq32) → (c.args.n ≤ 16) × Cut c.args.n c.args.m
 rest c = (small _ c.requires.0 c.if-n-eq32.false, other_cut _ _ c.requires.1 c.if-m-eq32.false)
 
 pub level_of-l-requires : goal.level_of-l-requires
@@ -89,10 +89,10 @@ level_of-requires c = let r = rest (goal.at.level_of-requires c).Else-n-eq32 in 
 pub add_block-requires : goal.add_block-requires
 add_block-requires c =
     let q = rest (goal.at.add_block-requires c).Else-n-eq32 in
-    let r = ready c q.0 q.1 _ _ c.level_of-l.ensures c.level_of.ensures in
+    let r = ready (goal.at.add_block-requires c).Start q.0 q.1 _ _ c.level_of-l.ensures c.level_of.ensures in
     (omega (arith, c.requires.2, q.0), c.requires.6, r.0, r.1, λ t h. omega arith)
 
 pub returns : goal.returns
 returns c =
     let q = rest (goal.at.returns c).Else-n-eq32 in
-    done c (omega (arith, q.0)) _ _ (is-distance c q.0 q.1 _ _ c.level_of-l.ensures c.level_of.ensures) c.add_block.ensures
+    done (goal.at.returns c).Start (omega (arith, q.0)) _ _ (is-distance (goal.at.returns c).Start q.0 q.1 _ _ c.level_of-l.ensures c.level_of.ensures) c.add_block.ensures

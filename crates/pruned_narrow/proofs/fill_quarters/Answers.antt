@@ -82,15 +82,6 @@ module _ (c : After-level_of-h) where
     λ t ht. rw k.0 (omega (arith, filled_at numbers g size long t ht, k.1 t ht)),
   )
 
-one : (c : After-add_block) → Stored c c.add_block.new.numbers (λ t. 0 + of c 0 0 t) 65535
-one c = first c.before.before.before _ c.add_block.ensures
-
-two : (c : After-add_block-2) → Stored c c.add_block-2.new.numbers (λ t. 0 + of c 0 0 t + of c 16 16 t) 131070
-two c = more c 16 16 (parts c).1 _ _ _ _ (let one : Stored c c.add_block.new.numbers (λ t. 0 + of c 0 0 t) 65535 = first c.before.before.before.before.before _ c.add_block.ensures in one) c.add_block-2.ensures
-
-three : (c : After-add_block-3) → Stored c c.add_block-3.new.numbers (λ t. 0 + of c 0 0 t + of c 16 16 t + of c 1024 512 t) 196605
-three c = more c 1024 512 (parts c).2 _ _ _ _ (let two : Stored c c.add_block-2.new.numbers (λ t. 0 + of c 0 0 t + of c 16 16 t) 131070 = more c 16 16 (parts c).1 _ _ _ _ (let one : Stored c c.add_block.new.numbers (λ t. 0 + of c 0 0 t) 65535 = first c.before.before.before.before.before.before.before _ c.add_block.ensures in one) c.add_block-2.ensures in two) c.add_block-3.ensures
-
 pub level_of-l-requires : goal.level_of-l-requires
 level_of-l-requires c = (omega arith, c.requires.0)
 
@@ -98,24 +89,34 @@ pub level_of-h-requires : goal.level_of-h-requires
 level_of-h-requires c = (omega arith, cut_sixteen 32 (omega arith))
 
 pub add_block-requires : goal.add_block-requires
-add_block-requires c = (few c, (start c).requires.5, runs c, search (parts c), λ t h. omega arith)
+add_block-requires c =
+    let h = (goal.at.add_block-requires c).After-level_of-h in
+    (few h, c.requires.5, runs h, search (parts h), λ t h. omega arith)
 
 pub add_block-requires-2 : goal.add_block-requires-2
 add_block-requires-2 c =
-    let r = fits c _ _ _ (one (goal.at.add_block-requires-2 c).After-add_block) (omega arith) in
-    (few c, r.0, runs c, search (parts c), r.1)
+    let h = (goal.at.add_block-requires-2 c).After-level_of-h in
+    let r = fits h _ _ _ (first h _ c.add_block.ensures) (omega arith) in
+    (few h, r.0, runs h, search (parts h), r.1)
 
 pub add_block-requires-3 : goal.add_block-requires-3
 add_block-requires-3 c =
-    let r = fits c _ _ _ (two (goal.at.add_block-requires-3 c).After-add_block-2) (omega arith) in
-    (few c, r.0, runs c, search (parts c), r.1)
+    let h = (goal.at.add_block-requires-3 c).After-level_of-h in
+    let two = more h 16 16 (parts h).1 _ _ _ _ (first h _ c.add_block.ensures) c.add_block-2.ensures in
+    let r = fits h _ _ _ two (omega arith) in
+    (few h, r.0, runs h, search (parts h), r.1)
 
 pub add_block-requires-4 : goal.add_block-requires-4
 add_block-requires-4 c =
-    let r = fits c _ _ _ (three (goal.at.add_block-requires-4 c).After-add_block-3) (omega arith) in
-    (few c, r.0, runs c, search (parts c), r.1)
+    let h = (goal.at.add_block-requires-4 c).After-level_of-h in
+    let two = more h 16 16 (parts h).1 _ _ _ _ (first h _ c.add_block.ensures) c.add_block-2.ensures in
+    let r = fits h _ _ _ (more h 1024 512 (parts h).2 _ _ _ _ two c.add_block-3.ensures) (omega arith) in
+    (few h, r.0, runs h, search (parts h), r.1)
 
 pub returns : goal.returns
 returns c =
-    let m = more c 1040 528 (parts c).3 _ _ _ _ (three (goal.at.returns c).After-add_block-3) c.add_block-4.ensures in
-    m.0 ∙ fill_ext _ 0 _ _ _ (λ t h. total (start c) _ _ c.level_of-l.ensures c.level_of-h.ensures t)
+    let h = (goal.at.returns c).After-level_of-h in
+    let two = more h 16 16 (parts h).1 _ _ _ _ (first h _ c.add_block.ensures) c.add_block-2.ensures in
+    let three = more h 1024 512 (parts h).2 _ _ _ _ two c.add_block-3.ensures in
+    let m = more h 1040 528 (parts h).3 _ _ _ _ three c.add_block-4.ensures in
+    m.0 ∙ fill_ext _ 0 _ _ _ (λ t k. total (goal.at.returns c).Start _ _ c.level_of-l.ensures c.level_of-h.ensures t)

@@ -9,7 +9,6 @@ use Rattle.base.specs.Lists.{fill_to, length_fill}
 use Rattle.pruned_wide.specs.Wide.{places, kept, row_squares, Fours, Inside}
 use Rattle.pruned_wide.proofs.Rows.{runs_fours, four_more, four_least, run_more, run_inside, run_bound, first_inside, first_bound}
 use Rattle.pruned_wide.proofs.add_row.Goals as goal
-use Rattle.pruned_wide.proofs.add_row.Invariants.{first}
 use Rattle.pruned_wide.proofs.add_row.Goals.{At-loop-q, Start}
 
 long : (s : Start) → s.args.span ≤ length s.args.numbers.now
@@ -63,7 +62,7 @@ add_run-requires-2 c =
 pub loop-q-init : goal.loop-q-init
 loop-q-init c =
     let f = runs_fours _ c.requires.2 (λ e. omega arith) (λ e. omega arith) in
-    (four_least _ f, record { fours = 1; some = omega arith; is = omega arith }, λ d (kept long.args.fresh (get_or long.args.numbers.now e. 0)) e)
+    (four_least _ f, record { fours = 1; some = omega arith; is = omega arith }, λ d first long e. e)
 
 pub overflow_mul-m : goal.overflow_mul-m
 overflow_mul-m c = let h = older-in (goal.at.overflow_mul-m c).At-loop-q (omega arith) in search rules
@@ -102,7 +101,8 @@ loop-q-preserved c =
     let f = c.loop-q.invariant.1 in (
       four_more c.loop-q.q a.k f (fours (goal.at.loop-q-preserved c).At-loop-q) (omega arith),
       record { fours = f.fours + 1; some = omega arith; is = omega (arith, f.is) },
-      λ d (kept long.args.fresh (get_or long.args.numbers.now e. 0)) run_more a.boxes.now d (kept a.at.args.fresh (get_or a.at.args.numbers.now a.own 0)) a.m _ long c.loop-q.q 4 _ _ (c.loop-q.invariant.2 d (kept long.args.fresh (get_or long.args.numbers.now e 0))) c.add_run-in-loop-q.ensures,
+      λ d first long e.
+          run_more a.boxes.now d first a.at a.own a.m _ long c.loop-q.q 4 _ _ (c.loop-q.invariant.2 d first long e) c.add_run-in-loop-q.ensures,
     )
 
 pub returns : goal.returns

@@ -10,9 +10,6 @@ use Rattle.pruned_wide.specs.Wide.{places, kept, row_squares, Fours, Inside}
 use Rattle.pruned_wide.proofs.Rows.{runs_fours, four_more, four_least, run_more, run_inside, run_bound, first_inside, first_bound}
 use Rattle.pruned_wide.proofs.add_row.Given as goal
 
-abbrev pub first : (s : tie.Start invariant-loop decreases-loop) → ℕ → ℕ
-first s t = kept s.args.fresh (get_or s.args.numbers.now t 0)
-
 -- numbers₀: after the first run
 abbrev pub invariant-loop-q : goal.invariant-loop-q
 invariant-loop-q l =
