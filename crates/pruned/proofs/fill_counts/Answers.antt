@@ -8,14 +8,8 @@ use borrow.Author.Rules.{rules}
 use lib.ListN.{length, take, set, length-set, replicate, replicate-append-replicate}
 use lib.Seq.{take-suc-set, take_all}
 use Rattle.frame.specs.Pictures.{count_number}
-use Rattle.pruned.proofs.fill_counts.Statement.{statement}
-use Rattle.pruned.proofs.fill_counts.Tie as tie
-
-record Filling (from count : ℕ) (before counts : List ℕ) (slot : ℕ) : Type 0 where
-  low : from ≤ slot
-  high : slot ≤ count_number
-  long : length counts ≡ count_number
-  front : take slot counts ≡ take from before ++ replicate (slot - from) count
+use Rattle.pruned.proofs.fill_counts.Goals as goal
+use Rattle.pruned.proofs.fill_counts.Invariants.{Filling}
 
 filling-first : (from count : ℕ) (before : List ℕ) → from ≤ count_number → length before ≡ count_number → Filling from count before before from
 filling-first from count before h l =
@@ -41,37 +35,14 @@ filling-last {from} {count} {before} {counts} {slot} f h =
     let end : slot ≡ count_number = omega (arith, f.high) in
     sym (take_all slot counts (omega (arith, f.long))) ∙ f.front ∙ ap (λ (k : ℕ). take from before ++ replicate (k - from) count) end
 
-abbrev invariant-loop : tie.invariant-loop
-invariant-loop from count counts₀ slot₀ counts slot = Filling from count counts₀ counts slot
+pub loop-slot-init : goal.loop-slot-init
+loop-slot-init c = filling-first _ _ _ c.requires.1 c.requires.0
 
-abbrev decreases-loop : tie.decreases-loop
-decreases-loop from count counts₀ slot₀ counts slot = count_number - slot
+pub loop-slot-smaller : goal.loop-slot-smaller
+loop-slot-smaller c = omega arith
 
-loop-holds : tie.Need-loop-init invariant-loop decreases-loop
-loop-holds c = filling-first _ _ _ c.requires.1 c.requires.0
+pub loop-slot-preserved : goal.loop-slot-preserved
+loop-slot-preserved c = filling-more c.loop-slot.invariant c.loop-slot-test.true
 
-cast-counts : tie.Need-overflow-cast-counts invariant-loop decreases-loop
-cast-counts c = search rules
-
-mul-counts : tie.Need-overflow-mul-counts invariant-loop decreases-loop
-mul-counts c = search rules
-
-array-write-counts : tie.Need-array-write-counts invariant-loop decreases-loop
-array-write-counts c = search rules
-
-add-slot : tie.Need-overflow-add-slot invariant-loop decreases-loop
-add-slot c = search rules
-
-loop-less : tie.Need-loop-smaller invariant-loop decreases-loop
-loop-less c = omega arith
-
-loop-again : tie.Need-loop-preserved invariant-loop decreases-loop
-loop-again c = filling-more c.before.loop.invariant c.loop-test.true
-
-returns : tie.Need-returns invariant-loop decreases-loop
-returns c = filling-last c.before.loop.invariant (omega arith)
-
-pub fill-counts-spec : {M : Type 1} → statement M
-fill-counts-spec =
-    tie.close
-    (tie.spec invariant-loop decreases-loop loop-holds cast-counts mul-counts array-write-counts add-slot loop-less loop-again returns)
+pub returns : goal.returns
+returns c = filling-last c.loop-slot.invariant (omega arith)

@@ -1,0 +1,59 @@
+-- `answer`: full search's vector where many remain, or else the best of the listed.
+use Prim.Native.Nat.{◌/◌, ◌%◌, ◌≤◌}
+use mathlib.Core.Path.{◌≡◌, refl}
+use native.Mathlib.Omega.{arith}
+use borrow.Author.Rules.{rules, sfits_of}
+use mir.Facts.{to_z-of_z}
+use Rattle.pruned_rule.specs.Spots.{vector_on, choice_of}
+use Rattle.pruned_list.specs.Listed.{distance_of, distortion_to}
+use Rattle.pruned.proofs.Closing.{closing_room, closing_in, closing_chosen, full_answer}
+use mir.Syntax.{w32}
+use Rattle.pruned.proofs.answer.Goals as goal
+use Rattle.pruned.proofs.answer.Goals.{After-spot_of-spot, Else-q-gt-FEW}
+
+pub search-f-requires : goal.search-f-requires
+search-f-requires c = c.requires.0
+
+pub returns-then-q-gt-FEW : goal.returns-then-q-gt-FEW
+returns-then-q-gt-FEW c =
+    let a = c.args in
+    let (y, x, d) = full_answer a.older.now a.newer.now a.b _ c.search-f.ensures in
+    rw (to_z-of_z (sfits_of {w = w32} c.struct_told-1.given.1.0.1), to_z-of_z (sfits_of {w = w32} c.struct_told-1.given.1.1.0.1), y, x, d) refl
+
+low : (c : Else-q-gt-FEW) → c.args.q.count ≤ 64
+low c = omega (arith, c.if-q-gt-FEW.false)
+
+pub choose-key-requires : goal.choose-key-requires
+choose-key-requires c =
+    let p = c.requires in
+    (p.0, p.1.some, closing_room p.0 p.1 (low c), closing_in p.0 p.1 (low c))
+
+-- the best of the listed
+chosen : (c : After-spot_of-spot) → let a = c.args in
+    let v = choice_of a.b (distortion_to a.older.now a.newer.now a.b) in
+    (c.spot_of-spot.result / 64 ≤ 32) × (c.spot_of-spot.result % 64 ≤ 32) × (vector_on c.spot_of-spot.result ≡ v)
+    × (distance_of c.choose-key.result ≡ distortion_to a.older.now a.newer.now a.b v)
+chosen c =
+    let p = c.requires in
+    rw c.spot_of-spot.ensures (closing_chosen p.0 p.1 (let low : c.args.q.count ≤ 64 = omega (arith, c.if-q-gt-FEW.false) in low) c.choose-key.result c.choose-key.ensures.0)
+
+pub unbiased-requires : goal.unbiased-requires
+unbiased-requires c = (chosen c).0
+
+pub unbiased-requires-2 : goal.unbiased-requires-2
+unbiased-requires-2 c = (chosen (goal.at.unbiased-requires-2 c).After-spot_of-spot).1
+
+pub overflow_cast-result : goal.overflow_cast-result
+overflow_cast-result c = omega (arith, c.choose-key.ensures.1)
+
+pub returns : goal.returns
+returns c =
+    let k = chosen (goal.at.returns c).After-spot_of-spot in
+    rw (
+      to_z-of_z (sfits_of {w = w32} c.unbiased.type_inv),
+      to_z-of_z (sfits_of {w = w32} c.unbiased-2.type_inv),
+      c.unbiased.ensures,
+      c.unbiased-2.ensures,
+      k.3,
+      ← k.2,
+    ) refl

@@ -1,0 +1,53 @@
+-- `bound_of_all`: the nearest's distortion, at a resolution below N.
+use Prim.Native.Nat.{◌+◌, ◌≤◌, min}
+use mathlib.Core.Path.{◌≡◌, sym, ap, ◌∙◌}
+use native.Mathlib.Omega.{arith}
+use borrow.Author.Rules.{rules}
+use Rattle.refusals.specs.Refusals.{block_size}
+use Rattle.reach.proofs.Candidates.{ready_standing}
+use Rattle.pruned_rule.specs.Spots.{vector_on, choice_of}
+use Rattle.pruned_list.specs.Listed.{SpotIn, distortion_to}
+use Rattle.pruned_sift.specs.Laid.{Laid}
+use Rattle.pruned_sift.proofs.Distances.{laid}
+use Rattle.pruned.specs.Flow.{dist_of}
+use Rattle.pruned.proofs.Flow.{bound_same, bound_lowered}
+use Rattle.pruned.proofs.Steps.{nearest_all}
+use Rattle.pruned.proofs.bound_of_all.Goals as goal
+use Rattle.pruned.proofs.bound_of_all.Goals.{After-spot_of, Start}
+
+small : (s : Start) → s.args.b.setting.n ≤ 32
+small s = (block_size s.args.b.setting.n s.requires.0.placed.paired.allowed).most
+
+laid_in : (s : Start) → Laid s.args.numbers.now (s.args.b.setting.n + 32) s.args.r
+laid_in s =
+    let p = s.requires in
+    rw p.1 (laid s.args.b (ready_standing _ _ _ p.0) s.args.b.setting.n (let small : s.args.b.setting.n ≤ 32 = (block_size s.args.b.setting.n s.requires.0.placed.paired.allowed).most in small) s.args.numbers.now p.2)
+
+pub overflow_add-n : goal.overflow_add-n
+overflow_add-n c = omega (arith, small (goal.at.overflow_add-n c).Start)
+
+pub nearest-key-requires : goal.nearest-key-requires
+nearest-key-requires c = (laid_in (goal.at.nearest-key-requires c).Start, c.requires.4 c.if-m-n.true)
+
+-- the nearest of all
+near : (c : After-spot_of) → let a = c.args in
+    SpotIn a.b c.spot_of.result × (vector_on c.spot_of.result ≡ choice_of a.b (dist_of a.older.now a.newer.now a.b a.m))
+near c =
+    let p = c.requires in
+    rw c.spot_of.ensures
+    (nearest_all c.args.b (ready_standing _ _ _ p.0) (dist_of c.args.older.now c.args.newer.now c.args.b c.args.m) c.args.numbers.now p.3 c.args.r p.1 _ c.nearest-key.ensures)
+
+pub lowered-requires : goal.lowered-requires
+lowered-requires c = (c.requires.0, (near c).0)
+
+pub returns-then-m-n : goal.returns-then-m-n
+returns-then-m-n c =
+    let a = c.args in
+    c.lowered.ensures
+    ∙ ap (λ v. min a.e (distortion_to a.older.now a.newer.now a.b v)) (near (goal.at.returns-then-m-n c).After-spot_of).1
+    ∙ sym (bound_lowered a.older.now a.newer.now a.b a.m _ a.e c.if-m-n.true)
+
+pub returns : goal.returns
+returns c =
+    let a = c.args in
+    sym (bound_same a.older.now a.newer.now a.b a.m _ a.e (omega (arith, c.if-m-n.false)))

@@ -1,0 +1,89 @@
+-- `search`: blank paper at once, or else memory of zeros, as large as N asks for.
+use Prim.Native.Nat.{ℕ, ◌*◌, ◌≤◌, ◌<◌}
+use mathlib.Core.Path.{◌≡◌, refl, sym, ap, ◌∙◌}
+use mathlib.Core.Bool.{false}
+use native.Mathlib.Omega.{arith}
+use lib.ListN.{get_or, replicate, get_or-replicate}
+use Rattle.base.specs.Tests.{true_T}
+use Rattle.frame.specs.Pictures.{pair_of}
+use Rattle.frame.specs.declared.Region.{Region}
+use Rattle.refusals.specs.Refusals.{block_size}
+use Rattle.search.specs.Target.{still_cost}
+use Rattle.reach.proofs.Candidates.{ready_standing, reach_bounds}
+use Rattle.boxes.specs.Boxes.{area}
+use Rattle.boxes.proofs.Rooms.{array_large, array_small}
+use Rattle.pruned.specs.Answer.{still_distortion}
+use Rattle.pruned.specs.Flow.{blank_answer}
+use Rattle.pruned.proofs.Blank.{blank_is}
+use Rattle.pruned.proofs.Levels.{size_below, small_fits}
+use Rattle.pruned.proofs.search.Goals as goal
+use Rattle.pruned.proofs.search.Goals.{After-block_distortion-e}
+
+pub reach-r-requires : goal.reach-r-requires
+reach-r-requires c = ready_standing _ _ _ c.requires
+
+pub block_distortion-e-requires : goal.block_distortion-e-requires
+block_distortion-e-requires c = let p = c.requires.placed in record { placed = p; down = p.down; across = p.across }
+
+-- E begins as the distortion of (0,0)
+first-is : (c : After-block_distortion-e) → let a = c.args in
+    c.block_distortion-e.result ≡ still_distortion (pair_of a.older.now a.newer.now a.b.setting) a.b.y a.b.x
+first-is c = c.block_distortion-e.ensures ∙ sym (still_cost _ _ _)
+
+pub is_blank-requires : goal.is_blank-requires
+is_blank-requires c =
+    let p = c.requires in
+    (ready_standing _ _ _ p, p.placed.paired.allowed, c.reach-r.ensures, omega (arith, p.placed.paired.older_whole))
+
+pub blank_answer-requires : goal.blank_answer-requires
+blank_answer-requires c =
+    let d = reach_bounds c.args.b (ready_standing _ _ _ c.requires) in
+    let e = c.reach-r.ensures in
+    (c.requires.placed.paired.allowed, rw e (omega (arith, d.few_rows)), rw e (omega (arith, d.few_columns)))
+
+pub returns-then-is_blank : goal.returns-then-is_blank
+returns-then-is_blank c =
+    c.blank_answer.ensures
+    ∙ ap (λ (r : Region). blank_answer c.args.b.setting.n (r.rows * r.columns)) c.reach-r.ensures
+    ∙ blank_is c.args.older.now c.args.newer.now c.args.b c.requires c.block_distortion-e.result (first-is (goal.at.returns-then-is_blank c).After-block_distortion-e)
+    (true_T _ (sym c.is_blank.ensures ∙ c.if-is_blank.true))
+
+zeros : (k m : ℕ) → 5 * m ≤ k → (u : ℕ) → u < m → get_or {A = ℕ} (replicate k 0) u 0 ≤ 255
+zeros k m h u l = omega (arith, get_or-replicate {A = ℕ} k u 0 0 (omega arith))
+
+pub slice_bounds-search_with-end : goal.slice_bounds-search_with-end
+slice_bounds-search_with-end c = refl
+
+pub slice_bounds-search_with-end-then-s-eq32 : goal.slice_bounds-search_with-end-then-s-eq32
+slice_bounds-search_with-end-then-s-eq32 c = refl
+
+pub search_with-requires : goal.search_with-requires
+search_with-requires c =
+    let n = c.args.b.setting.n in
+    let h = array_large n (block_size n c.requires.placed.paired.allowed).most in
+    (c.requires, c.reach-r.ensures, h, zeros 25600 (area n) h, (omega arith, λ e. omega arith), first-is (goal.at.search_with-requires c).After-block_distortion-e)
+
+pub returns-then-s-eq32 : goal.returns-then-s-eq32
+returns-then-s-eq32 c = c.search_with.ensures
+
+pub slice_bounds-search_with-end-2 : goal.slice_bounds-search_with-end-2
+slice_bounds-search_with-end-2 c = refl
+
+pub slice_bounds-search_with-end-3 : goal.slice_bounds-search_with-end-3
+slice_bounds-search_with-end-3 c = refl
+
+pub search_with-requires-2 : goal.search_with-requires-2
+search_with-requires-2 c =
+    let n = c.args.b.setting.n in
+    let low = size_below n c.requires.placed.paired.allowed c.if-s-eq32.false in
+    let h = array_small n low in (
+      c.requires,
+      c.reach-r.ensures,
+      h,
+      zeros 12800 (area n) h,
+      (omega arith, λ e. absurd (true_T false (sym e ∙ small_fits c.args.b.setting low))),
+      first-is (goal.at.search_with-requires-2 c).After-block_distortion-e,
+    )
+
+pub returns : goal.returns
+returns c = c.search_with-2.ensures

@@ -1,0 +1,32 @@
+-- `search_with`: the boxes, then the tests.
+use Prim.Native.Nat.{suc, ◌*◌, ◌≤◌}
+use mathlib.Core.Path.{◌≡◌}
+use native.Mathlib.Nat.{le_refl}
+use native.Mathlib.Omega.{arith}
+use borrow.Author.Rules.{rules}
+use Rattle.pruned.proofs.Blocks.{block_size_power}
+use Rattle.pruned.proofs.search_with.Goals as goal
+
+pub fill-requires : goal.fill-requires
+fill-requires c = let p = c.requires in (p.0, p.1, p.2, p.3)
+
+pub tests-requires : goal.tests-requires
+tests-requires c =
+    let p = c.requires in
+    let f = c.fill in
+    let power = block_size_power c.args.b.setting.n p.0.placed.paired.allowed in (
+      record {
+        ready = p.0;
+        region = p.1;
+        boxed = f.ensures;
+        room = omega (arith, f.auto.boxes, p.2);
+        exponent = suc power.0;
+        power = power.1;
+        inside = le_refl _;
+      },
+      p.4,
+      p.5,
+    )
+
+pub returns : goal.returns
+returns c = c.tests.ensures
