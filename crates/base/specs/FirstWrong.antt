@@ -1,5 +1,5 @@
 -- The first of so many numbers, from k on, that a test turns away, or the one past the last.
---   wrong_more   a number that passes; wrong-here: one that does not; wrong-last: none is left
+--   wrong_more   a number that passes; wrong_here: one that does not; wrong_last: none is left
 --   before_wrong, all_right   all before it pass; where all pass it is the one past the last
 use Prim.Native.Nat.{ℕ, zero, suc, ◌+◌, ◌-◌, ◌≤◌, ◌<◌}
 use Rattle.std.specs.Prelude.{◌≡◌, Bool}

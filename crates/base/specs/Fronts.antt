@@ -1,8 +1,8 @@
 -- Lists by a rule, read from the front.
 --   list_to_front     g 0, then the others
---   list_from         g k, g (k + 1), .. of n places; listTo-from: list_to is that from 0
+--   list_from         g k, g (k + 1), .. of n places; list_to_from: list_to is that from 0
 --   drop_front       from a place on: n elements, then what lies behind them
---   flat_map_append   the lists of two lists' elements, one behind the other; flatMap-listTo: of a list by a rule
+--   flat_map_append   the lists of two lists' elements, one behind the other; flat_map_list_to: of a list by a rule
 use Prim.Native.Nat.{ℕ, zero, suc, ◌+◌, ◌≤◌}
 use Rattle.std.specs.Prelude.{◌≡◌, length, drop}
 use Rattle.std.proofs.Math.Path.{refl, ap, ap₂}

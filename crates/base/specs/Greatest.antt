@@ -1,7 +1,7 @@
 -- The first greatest of scores.
 --   most_to score n   of the numbers below n the one of the greatest score, the first where several are equal
---   most_one         of one; most-more: one score more, as most_yes (it is greater) and most_no say
---   most_below       it is one of them; most-ext: of equal scores
+--   most_one         of one; most_more: one score more, as most_yes (it is greater) and most_no say
+--   most_below       it is one of them; most_ext: of equal scores
 --   greatest         none of them has a greater score, and those before it have less
 use Rattle.std.specs.Prelude.{ℕ, zero, suc, ◌+◌, ◌≤◌, ◌<◌, ◌≡◌, refl, Bool, true, false, cond, ltb}
 use Rattle.std.proofs.Common.{sym, ap, ◌∙◌, subst, ⊎_elim, le_of_lt, not-suc-le-zero, le_of_suc-le-suc, eq-or-lt_of_le, add-one, arith, lt-ltb, le-ltb, ltb-true, ltb-false}

@@ -10,7 +10,7 @@
 --   7  the minimum of (m, n) and the ends of a cross (+): (m-1, n), (m, n-1), (m+1, n), (m, n+1)
 --   8  the minimum of (m, n) and the ends of a cross (X): (m-1, n-1), (m-1, n+1), (m+1, n-1), (m+1, n+1)
 -- The centre is not measured again. Here these are:
---   diagonal_cross   steps 4 and 8: the ends of a cross (X), at step size 1; plusCross: step 7: the ends of a cross (+)
+--   diagonal_cross   steps 4 and 8: the ends of a cross (X), at step size 1; plus_cross: step 7: the ends of a cross (+)
 --   pass            steps 3 and 4: the best by now is the centre, and the ends of a cross (X) at step size p are tried
 --   all_passes       step 5: passes, p halved after each, until p is 1
 --   on_diagonal      step 6: the minimum is the centre, or the point above and left of it, or the one below and right

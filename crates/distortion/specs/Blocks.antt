@@ -6,12 +6,12 @@
 --   distortion_by  the distortion of two N × N blocks by a measure
 --   measure_in     the measure of a pair
 --   distortion    of a pair: the newer block at (y, x) against the older block at (y + dy, x + dx)
---   row_from       a row's share of it, rows_from: of several rows, rowsApart: of rows that begin otherwise far apart in the two frames
+--   row_from       a row's share of it, rows_from: of several rows, rows_apart: of rows that begin otherwise far apart in the two frames
 --   partial_by     their partial distortion: the sum at the end of row m, rows counted from 1
 --   capped        a distortion under a ceiling. 02, request 5: "up to it, the distortion comes back; beyond it, only 'over'"
 --   rows_up_to      a distortion as far as a ceiling goes: sum_up_to of its rows, four at a time
 --   UpTo          what such a sum tells of the whole; BlockSum: of a block, that sum and what it tells
---   kernel_of      which code measures a block, one number for N and the measure; size_by and measureBy: back
+--   kernel_of      which code measures a block, one number for N and the measure; size_by and measure_by: back
 use Prim.Native.Nat.{ℕ, zero, suc, ◌+◌, ◌*◌, ◌/◌, ◌%◌, ◌≤◌, ◌<◌}
 use Rattle.std.proofs.Math.Path.{◌≡◌, refl, ap₂}
 use Rattle.std.proofs.Common.{sym, ap, ◌∙◌, add-suc, add-mul, mul-le-mul, mul-le-mul_right, add-one}

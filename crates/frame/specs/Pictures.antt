@@ -4,7 +4,7 @@
 --   Pair         an older and a newer frame, with their setting
 --   pel          the pel at a row and a column of a frame
 --   Fitting      a setting at which a block of N pels, whatever N is, fits a frame of at most 1,024 × 1,024
---   largest_n     32; largestDistortion: by a measure, 255 × N² or 65,025 × N² of it; countNumber: how many counts a search has, the last at last_count
+--   largest_n     32; largest_distortion: by a measure, 255 × N² or 65,025 × N² of it; count_number: how many counts a search has, the last at last_count
 use Rattle.std.specs.Prelude.{ℕ, ◌+◌, ◌-◌, ◌*◌, ◌≤◌, ◌<◌, List, get_or}
 use Rattle.std.proofs.Common.{arith}
 use Rattle.base.specs.Index.{row_fits, frame_small}

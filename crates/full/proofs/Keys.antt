@@ -1,5 +1,5 @@
 -- Keys along a row or column: the least of them, and that a distortion measured as far as the least so far goes is enough to find it.
---   least_first, least_more   before the first place, and one more; least-next: the same with the least at hand
+--   least_first, least_more   before the first place, and one more; least_next: the same with the least at hand
 --   least_low                 no more than what it began with
 --   least_cut                 n places, and m more behind them, each by itself
 --   least_least, least_some   no more than any; and one of them, or what it began with

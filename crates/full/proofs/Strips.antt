@@ -1,6 +1,6 @@
 -- Strips of the copied window: what they hold, and that their distortions are those of the frames.
 --   strip_key      what four rows of 16 pels and a place in the order make is the key of that row
---   twice_long     the block copied twice is as long as its array; twice-is: its second copy is as the first
+--   twice_long     the block copied twice is as long as its array; twice_is: its second copy is as the first
 --   key-in-strip   in reach, a strip has the key of that vector
 use Prim.Native.Nat.{ℕ, ◌+◌, ◌-◌, ◌*◌, ◌/◌, ◌%◌, ◌<◌, min}
 use mathlib.Core.Path.{◌≡◌, sym, ap, ap₂, ◌∙◌}

@@ -5,7 +5,7 @@
 --               limit   how far a distance at m may go for a bound E (search 2)
 --   absolute    01: "the sum of absolute pel differences"
 --   squares     "the sum of squared differences": Gharavi-Alkhansari's paper with exponent 2, where a vector is dropped "when it exceeds m² × E"
---   measure_of   the measure of a number that 51 lets pass, measureOk: 1 or 2
+--   measure_of   the measure of a number that 51 lets pass, measure_ok: 1 or 2
 use Rattle.std.specs.Prelude.{ℕ, ◌*◌, ◌≤◌, ◌<◌, ◌≡◌, Bool, true, false, cond, ◌&&◌, leb, eqb}
 use Rattle.std.proofs.Common.{mul-le-mul, arith, eq-eqb, ne_eqb}
 use Rattle.signed.specs.Values.{abs_diff}

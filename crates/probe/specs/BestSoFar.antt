@@ -1,6 +1,6 @@
 -- How the code holds what a search has seen: BestSoFar (src) keeps the best vector as dy + 16 and dx + 16, its distortion and the number measured.
 --   point      the vector that two such parts are
---   seen_of     what the search has seen; oneMore: with one more counted
+--   seen_of     what the search has seen; one_more: with one more counted
 --   offset     the vector of a pair [dy, dx]; pairs: those of a table of pairs
 --   Pattern    a table of at most nine offset pairs, each in window 2
 --   probe_new   a point is tried, where it is not among those of a list

@@ -2,7 +2,7 @@
 -- A point met again in a later step is measured and counted again; the centre is not." "Only a strictly smaller distortion replaces."
 --   origin, plus    (0,0), and the sum of two vectors
 --   Seen            the best vector by now, its distortion, the number measured
---   probe_point      one point is tried, and counted where it is a candidate; probe: points, in order; atOrigin: (0,0) alone
+--   probe_point      one point is tried, and counted where it is a candidate; probe: points, in order; at_origin: (0,0) alone
 --   around          a pattern's points from a centre: its offsets, each added to the centre; widened: the offsets times a step size p
 --   fresh           the points that are not among those of a list: is_in
 --   OwnDistortion   the best is a candidate, and the distortion is its own

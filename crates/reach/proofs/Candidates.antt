@@ -2,7 +2,7 @@
 --   ready_standing   a block that is ready to be searched
 --   reach_bounds     rows and columns of window 16, the middle ones among them, whose older blocks lie wholly inside the frame: Bounds
 --   reach_small      each is below 33
---   reach_yes        what stands there is a candidate; reach-in: nothing else is; reach-all: each candidate stands there
+--   reach_yes        what stands there is a candidate; reach_in: nothing else is; reach_all: each candidate stands there
 --   older-at         where the older block of a row and column stands
 --   sum_span         a sum whose terms are 0 but for some in a row
 --   reach_count      how many candidates there are

@@ -1,8 +1,8 @@
 -- The order's number has the preference order, and a key has its parts in it.
 --   code_precedes   the vector of the smaller number precedes; code_same: no two vectors have one number
 --   code_small      the number stays below the part of a key that is compared first
---   still_code      (0,0) has the least number; still-is: which one
---   key_parts       what was compared first, the row and the column, read from a key; key-spot: row and column as one number
+--   still_code      (0,0) has the least number; still_is: which one
+--   key_parts       what was compared first, the row and the column, read from a key; key_spot: row and column as one number
 --   key_anew        a key with another number above the same order
 --   code_parts      the order's number is what the row and the column add
 use Prim.Native.Nat.{ℕ, ◌+◌, ◌*◌, ◌/◌, ◌%◌, ◌≤◌, ◌<◌}

@@ -2,7 +2,7 @@
 --   Ready              the frames have the sizes that the block names, it stands wholly inside the newer one, and its window is at most 16
 --   Past               a row or a column of a candidate's older block, at or behind some other
 --   Target             the block as a search sees it: `target`
---   measure_candidate   the distortion of a vector under a ceiling, where it is a candidate; ofCandidate: where it is one
+--   measure_candidate   the distortion of a vector under a ceiling, where it is a candidate; of_candidate: where it is one
 use Rattle.std.specs.Prelude.{ℕ, ◌+◌, ◌≤◌, ◌<◌, List, Bool, T, ℤ, pos, nat_abs, ◌+ℤ◌, length}
 use Rattle.std.proofs.Math.Path.{◌≡◌, refl}
 use Rattle.std.proofs.Math.Bool.{true, false, cond}

@@ -2,7 +2,7 @@
 -- frame, starting at that place. A refused call hands back an empty part".
 --   view_refusal   the companion's number: 1 2 3 12 7, of a pair and N, the side, the N pels' place
 --   view_place     where in its frame the part begins and how long it is
---   row_view       the pels of the part; partStart: where in memory it begins, so that it is the very part and no copy
+--   row_view       the pels of the part; part_start: where in memory it begins, so that it is the very part and no copy
 use Rattle.std.specs.Prelude.{ℕ, ◌+◌, ◌*◌, ◌-◌, ◌≤◌, ◌<◌, ◌≡◌, refl, Bool, true, false, cond, ◌&&◌, List, [], leb, eqb, length, take, drop}
 use Rattle.std.proofs.Common.{arith, leb→le, ne_eqb, eq-eqb, eqb-true}
 use Rattle.base.specs.Tests.{le_both}

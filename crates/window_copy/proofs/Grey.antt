@@ -1,7 +1,7 @@
 -- Rows of one grey, pel by pel, and the turns of the loops that test them.
 --   one_grey_is   each pel of them is the first
---   none_yes      whether none of so many were counted that fail a test: one more that does not fail; none-no: that does
---   all_yes       whether all pass it: one more that does; all-not: where one does not
+--   none_yes      whether none of so many were counted that fail a test: one more that does not fail; none_no: that does
+--   all_yes       whether all pass it: one more that does; all_not: where one does not
 use Prim.Native.Nat.{ℕ, ◌+◌, ◌*◌, ◌<◌}
 use mathlib.Core.Path.{◌≡◌, refl, subst}
 use mathlib.Core.Bool.{Bool, true, false}

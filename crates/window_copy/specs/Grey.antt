@@ -1,6 +1,6 @@
 -- Rows of a frame of one grey.
 --   grey_row   so many pels from a place on have this grey
---   row_is     row i of those that begin at a place has the grey of the first pel; oneGrey: so many rows have it
+--   row_is     row i of those that begin at a place has the grey of the first pel; one_grey: so many rows have it
 use Rattle.std.specs.Prelude.{ℕ, ◌+◌, ◌*◌, Bool, List, eqb, get_or}
 use Rattle.base.specs.Tests.{all_below}
 

@@ -12,8 +12,7 @@ use Rattle.order.specs.Vectors.{same?, same_yes}
 use Rattle.half_search.specs.declared.Offset.{Offset}
 use Rattle.half_search.specs.Half.{neighbour_count, neighbour}
 use Rattle.half_search.specs.Steps.{offset_of}
-use Rattle.half_search.proofs.neighbour.Statement.{statement}
-use Rattle.half_search.proofs.neighbour.Tie as tie
+use Rattle.half_search.proofs.neighbour.Goals as goal
 
 abbrev table : List (List ℕ)
 table =
@@ -35,26 +34,5 @@ right k h =
     let s = and_right is (down && across) r in
     (same_yes _ _ (T_true is (and_left is (down && across) r)), leb→le _ 2 (and_left down across s), leb→le _ 2 (and_right down across s))
 
-mul-t13 : tie.Need-overflow-mul-t13
-mul-t13 c = search rules
-
-index-1-t18 : tie.Need-bounds-1-t18
-index-1-t18 c = search rules
-
-index-2-t18 : tie.Need-bounds-2-t18
-index-2-t18 c = search rules
-
-mul-t19 : tie.Need-overflow-mul-t19
-mul-t19 c = search rules
-
-index-1-t24 : tie.Need-bounds-1-t24
-index-1-t24 c = search rules
-
-index-2-t24 : tie.Need-bounds-2-t24
-index-2-t24 c = search rules
-
-returns : tie.Need-returns
-returns c = right c.before.before.args.k c.before.before.requires
-
-pub neighbour-spec : {M : Type 1} → statement M
-neighbour-spec = tie.close (tie.spec mul-t13 index-1-t18 index-2-t18 mul-t19 index-1-t24 index-2-t24 returns)
+pub returns : goal.returns
+returns c = right c.args.k c.requires

@@ -1,0 +1,6 @@
+-- `refused_search`: the number, and zeros.
+use borrow.Author.Rules.{rules}
+use Rattle.block.proofs.refused_search.Goals as goal
+
+pub returns : goal.returns
+returns c = rw c.only_at_one.ensures

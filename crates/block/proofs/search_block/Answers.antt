@@ -1,0 +1,78 @@
+-- `search_block`: past the chain the block is ready for each search, and the requested search answers.
+use mathlib.Core.Path.{◌≡◌, sym, ◌∙◌}
+use native.Mathlib.Omega.{arith}
+use borrow.Author.Rules.{rules}
+use lib.ListN.{length}
+use Rattle.refusals.specs.Refusals.{window_ok, setting_of, window_small}
+use Rattle.frame.specs.Pictures.{pair_of}
+use Rattle.search.specs.Target.{Ready}
+use Rattle.block.specs.Block.{search_refusal, search_block, search_by, searched_full, searched_pruned}
+use Rattle.block.specs.Block.{searched_four_step, searched_cross, searchable, block_refused, block_accepted}
+use Rattle.block.proofs.search_block.Goals as goal
+use Rattle.block.proofs.search_block.Goals.{After-setting_of, Else-refusal-ne0}
+
+-- past the chain
+zero_is : (e : Else-refusal-ne0) →
+    let a = e.args in
+    search_refusal (length a.older.now) (length a.newer.now) a.q a.y a.x ≡ 0
+zero_is e = sym e.search_refusal-refusal.ensures ∙ e.if-refusal-ne0.false
+
+ready : (c : After-setting_of) →
+    let a = c.args in
+    Ready a.older.now a.newer.now (record { setting = c.setting_of.result; w = a.q.w; y = a.y; x = a.x })
+ready c =
+    let s = searchable _ _ _ _ _ (let zero_is : let a = c.args in
+    search_refusal (length a.older.now) (length a.newer.now) a.q a.y a.x ≡ 0 = sym c.search_refusal-refusal.ensures ∙ c.if-refusal-ne0.false in zero_is) in
+    record { placed = rw c.setting_of.ensures s.placed; window = window_small _ _ s.requested.window }
+
+accepted : (c : After-setting_of) →
+    let a = c.args in
+    search_block a.older.now a.newer.now a.q a.y a.x
+    ≡ search_by (pair_of a.older.now a.newer.now (setting_of a.q)) a.q a.y a.x
+accepted c = block_accepted _ _ _ _ _ (let zero_is : let a = c.args in
+    search_refusal (length a.older.now) (length a.newer.now) a.q a.y a.x ≡ 0 = sym c.search_refusal-refusal.ensures ∙ c.if-refusal-ne0.false in zero_is)
+
+pub returns-then-refusal-ne0 : goal.returns-then-refusal-ne0
+returns-then-refusal-ne0 c =
+    let r = c.search_refusal-refusal.ensures in
+    c.refused_search.ensures ∙ rw r (sym (block_refused _ _ _ _ _ (λ e. c.if-refusal-ne0.true (r ∙ e))))
+
+pub search-requires : goal.search-requires
+search-requires c = ready (goal.at.search-requires c).After-setting_of
+
+pub returns-then-q-eq3 : goal.returns-then-q-eq3
+returns-then-q-eq3 c =
+    (rw c.setting_of.ensures at c.search.ensures) ∙ sym (accepted (goal.at.returns-then-q-eq3 c).After-setting_of ∙ searched_four_step _ _ _ _ c.if-q-eq3.true)
+
+pub search-requires-then-q-eq4 : goal.search-requires-then-q-eq4
+unfolding window_ok
+search-requires-then-q-eq4 c =
+    (ready (goal.at.search-requires-then-q-eq4 c).After-setting_of, rw c.if-q-eq4.true at (searchable _ _ _ _ _ (zero_is (goal.at.search-requires-then-q-eq4 c).Else-refusal-ne0)).requested.window)
+
+pub returns-then-q-eq4 : goal.returns-then-q-eq4
+returns-then-q-eq4 c =
+    (rw c.setting_of.ensures at c.search-then-q-eq4.ensures) ∙ sym (accepted (goal.at.returns-then-q-eq4 c).After-setting_of ∙ searched_cross _ _ _ _ c.if-q-eq4.true)
+
+pub search-requires-then-q-eq2 : goal.search-requires-then-q-eq2
+search-requires-then-q-eq2 c = ready (goal.at.search-requires-then-q-eq2 c).After-setting_of
+
+pub returns-then-q-eq2 : goal.returns-then-q-eq2
+returns-then-q-eq2 c =
+    (rw c.setting_of.ensures at c.search-then-q-eq2.ensures) ∙ sym (accepted (goal.at.returns-then-q-eq2 c).After-setting_of ∙ searched_pruned _ _ _ _ c.if-q-eq2.true)
+
+pub search-requires-2 : goal.search-requires-2
+search-requires-2 c = ready (goal.at.search-requires-2 c).After-setting_of
+
+pub returns : goal.returns
+returns c =
+    let a = (searchable _ _ _ _ _ (zero_is (goal.at.returns c).Else-refusal-ne0)).requested in
+    let q = c.args.q in
+    let one : q.search ≡ 1 = omega (
+      arith,
+      a.least,
+      a.most,
+      c.if-q-eq2.false,
+      c.if-q-eq4.false,
+      c.if-q-eq3.false,
+    ) in
+    (rw c.setting_of.ensures at c.search-2.ensures) ∙ sym (accepted (goal.at.returns c).After-setting_of ∙ searched_full _ _ _ _ one)

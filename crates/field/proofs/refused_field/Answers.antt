@@ -1,0 +1,6 @@
+-- `refused_field`: the number, and zeros.
+use borrow.Author.Rules.{rules}
+use Rattle.field.proofs.refused_field.Goals as goal
+
+pub returns : goal.returns
+returns c = rw c.only_at_one.ensures

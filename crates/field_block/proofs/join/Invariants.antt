@@ -1,0 +1,23 @@
+-- `join`: count by count; each sum is small.
+use Prim.Native.Nat.{ℕ, ◌+◌, ◌-◌, ◌≤◌}
+use mathlib.Core.Path.{◌≡◌}
+use mathlib.Core.List.{List}
+use native.Mathlib.Nat.{le_refl}
+use native.Mathlib.Omega.{arith}
+use borrow.Author.Rules.{rules}
+use lib.ListN.{get_or, drop_of_length-le}
+use Rattle.base.specs.Tests.{byte_one, one_le}
+use Rattle.base.specs.Lists.{list_to, length_list_to, fill_to, fill_none, fill_zero, fill_front, front_behind}
+use Rattle.frame.specs.Pictures.{count_number}
+use Rattle.search.specs.declared.SearchResult.{SearchResult}
+use Rattle.field_block.specs.declared.Total.{Total}
+use Rattle.field_block.proofs.join.Given as goal
+
+abbrev pub sum : Total → SearchResult → ℕ → ℕ
+sum s f i = get_or s.counts i 0 + get_or f.counts i 0
+
+abbrev pub invariant-loop-i : goal.invariant-loop-i
+invariant-loop-i l = (l.i ≤ count_number) × (l.counts ≡ fill_to l.s.counts 0 (sum l.s l.f) l.i)
+
+abbrev pub decreases-loop-i : goal.decreases-loop-i
+decreases-loop-i l = count_number - l.i

@@ -1,0 +1,20 @@
+-- `inside`: a place with 1 added is 0 only where it lies before the side.
+use mathlib.Core.Path.{refl}
+use native.Mathlib.Omega.{arith}
+use borrow.Author.Rules.{rules}
+use Rattle.signed.specs.Values.{unbias}
+use Rattle.half_search.proofs.Leading.{place_at}
+use Rattle.half_search.proofs.inside.Goals as goal
+
+pub returns-then-place-eq0 : goal.returns-then-place-eq0
+unfolding unbias
+returns-then-place-eq0 c = rw c.if-place-eq0.true refl
+
+pub overflow_add-result : goal.overflow_add-result
+overflow_add-result c = omega arith
+
+pub overflow_add-result-2 : goal.overflow_add-result-2
+overflow_add-result-2 c = omega arith
+
+pub returns : goal.returns
+returns c = rw (place_at c.args.place (omega arith)) refl
