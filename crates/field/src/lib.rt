@@ -76,8 +76,8 @@ fn fill_list(
     list: &mut [i32],
     votes: &mut [u32; order::VECTORS],
 ) -> Total
-    requires q_value { request_refusal (length older.now) (length newer.now) q ≡ 0 }
-    requires q_in_bounds { (list_size (setting_of q) ≤ length list.old) × (votes.old ≡ replicate vector_count 0) }
+    requires fine { request_refusal (length older.now) (length newer.now) q ≡ 0 }
+    requires room { (list_size (setting_of q) ≤ length list.old) × (votes.old ≡ replicate vector_count 0) }
     ensures { let p = pair_of older.now newer.now (setting_of q) in
         BlocksFilled (voting p) (search_at p q) (blocks (setting_of q)) list.old list.new votes.new result }
 {

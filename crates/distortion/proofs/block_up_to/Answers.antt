@@ -1,6 +1,5 @@
 -- `block_up_to`: the sum as far as the ceiling goes tells as much as the whole.
 use mathlib.Core.Path.{◌∙◌}
-use borrow.Author.Rules.{rules}
 use Rattle.distortion.specs.Blocks.{capped_sum}
 use Rattle.distortion.proofs.block_up_to.Goals as goal
 

@@ -3,7 +3,6 @@
 use Prim.Native.Nat.{◌≤◌}
 use mathlib.Core.Path.{◌≡◌, refl, ap}
 use native.Mathlib.Omega.{arith}
-use borrow.Author.Rules.{rules}
 use lib.ListN.{length}
 use Rattle.distortion.specs.Blocks.{size_by}
 use Rattle.distortion.proofs.Rows.{block_begins, by_four, block_sum, block_halves, last_absolute, last_squares}

@@ -1,12 +1,12 @@
 -- `four_rows`: at row i and column j the places are i × across + j and i × width + j on from where the rows begin, and the sum is that of the pels
 -- before.
-use Prim.Native.Nat.{◌+◌, ◌-◌, ◌*◌, ◌≤◌, ◌<◌}
+use Prim.Native.Nat.{◌*◌, ◌≤◌}
 use mathlib.Core.Path.{◌≡◌}
 use native.Mathlib.Nat.{mul-le-mul, mul-le-mul_right}
 use native.Mathlib.Omega.{arith}
 use Rattle.base.specs.Index.{row_next}
 use Rattle.measures.specs.Measures.{measure_of, most_small}
-use Rattle.distortion.proofs.Rows.{Summed, summed_none, summed_pel, summed_row, summed_all}
+use Rattle.distortion.proofs.Rows.{summed_none, summed_pel, summed_row, summed_all}
 use Rattle.distortion.proofs.four_rows.Goals as goal
 use Rattle.distortion.proofs.four_rows.Goals.{At-loop-j, In-loop-j}
 

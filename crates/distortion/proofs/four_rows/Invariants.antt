@@ -2,11 +2,8 @@
 -- before.
 use Prim.Native.Nat.{◌+◌, ◌-◌, ◌*◌, ◌≤◌, ◌<◌}
 use mathlib.Core.Path.{◌≡◌}
-use native.Mathlib.Nat.{mul-le-mul, mul-le-mul_right}
-use native.Mathlib.Omega.{arith}
-use Rattle.base.specs.Index.{row_next}
-use Rattle.measures.specs.Measures.{measure_of, most_small}
-use Rattle.distortion.proofs.Rows.{Summed, summed_none, summed_pel, summed_row, summed_all}
+use Rattle.measures.specs.Measures.{measure_of}
+use Rattle.distortion.proofs.Rows.{Summed}
 use Rattle.distortion.proofs.four_rows.Given as goal
 
 -- 02, request 2: at each pel the running place is row × width + column, from where the rows begin

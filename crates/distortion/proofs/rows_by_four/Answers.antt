@@ -5,7 +5,7 @@ use native.Mathlib.Nat.{zero-add, zero-mul, add-mul, mul-le-mul, mul-le-mul_righ
 use native.Mathlib.Omega.{arith}
 use Rattle.base.specs.Index.{row_next}
 use Rattle.measures.specs.Measures.{measure_of, most_small}
-use Rattle.distortion.specs.Blocks.{rows_up_to, sum_up_to_none, sum_up_to_more, sum_up_to_passed}
+use Rattle.distortion.specs.Blocks.{sum_up_to_none, sum_up_to_more, sum_up_to_passed}
 use Rattle.distortion.proofs.rows_by_four.Goals as goal
 use Rattle.distortion.proofs.rows_by_four.Goals.{In-loop-g}
 

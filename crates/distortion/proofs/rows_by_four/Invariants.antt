@@ -1,11 +1,8 @@
 -- `rows_by_four`: after g turns the sum is that of the first 4 × g rows as far as the ceiling goes, and the next row's place is 4 × g × width.
-use Prim.Native.Nat.{◌+◌, ◌-◌, ◌*◌, ◌≤◌}
-use mathlib.Core.Path.{◌≡◌, sym, ap₂, ◌∙◌}
-use native.Mathlib.Nat.{zero-add, zero-mul, add-mul, mul-le-mul, mul-le-mul_right}
-use native.Mathlib.Omega.{arith}
-use Rattle.base.specs.Index.{row_next}
-use Rattle.measures.specs.Measures.{measure_of, most_small}
-use Rattle.distortion.specs.Blocks.{rows_up_to, sum_up_to_none, sum_up_to_more, sum_up_to_passed}
+use Prim.Native.Nat.{◌-◌, ◌*◌, ◌≤◌}
+use mathlib.Core.Path.{◌≡◌}
+use Rattle.measures.specs.Measures.{measure_of}
+use Rattle.distortion.specs.Blocks.{rows_up_to}
 use Rattle.distortion.proofs.rows_by_four.Given as goal
 
 abbrev pub invariant-loop-g : goal.invariant-loop-g

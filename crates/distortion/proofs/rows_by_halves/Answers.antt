@@ -1,11 +1,11 @@
 -- `rows_by_halves`: after g turns the total is that of the first g halves as far as the ceiling goes; p and q are the places of the next two.
-use Prim.Native.Nat.{◌+◌, ◌-◌, ◌*◌, ◌≤◌}
+use Prim.Native.Nat.{◌+◌, ◌-◌, ◌*◌}
 use mathlib.Core.Path.{◌≡◌, sym, ap₂, ◌∙◌}
 use native.Mathlib.Nat.{zero-add, zero-mul, mul-le-mul_right}
 use native.Mathlib.Omega.{arith}
 use Rattle.base.specs.Index.{row_next}
 use Rattle.measures.specs.Measures.{measure_of, most_small}
-use Rattle.distortion.specs.Blocks.{half, halves_up_to, sum_up_to_none, sum_up_to_more, sum_up_to_passed}
+use Rattle.distortion.specs.Blocks.{half, sum_up_to_none, sum_up_to_more, sum_up_to_passed}
 use Rattle.distortion.proofs.Rows.{half_below, half-inside}
 use Rattle.distortion.proofs.rows_by_halves.Goals as goal
 

@@ -18,7 +18,7 @@ fill_table-requires c =
 pub fill_list-total-requires : goal.fill_list-total-requires
 fill_list-total-requires c =
     let r = c.requires in
-    (r.fine, (r.list_room, refl))
+    record { fine = r.fine; room = (r.list_room, refl) }
 
 pub returns : goal.returns
 returns c =
@@ -26,8 +26,8 @@ returns c =
     let a = c.args in
     let r = c.reading_of-r.ensures ∙ tally_reading _ _ _ _ l.tally in
     rw (
-      to_z-of_z (sfits_of {w = w32} c.struct_told-1.given.0.1),
-      to_z-of_z (sfits_of {w = w32} c.struct_told-1.given.1.0.1),
+      to_z-of_z {w = w32} {z = c.reading_of-r.result.dy} (search rules),
+      to_z-of_z {w = w32} {z = c.reading_of-r.result.dx} (search rules),
       l.list,
       c.fill_table.ensures,
       answer_is (pair_of a.older.now a.newer.now (setting_of a.q)) a.q c.fill_list-total.result c.reading_of-r.result l.sums r,

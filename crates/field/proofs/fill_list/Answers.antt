@@ -14,28 +14,32 @@ use Rattle.field_block.specs.Blocks.{search_at}
 use Rattle.field.specs.Filling.{BlocksFilled}
 use Rattle.field.proofs.Turns.{filled_first, filled_few, filled_more}
 use Rattle.field.proofs.fill_list.Goals as goal
-use Rattle.field.proofs.fill_list.Invariants.{votes}
-use Rattle.field.proofs.fill_list.Goals.{After-search_at-f, Start}
+use Rattle.field.proofs.fill_list.Goals.{After-is_voter_at-voting, After-search_at-f, Start}
 
 fitting : (s : Start) → Fitting (setting_of s.args.q)
-fitting s = (requested _ _ _ s.requires.0).paired.fitting
+fitting s = (requested _ _ _ s.requires.fine).paired.fitting
 
 pub block_count-n-requires : goal.block_count-n-requires
 block_count-n-requires c = rw c.setting_of-s.ensures (fitting (goal.at.block_count-n-requires c).Start)
 
 pub loop-k-init : goal.loop-k-init
 loop-k-init c =
-    (omega arith, c.block_count-n.ensures ∙ ap blocks c.setting_of-s.ensures, filled_first _ _ _ _ c.requires.1.1)
+    (omega arith, c.block_count-n.ensures ∙ ap blocks c.setting_of-s.ensures, filled_first _ _ _ _ c.requires.room.1)
 
 pub search_at-f-requires : goal.search_at-f-requires
-search_at-f-requires c = (c.requires.0, omega (arith, c.loop-k.invariant.1))
+search_at-f-requires c = (c.requires.fine, omega (arith, c.loop-k.invariant.1))
 
 -- a turn stores inside the list, and there are not too many
 room : (c : After-search_at-f) → let k = c.loop-k.k in
     (3 * k + 3 ≤ length c.args.list.now) × (k < 1048576)
 room c =
     let i = c.loop-k.invariant in
-    (omega (arith, i.1, c.requires.1.0), omega (arith, i.1, blocks_few _ (let fitting : Fitting (setting_of c.args.q) = (requested _ _ _ c.requires.0).paired.fitting in fitting)))
+    (omega (arith, i.1, c.requires.room.0), omega (arith, i.1, blocks_few _ (let fitting : Fitting (setting_of c.args.q) = (requested _ _ _ c.requires.fine).paired.fitting in fitting)))
+
+-- whether block k votes
+votes : (c : After-is_voter_at-voting) → let a = c.args in
+    c.is_voter_at-voting.result ≡ voting (pair_of a.older.now a.newer.now (setting_of a.q)) c.loop-k.k
+votes c = rw c.setting_of-s.ensures at c.is_voter_at-voting.ensures
 
 pub overflow_mul-k : goal.overflow_mul-k
 overflow_mul-k c = omega (arith, room (goal.at.overflow_mul-k c).After-search_at-f)
@@ -46,7 +50,7 @@ put_entry-requires c =
 
 pub is_voter_at-voting-requires : goal.is_voter_at-voting-requires
 is_voter_at-voting-requires c =
-    let q = (requested _ _ _ c.requires.0).paired in
+    let q = (requested _ _ _ c.requires.fine).paired in
     rw c.setting_of-s.ensures
     (record { fitting = q.fitting; allowed = q.allowed; whole = q.newer_whole }, omega (arith, c.loop-k.invariant.1))
 

@@ -15,13 +15,6 @@ use Rattle.field.specs.Filling.{BlocksFilled}
 use Rattle.field.proofs.Turns.{filled_first, filled_few, filled_more}
 use Rattle.field.proofs.fill_list.Given as goal
 
--- whether block k votes
-pub votes : (c : tie.After-is-voter-at invariant-loop decreases-loop) →
-    let l = c.before.before.before.before in
-    let a = (let z = l.before.before in z.before.before.before).args in
-    c.is_voter_at-voting.result ≡ voting (pair_of a.older.now a.newer.now (setting_of a.q)) l.loop.k
-votes c = rw c.before.before.before.before.before.before.setting_of-s.ensures at c.is_voter_at-voting.ensures
-
 abbrev pub invariant-loop-k : goal.invariant-loop-k
 invariant-loop-k l =
     let p = pair_of l.older l.newer (setting_of l.q) in

@@ -1,7 +1,6 @@
 -- `block_column`: the grid has a column, and the block ends inside the frame.
 use mathlib.Core.Path.{refl}
 use native.Mathlib.Omega.{arith}
-use borrow.Author.Rules.{rules}
 use Rattle.frame.specs.Grid.{columns, block_column, columns_some, block_across}
 use Rattle.frame.proofs.block_column.Goals as goal
 

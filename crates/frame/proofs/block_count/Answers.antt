@@ -1,7 +1,6 @@
 -- `block_count`: the definition's quotients; there are few blocks.
 use mathlib.Core.Path.{refl}
 use native.Mathlib.Omega.{arith}
-use borrow.Author.Rules.{rules}
 use Rattle.frame.specs.Grid.{blocks, rows, columns, blocks_few}
 use Rattle.frame.proofs.block_count.Goals as goal
 

@@ -1,7 +1,6 @@
 -- `block_row`: the grid has a column, and the block ends inside the frame.
 use mathlib.Core.Path.{refl}
 use native.Mathlib.Omega.{arith}
-use borrow.Author.Rules.{rules}
 use Rattle.frame.specs.Grid.{columns, block_row, columns_some, block_down}
 use Rattle.frame.proofs.block_row.Goals as goal
 

@@ -1,6 +1,5 @@
 -- `is_candidate`: the older block stands somewhere just where the vector is a candidate.
 use mathlib.Core.Path.{◌≡◌, sym, ◌∙◌}
-use borrow.Author.Rules.{rules}
 use mir.Facts.{to_z-of_z}
 use Rattle.order.specs.Vectors.{vec}
 use Rattle.base.specs.Tests.{T_true}

@@ -1,6 +1,5 @@
 -- `older_at`: a candidate is one by its row and by its column.
 use mathlib.Core.Path.{◌≡◌}
-use borrow.Author.Rules.{rules}
 use mir.Facts.{to_z-of_z}
 use Rattle.frame.specs.Candidates.{part_at, older_parts}
 use Rattle.frame.proofs.older_at.Goals as goal

@@ -1,7 +1,6 @@
 -- `part_at`: with d in the window and n at most the side, it is the shift of at by d inside 0 ..= side - n.
 use mathlib.Core.Path.{◌≡◌, sym, ◌∙◌}
 use mathlib.Core.Bool.{true}
-use borrow.Author.Rules.{rules}
 use lib.Dec.{leb}
 use lib.IntN.{nat_abs}
 use mir.Facts.{to_z-of_z}

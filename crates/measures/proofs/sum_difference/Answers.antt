@@ -2,7 +2,6 @@
 use Prim.Native.Nat.{◌≤◌}
 use native.Mathlib.Nat.{mul-le-mul}
 use native.Mathlib.Omega.{arith}
-use borrow.Author.Rules.{rules}
 use Rattle.measures.specs.Measures.{measure_absolute, measure_squares}
 use Rattle.measures.proofs.sum_difference.Goals as goal
 

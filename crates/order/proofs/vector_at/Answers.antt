@@ -1,6 +1,6 @@
 -- `vector_at`: the flat table has the parts of the k-th vector at 2 k and 2 k + 1, and each comes back from its bits unchanged.
 use mathlib.Core.Path.{ap₂, ◌∙◌}
-use borrow.Author.Rules.{rules, sfits_of}
+use borrow.Author.Rules.{sfits_of}
 use mir.Syntax.{w32}
 use mir.Facts.{to_z-of_z}
 use Rattle.order.specs.Vectors.{vec}

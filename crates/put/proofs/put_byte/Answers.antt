@@ -1,5 +1,4 @@
 -- `put_byte`: stored where the buffer goes on, else nothing.
-use borrow.Author.Rules.{rules}
 use Rattle.put.specs.Put.{put_past}
 use Rattle.put.proofs.put_byte.Goals as goal
 

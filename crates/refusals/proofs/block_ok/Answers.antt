@@ -1,5 +1,4 @@
 -- `block_ok`: the three tests of the definition, in its order.
-use borrow.Author.Rules.{rules}
 use borrow.Author.Tests.{le-leb, lt-leb}
 use Rattle.base.specs.Tests.{told}
 use Rattle.refusals.proofs.block_ok.Goals as goal

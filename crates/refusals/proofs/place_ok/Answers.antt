@@ -1,5 +1,4 @@
 -- `place_ok`: down and across.
-use borrow.Author.Rules.{rules}
 use Rattle.base.specs.Tests.{told}
 use Rattle.refusals.proofs.place_ok.Goals as goal
 

@@ -1,6 +1,5 @@
 -- `request_refusal`: the pair's chain, and after it the tests of search, measure, window and threshold.
 use mathlib.Core.Path.{◌≡◌, ap, sym, ◌∙◌}
-use borrow.Author.Rules.{rules}
 use Rattle.base.specs.Tests.{told}
 use Rattle.measures.specs.Measures.{measure_ok}
 use Rattle.refusals.specs.Refusals.{unless, search_ok, window_ok, threshold_ok, pair_refusal, request_refusal, setting_of, first_refusal_some, first_refusal_none}

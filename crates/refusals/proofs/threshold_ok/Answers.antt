@@ -1,5 +1,4 @@
 -- `threshold_ok`: the test of the search, then that of T.
-use borrow.Author.Rules.{rules}
 use borrow.Author.Tests.{ne_eqb, eq-eqb}
 use Rattle.refusals.specs.Refusals.{threshold_ok}
 use Rattle.refusals.proofs.threshold_ok.Goals as goal

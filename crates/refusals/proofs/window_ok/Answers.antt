@@ -1,5 +1,4 @@
 -- `window_ok`: the test of the search, then that of its window.
-use borrow.Author.Rules.{rules}
 use borrow.Author.Tests.{le-leb, lt-leb, ne_eqb, eq-eqb}
 use Rattle.refusals.specs.Refusals.{window_ok}
 use Rattle.refusals.proofs.window_ok.Goals as goal

@@ -1,7 +1,6 @@
 -- `abs_diff_u32`: the difference of two squares' sums fits 32 bits, and its magnitude is that of the integers' difference.
 use mathlib.Core.Path.{ap, ◌∙◌}
 use native.Mathlib.Omega.{arith}
-use borrow.Author.Rules.{rules}
 use lib.IntN.{pos, nat_abs}
 use mir.Syntax.{w32}
 use mir.Facts.{to_z-of_z}

@@ -1,5 +1,4 @@
 -- `from_byte`: b itself below 128, else b - 256.
-use borrow.Author.Rules.{rules}
 use native.Mathlib.Omega.{arith}
 use lib.IntN.{pos}
 use mir.Syntax.{w32}

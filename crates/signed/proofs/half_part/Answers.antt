@@ -1,5 +1,4 @@
 -- `half_part`: d + d + (u - 1) fits 32 bits.
-use borrow.Author.Rules.{rules}
 use native.Mathlib.Omega.{arith}
 use lib.IntN.{pos, ◌-ℤ◌, ◌+ℤ◌}
 use mir.Syntax.{w32}

@@ -1,5 +1,4 @@
 -- `unbiased`: u - 16 fits 32 bits.
-use borrow.Author.Rules.{rules}
 use native.Mathlib.Omega.{arith}
 use lib.IntN.{pos}
 use mir.Syntax.{w32}

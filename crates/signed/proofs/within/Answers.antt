@@ -1,5 +1,4 @@
 -- `within`: the magnitude, compared at the width of w.
-use borrow.Author.Rules.{rules}
 use mir.Facts.{to_z-of_z}
 use Rattle.signed.proofs.within.Goals as goal
 

@@ -1,7 +1,6 @@
 -- `view_place`: where the chain is 0, the N pels end inside the frame, so the place is small.
 use mathlib.Core.Path.{sym, ◌∙◌}
 use native.Mathlib.Omega.{arith}
-use borrow.Author.Rules.{rules}
 use borrow.Author.Tests.{ne_eqb, eq-eqb}
 use Rattle.frame.specs.Pictures.{pels_few}
 use Rattle.view.specs.View.{view_place, Viewed, viewed}
