@@ -1,7 +1,7 @@
 -- The pels of a block and its search window in an array.
 --   stored_most     rows of small numbers stored among small numbers
---   pels_long       the array is as long as before; pels-small: its places of m = 1 are small
---   window_pel      a pel of a candidate's older block; own-pel: one of the block itself
+--   pels_long       the array is as long as before; pels_small: its places of m = 1 are small
+--   window_pel      a pel of a candidate's older block; own_pel: one of the block itself
 use Prim.Native.Nat.{ℕ, zero, suc, ◌+◌, ◌-◌, ◌*◌, ◌≤◌, ◌<◌}
 use mathlib.Core.Path.{◌≡◌, refl, sym, ap, subst, ◌∙◌}
 use mathlib.Core.List.{List}

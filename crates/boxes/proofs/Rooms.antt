@@ -2,9 +2,9 @@
 --   log2_power      of m = 2 ^ k, up to 16; cut_at: so its boxes stand k areas on
 --   power_next      where m is less than N, 2m is at most N; power_small: and at most 16, where m is not 16
 --   power_below     no power of two lies between
---   cut_whole       N up to 16 is one of its m, cut-sixteen: and else 16; cut-half: with each m half of it is one
---   array_small     with N up to 16 five areas are 12,800 places; array-large: at most 25,600
---   window_inside   the numbers of a box of the window lie in the window, own-inside: and those of a box of the block in the block
+--   cut_whole       N up to 16 is one of its m, cut_sixteen: and else 16; cut_half: with each m half of it is one
+--   array_small     with N up to 16 five areas are 12,800 places; array_large: at most 25,600
+--   window_inside   the numbers of a box of the window lie in the window, own_inside: and those of a box of the block in the block
 --   window_room     so have its places, own_room: and the block's
 --   window_split    the places of m are those of 2m, and m rows and m places more; own_split: so have the block's
 --   square_inside   a square of a block in whole squares

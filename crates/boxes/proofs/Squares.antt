@@ -1,7 +1,7 @@
 -- The boxes of a block and its search window are the pel sums of squares.
 --   span_short       the places from the first candidate to the last are few
---   older_place      where the squares of a candidate's older block stand; newer-place: and those of the block itself
---   window_in_array  each place that is filled lies in an array of five areas; own-in-array: also those of the block
+--   older_place      where the squares of a candidate's older block stand; newer_place: and those of the block itself
+--   window_in_array  each place that is filled lies in an array of five areas; own_in_array: also those of the block
 --   boxed            the pels, and from them all boxes: Boxed
 use Prim.Native.Nat.{ℕ, ◌+◌, ◌-◌, ◌*◌, ◌/◌, ◌≤◌, ◌<◌}
 use mathlib.Core.Path.{◌≡◌, sym, ap, ◌∙◌}

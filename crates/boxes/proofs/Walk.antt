@@ -1,7 +1,7 @@
 -- The boxes of m from those of half of it: after some turns those of all m so far stand in their places.
 --   Walk                              what the turns so far have left
 --   walk_first, walk_more, walk_last  the pels alone, twice the m, and all m
---   walk_window, walk_own             what stands at the m reached last; window_small, one-small: it is small
+--   walk_window, walk_own             what stands at the m reached last; window_small, one_small: it is small
 --   Turn                              where a turn reads and stores; walk_turn: so it does
 use Prim.Native.Nat.{ℕ, zero, suc, ◌+◌, ◌-◌, ◌*◌, ◌^◌, ◌≤◌, ◌<◌}
 use mathlib.Core.Path.{◌≡◌, refl, sym, ap, ap₂, subst, ◌∙◌}

@@ -1,5 +1,5 @@
 -- Of N 32: four boxes of 16 are a whole block.
---   whole_older   the older block of a candidate; whole-newer: the block itself
+--   whole_older   the older block of a candidate; whole_newer: the block itself
 use Prim.Native.Nat.{ℕ, ◌+◌, ◌-◌, ◌*◌, ◌/◌, ◌<◌}
 use mathlib.Core.Path.{◌≡◌, refl, sym, ap, ap₂, ◌∙◌}
 use mathlib.Core.List.{List}

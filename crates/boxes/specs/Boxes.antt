@@ -2,7 +2,7 @@
 -- pel sums." The pel sums of all m × m squares of a block's search window, and of the block itself, for m = 1, 2, 4, 8 and 16, in one array: the
 -- sum of a square stands at the place of its first pel, in rows of N + 32 places for the window and of N for the block.
 --   box            the sum of the m × m numbers from place t on, in rows of so many places
---   window_pels     an array with the pels of the search window in it, blockPels: and those of the block
+--   window_pels     an array with the pels of the search window in it, block_pels: and those of the block
 --   doubled        what four boxes of m, side by side and one below the other, add up to
 --   Cut            m is 1, 2, 4, 8 or 16, and at most N
 --   area           the places of one m; level_at: where the boxes of m stand, own_at: those of the block itself

@@ -2,7 +2,7 @@
 -- and the reading is the vector that most voters have as exhaustive best.
 --   Exact                        at each place where a block may stand, the search answers so: full_exact, pruned_exact
 --   exact_at                     at grid block k
---   exact_entries                the list; exact_reading, exact-votes: the reading
+--   exact_entries                the list; exact_reading, exact_votes: the reading
 use Prim.Native.Nat.{ℕ, ◌+◌, ◌≤◌, ◌<◌}
 use mathlib.Core.Path.{◌≡◌, refl, ap, ap₂, ◌∙◌}
 use mathlib.Core.List.{[], ◌∷◌}

@@ -6,8 +6,8 @@
 --   entry_of, entries_of   the three numbers of a block, and of all grid blocks in order
 --   table_of              the table of sums
 --   count_over            a count, summed over the blocks
---   field_answer          what an accepted call answers; refusedField: a refused one
---   FieldResult          what a field call answers, with what list and table then hold: field; acceptedField: of an accepted call
+--   field_answer          what an accepted call answers; refused_field: a refused one
+--   FieldResult          what a field call answers, with what list and table then hold: field; accepted_field: of an accepted call
 use Rattle.std.specs.Prelude.{ℕ, ◌≡◌, cond, List, [], ◌∷◌, ◌++◌, eqb, ℤ, pos, length, get_or, drop}
 use Rattle.std.proofs.Common.{ap, sym, ◌∙◌, ne_eqb}
 use Rattle.std.proofs.Math.Decide.{ℕ_discrete}

@@ -1,5 +1,5 @@
 -- A field's grid blocks, one by one.
---   search_at    what the requested search answers at grid block k; vectorOf: its vector
+--   search_at    what the requested search answers at grid block k; vector_of: its vector
 --   Sound       what holds of each block's result, whatever the search: a vector of window 16, and numbers that are small
 --   join        the sums with one block more, a voter or not; Bounded: small enough for that
 use Rattle.std.specs.Prelude.{ℕ, ◌+◌, ◌*◌, ◌≤◌, ◌≡◌, Bool, List, length, get_or}

@@ -1,11 +1,11 @@
 -- Values between pels, half-pel blocks, and the array that holds one.
---   half_even     at even places the value is the pel; even-block: a block at an even place is the pels'
+--   half_even     at even places the value is the pel; even_block: a block at an even place is the pels'
 --   half_from     a value of a block by the place of its first pel
 --   value_most    a value of bytes is a byte
 --   half_inside_yes, half_inside_true   the relation and the test say the same
 --   half_room     a row of a block, with the pels that it needs, lies inside the frame
 --   half_more     one row more of a block that is stored in an array
---   half_long     the array is as long as before; half-stored: what it holds
+--   half_long     the array is as long as before; half_stored: what it holds
 --   half_rows_inside, half-distortion   its rows can be measured, and its distortion is the block's
 use Prim.Native.Nat.{ℕ, ◌+◌, ◌-◌, ◌*◌, ◌/◌, ◌%◌, ◌≤◌, ◌<◌}
 use mathlib.Core.Path.{◌≡◌, sym, ap, ap₂, ◌∙◌}

@@ -3,7 +3,7 @@
 --   between_two, between_four   "A value between two pels is (a + b + 1) / 2, between four (a + b + c + d + 2) / 4, rounded down"
 --   half_pel      a frame's value at a half-pel place; value_of: of the pels there
 --   Needs        the rows of pels that a half-pel row needs, and the columns that a half-pel column needs: its own, and the next where it is odd
---   HalfInside   all rows, or columns, that N places from a half-pel place on need lie inside a side, as a relation; halfInside: as a test
+--   HalfInside   all rows, or columns, that N places from a half-pel place on need lie inside a side, as a relation; half_inside: as a test
 --   half_block    the block that stands at a half-pel place
 --   HalfReady    a frame in which such a block has all pels that it needs
 --   value_from    a value by the place of its first pel in the frame

@@ -2,7 +2,7 @@
 --   neighbours_in_order, neighbours_stand, neighbours_near   the nine offsets: in preference order, all of window 1, no others
 --   tried_yes, tried_true   the relation and the test say the same
 --   centre_tried, centre_distortion   at a candidate the centre counts, and its distortion is the search's
---   winner_best   the winner is HalfBest; half-best-unique: nothing else is
+--   winner_best   the winner is HalfBest; half_best_unique: nothing else is
 use Prim.Native.Nat.{ℕ, zero, suc, ◌+◌, ◌*◌, ◌≤◌, ◌<◌}
 use mathlib.Core.Path.{◌≡◌, refl, sym, ap, ◌∙◌, subst}
 use mathlib.Core.Bool.{Bool, true, false, ◌&&◌}

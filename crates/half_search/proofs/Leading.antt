@@ -1,7 +1,7 @@
 -- The loop over the neighbours: after k of them the winner by now is the first of least distortion among those that count.
---   Leading        that; leading-first: of the centre alone; leading-next: with one neighbour more
+--   Leading        that; leading_first: of the centre alone; leading_next: with one neighbour more
 --   offset_place   a half-pel place, with 1 added, as the code reckons it
---   try_is         what the code tries at place k is what the definition says of neighbour k; try_above, try_beside, try_less, try-kept: by what the code learns
+--   try_is         what the code tries at place k is what the definition says of neighbour k; try_above, try_beside, try_less, try_kept: by what the code learns
 --   refined_is     the winner of all nine is the answer's
 use Prim.Native.Nat.{ℕ, zero, suc, ◌+◌, ◌-◌, ◌*◌, ◌/◌, ◌%◌, ◌≤◌, ◌<◌}
 use mathlib.Core.Path.{◌≡◌, refl, sym, ap, ap₂, ◌∙◌}

@@ -5,7 +5,7 @@
 --   travel, voters_in         a pair's travel, by exhaustive bests, and its voters
 --   refusal_of, accept        which refusal applies to a call, and what an accepted one does
 --   reckon, reckoned         the plain reckoning
---   accepted_calls, standing_on, track_at   where the reckoning ends, in one line; travelsSince: the travels since homing
+--   accepted_calls, standing_on, track_at   where the reckoning ends, in one line; travels_since: the travels since homing
 --   Result, run, last_track   what the gauge's own calls answer, one after the other
 --   EachCall, EachStep       of each call, of each accepted step
 --   Promise                  what is promised

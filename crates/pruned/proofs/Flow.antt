@@ -1,9 +1,9 @@
 -- Search 2 from one resolution to the next, by spots: what is in memory is where the search of pruned_rule stands.
 --   safe_on         no test drops the best; nests_on: what is within the limit at a resolution is so at the coarser ones
---   bound_same      at N E stays; bound-lowered: at a finer m it is lowered
+--   bound_same      at N E stays; bound_lowered: at a finer m it is lowered
 --   Slots           the counts so far stand in their places, and there are as many more as resolutions
 --   Going           the search stands between two resolutions
---   first_facing    before the test at N; going-first: after it
+--   first_facing    before the test at N; going_first: after it
 --   going_facing    before the test at the next resolution; going_more: after it
 --   going_chosen    the best of those that remain is the best of all
 --   going_ends      after the last test, or where one candidate remains: what is known of the search's end

@@ -1,10 +1,10 @@
 -- The loop over the resolutions.
 --   Turning          before a turn at m, or after the last: where the search stands, and that m is the next resolution, or 1 where one candidate remains
 --   next_either      the next resolution is half of m, or one candidate remains
---   turning_first    after the test at N; turning-more: after a turn
---   turning_search   what a turn asks for; turning-facing: and what it finds in memory; turning-slot: its count has a place
+--   turning_first    after the test at N; turning_more: after a turn
+--   turning_search   what a turn asks for; turning_facing: and what it finds in memory; turning_slot: its count has a place
 --   turning_few      at most all candidates remain
---   turning_closing  after the last turn the best of those that remain is the best of all; turning-last: and the answer is search 2's
+--   turning_closing  after the last turn the best of those that remain is the best of all; turning_last: and the answer is search 2's
 use Prim.Native.Nat.{ℕ, zero, suc, ◌+◌, ◌-◌, ◌*◌, ◌/◌, ◌≤◌, ◌<◌}
 use mathlib.Core.Path.{◌≡◌, refl, sym, ap, ◌∙◌}
 use mathlib.Core.Logic.{◌⊎◌, ⊎_elim, inl, inr}

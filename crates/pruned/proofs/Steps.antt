@@ -3,7 +3,7 @@
 --   listed_grid   spots that are listed stand in window 16; listed_in: their candidates are in reach
 --   near_at       the distances at m can be looked up
 --   listed-level  the test at m, of those listed
---   must_list     few candidates are listed; all-fits: the others' distances have 32 bits
+--   must_list     few candidates are listed; all_fits: the others' distances have 32 bits
 --   size_small, side_small, region_small, resolution, span_few, span_some, span_filled, numbered_distances   what the distances of all ask for
 --   all_leveled   the test at m, of all
 use Prim.Native.Nat.{ℕ, ◌+◌, ◌-◌, ◌*◌, ◌≤◌, ◌<◌}

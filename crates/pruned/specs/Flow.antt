@@ -1,17 +1,17 @@
 -- 01, "The four searches", search 2, as the code goes: without a list while many candidates remain, for after the test at m those remain that are
 -- within the limit at m, of all candidates. That this is search 2 of pruned_rule/specs/Prune.antt: proofs/Flow.antt.
 -- Candidates are known by their spots (pruned_rule/specs/Spots.antt).
---   dist_of      the distance at m of a vector for a block; limitOf: how far a distance may go
+--   dist_of      the distance at m of a vector for a block; limit_of: how far a distance may go
 --   left_at      the spots of the candidates within the limit at m for E
 --   bound_by     E after it was lowered at m to the distortion of a vector: at N it is not; bound_at: to that of the nearest
 --   Distances   an array has a cost of all candidates, at the places where their first boxes stand
 --   fits        distances at m have 32 bits: by absolute differences always, by squares where N × m is at most 256
---   few         up to so many candidates are listed and looked up one by one; byAll: more are tested by the distances of all, where these fit
+--   few         up to so many candidates are listed and looked up one by one; by_all: more are tested by the distances of all, where these fit
 --   Held        the candidates of some spots are in memory: how many, and their keys, or else distances at m have 32 bits and there are many
 --   Facing      they are what the test at m may look at: the nearest of them is the nearest of all, and what it keeps of them it keeps of all
 --   Leveled     after the test at m
 --   Search      a block to be searched at m, with its boxes
---   is_blank     the paper is blank; blankAnswer: the answer then
+--   is_blank     the paper is blank; blank_answer: the answer then
 --   Closing     at the end, or where one candidate remains
 --   next_of      the resolution after m, with so many candidates: 1 where one remains
 --   first_slot   where the count at N stands among the six: they end with that, those at the resolutions after N and the one at m = 1

@@ -1,9 +1,9 @@
 -- Keys of spots, and what the functions on an array of keys do where its front holds those of some spots.
---   OnGrid           each spot is a row and a column of window 16; spots-grid: those in reach are
---   distance_on      the distance in a spot's key; spot_on: the spot in it; renewed-on: the key with another distance
---   every_last       the keys of all spots with distance 0, stored row by row (code_in); keys-at: the key at a place
---   listed_many      as many spots as keys; front-listed: keys that were stored in front of an array
---   nearest_chosen   the least key is that of a chosen spot; nearest-spot: which it holds, with its distance
+--   OnGrid           each spot is a row and a column of window 16; spots_grid: those in reach are
+--   distance_on      the distance in a spot's key; spot_on: the spot in it; renewed_on: the key with another distance
+--   every_last       the keys of all spots with distance 0, stored row by row (code_in); keys_at: the key at a place
+--   listed_many      as many spots as keys; front_listed: keys that were stored in front of an array
+--   nearest_chosen   the least key is that of a chosen spot; nearest_spot: which it holds, with its distance
 --   within_listed    those that stay are the keys of the spots within the limit
 --   renewed_listed   each key with a new distance: the keys of the same spots by another cost
 --   chosen_measured  the least of such keys holds a spot that is chosen by that cost, and the cost

@@ -1,5 +1,5 @@
 -- Measuring the listed: the older block of a spot, and the least key so far, as a loop carries it along from a number that no key reaches.
---   spot_behind        the older block's row and column are not less than 0; spot-block: it can be compared with the newer block
+--   spot_behind        the older block's row and column are not less than 0; spot_block: it can be compared with the newer block
 --   distortion_small   a distortion of frames of bytes is below 2^27
 --   least_more         one key more; least_first: in the end the number that began is not the least
 use Prim.Native.Nat.{ℕ, ◌+◌, ◌-◌, ◌/◌, ◌%◌, ◌≤◌, ◌<◌, min}

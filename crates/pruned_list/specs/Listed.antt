@@ -9,7 +9,7 @@
 -- "Measure the rest and choose as full does":
 --   SpotIn          the spot is that of a candidate; SpotsIn: each of the first count of an array of keys has such a spot
 --   distortion_to    the distortion of a block's vector, of two lent frames
---   measured_key     the key with a cost for its distance; leastMeasured: the least of those of the first count of an array of keys
+--   measured_key     the key with a cost for its distance; least_measured: the least of those of the first count of an array of keys
 use Rattle.std.specs.Prelude.{ℕ, zero, suc, ◌+◌, ◌*◌, ◌/◌, ◌%◌, ◌<◌, ◌≡◌, List, map, length, get_or, take, drop, set}
 use Rattle.base.specs.Least.{least_of}
 use Rattle.base.specs.Lists.{list_to}

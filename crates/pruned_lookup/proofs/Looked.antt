@@ -1,5 +1,5 @@
 -- What is looked up is the distance.
---   rows_looked     at m up to 16, of all squares; whole-looked: at 32
+--   rows_looked     at m up to 16, of all squares; whole_looked: at 32
 --   looked_is       at every m, of the candidate on a spot
 --   filled_looked   of all that are listed; distanced: so for the block that the boxes are of
 use Prim.Native.Nat.{ℕ, ◌+◌, ◌-◌, ◌*◌, ◌/◌, ◌%◌, ◌<◌}

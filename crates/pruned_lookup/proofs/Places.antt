@@ -1,6 +1,6 @@
 -- The places that are looked up lie in the array.
 --   covered        all squares of a candidate
---   near_first     what a caller has: m a power of two up to N, and N up to 32; near-place: at another place
+--   near_first     what a caller has: m a power of two up to N, and N up to 32; near_place: at another place
 --   whole_places   the last of four boxes of 16, of the block and of a candidate
 use Prim.Native.Nat.{ℕ, ◌+◌, ◌-◌, ◌*◌, ◌/◌, ◌^◌, ◌≤◌, ◌<◌}
 use mathlib.Core.Path.{◌≡◌, sym, ap, subst, ◌∙◌}

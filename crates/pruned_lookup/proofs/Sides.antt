@@ -1,6 +1,6 @@
 -- The side of the boxes that are looked up, and the distance there.
---   side_whole     16 for 32; side-other: m itself for any other
---   box-whole      the distance at 32 is of whole blocks; box-other: at any other m of all squares
+--   side_whole     16 for 32; side_other: m itself for any other
+--   box-whole      the distance at 32 is of whole blocks; box_other: at any other m of all squares
 use Prim.Native.Nat.{ℕ}
 use mathlib.Core.Path.{◌≡◌}
 use mathlib.Core.List.{List}

@@ -1,11 +1,11 @@
 -- 01, "The four searches", search 2: "Cut a block into m × m squares; its distance at m is the sum over squares of the absolute difference of
 -- pel sums." 02, request 1: by squares, of "the squared difference of pel sums". How that is looked up in an array of boxes: the proofs' Looked has
 -- that it is the distance.
---   box_run        the differences of k squares in a row; boxRows: those of all squares of the candidate at place t
+--   box_run        the differences of k squares in a row; box_rows: those of all squares of the candidate at place t
 --   box_whole      the difference of whole blocks of 32
 --   side_of        the side of the boxes that are looked up for m
 --   box_distance   the distance at m of the candidate at place t
---   place_on       the place of a spot; lookedUp: its candidate's distance at m
+--   place_on       the place of a spot; looked_up: its candidate's distance at m
 --   Distanced     keys with the distances of their candidates, where the boxes are a block's
 --   Covered       all squares of the candidate at place t lie in the array
 --   Near          an array with the boxes of N, an m that is looked up in them, and a place that a candidate may have

@@ -1,5 +1,5 @@
 -- What the loops compute are the distances of a block's candidates.
---   number_whole   which distance there is at 32, number-other: and at any other m
+--   number_whole   which distance there is at 32, number_other: and at any other m
 --   whole_large    m = 32 is of N 32 alone, other_cut: any other m has boxes
 --   small          any other N is at most 16
 --   numbered       distances in the array are those of the rules

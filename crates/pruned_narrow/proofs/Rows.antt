@@ -2,7 +2,7 @@
 --   runs_fours   where k is not 1 and not 2 it is some times 4
 --   four_more    a further run of 4 is inside
 --   row_first    before the first run, run_more: a run
---   run_inside   a run lies inside the array, run-bound: and what it adds fits
+--   run_inside   a run lies inside the array, run_bound: and what it adds fits
 use Prim.Native.Nat.{ℕ, ◌+◌, ◌-◌, ◌*◌, ◌≤◌, ◌<◌}
 use mathlib.Core.Path.{◌≡◌, ap, ap₂, ◌∙◌}
 use mathlib.Core.Logic.{⊎_elim}

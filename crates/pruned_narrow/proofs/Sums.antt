@@ -1,10 +1,10 @@
 -- Sums of what one number has more than another.
 --   filled_at     what stands in an array that a loop fills from place 0; filled_next: at the place that is next
---   fill_turn     a turn of such a loop; fill-same: one that stores what is there; fill-again: two loops
+--   fill_turn     a turn of such a loop; fill_same: one that stores what is there; fill_again: two loops
 --   fill_added    two loops, of which the second adds
 --   two_by_two    a sum of two rows and two columns
---   minus_le      what numbers have more is at most the numbers; prefix-le: the first of them are; next_le: also with the next
---   more_le       the same of squares; less-le: what they have more and the others are at least the squares
+--   minus_le      what numbers have more is at most the numbers; prefix_le: the first of them are; next_le: also with the next
+--   more_le       the same of squares; less_le: what they have more and the others are at least the squares
 --   absolute_is   absolute differences by what the one has more and the sums of both
 use Prim.Native.Nat.{ℕ, zero, suc, ◌+◌, ◌-◌, ◌≤◌, ◌<◌}
 use mathlib.Core.Path.{◌≡◌, refl, sym, ap, ◌∙◌}

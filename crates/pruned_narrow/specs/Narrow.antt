@@ -2,7 +2,7 @@
 -- pel sums." The distances of all candidates at once, from the sums of `boxes`: first what each older square has more than the newer one, summed; then,
 -- by the sums of the whole blocks, also what the newer ones have more.
 --   places       of the array of distances
---   row_sum       the sums of so many squares in a row, m places apart; rowMore: what they have more than the newer ones
+--   row_sum       the sums of so many squares in a row, m places apart; row_more: what they have more than the newer ones
 --   turned       from what the older squares have more, x, and the sums of both blocks, to the distance
 --   carried      what a number so far counts for: nothing where the numbers start afresh
 --   distance_of   the distance of k × k squares from the place `at` on, distance_at: that of the candidate at place t

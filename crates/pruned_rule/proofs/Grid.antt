@@ -3,7 +3,7 @@
 --   SafeOn           what no test may drop; NestsOn: what is within the limit at m is within it at k; on blocks: blocks_safe, blocks_nest
 --   OpenOn           Open of the costs at the places in the table; ClosedOn: Closed
 --   kept_nested      those kept at m among those kept at k are those kept at m among all
---   open_spots       `count` is how many are on the list of spots; open-best: the best of all is among them
+--   open_spots       `count` is how many are on the list of spots; open_best: the best of all is among them
 --   nearest_listed   the least key of those listed is that of the nearest of all
 --   open_on_first    after the test at N
 --   one_left         where one remains, one remains after the next turn; one_last: so the rest of the counts are 1

@@ -3,8 +3,8 @@
 --   Nests         within the limit at m for E: within it at the coarser k too, for this E and any greater; nests: so it is on blocks
 --   Within        those left are just the candidates within the limit at m: start_within, round_within
 --   kept_parted   a stricter test after a weaker one keeps what it keeps of all
---   kept_count    how many are within a limit; total-pick: a sum over the numbers below n that pass a test
---   least_of_all  the nearest that remains is the nearest of all; lower-of-all: so E is lowered to the distortion of that
+--   kept_count    how many are within a limit; total_pick: a sum over the numbers below n that pass a test
+--   least_of_all  the nearest that remains is the nearest of all; lower_of_all: so E is lowered to the distortion of that
 --   Along         where a loop stands that halves m, with k the resolution before: along_first, along_more, along_last
 use Prim.Native.Nat.{ℕ, zero, suc, ◌+◌, ◌/◌, ◌^◌, ◌≤◌, ◌<◌, ◌∣◌, min}
 use mathlib.Core.Path.{◌≡◌, refl, sym, ap, ap₂, ◌∙◌, subst}

@@ -5,7 +5,7 @@
 --   open_more    one turn: E is lowered to the distortion of the nearest of all at m, and those of all within its limit are counted
 --   open_last    after the turn at 2: what is known of the search's end, Closed
 --   all_last     where E is 0 and all are within the limit at each resolution: all remain to the end
---   open_left    those that remain: so they can be listed after any turn; open_some, open-few: at least one, at most all
+--   open_left    those that remain: so they can be listed after any turn; open_some, open_few: at least one, at most all
 use Prim.Native.Nat.{ℕ, zero, suc, ◌-◌, ◌/◌, ◌^◌, ◌≤◌, ◌<◌, ◌∣◌, min}
 use mathlib.Core.Path.{◌≡◌, refl, sym, ap, ◌∙◌}
 use mathlib.Core.List.{List, [], ◌∷◌, ◌++◌, append-nil}

@@ -1,11 +1,11 @@
 -- The spots of the rows and columns in reach, and the candidates' places in the preference table: one has on it what the other has.
---   spots_length     how many spots there are; spots-places: as many as places
---   spots_in         each is a row and a column in reach; spots-all: and each of these is one; spots-reach: read from the spot
---   spot_row         a spot's row; spot-column: its column; key-on: its key by these
---   total_spots      a sum over the spots is the sum over the places; total-rows: and that over rows and columns
+--   spots_length     how many spots there are; spots_places: as many as places
+--   spots_in         each is a row and a column in reach; spots_all: and each of these is one; spots_reach: read from the spot
+--   spot_row         a spot's row; spot_column: its column; key-on: its key by these
+--   total_spots      a sum over the spots is the sum over the places; total_rows: and that over rows and columns
 --   kept_spots       how many are within a limit: as many on the spots as at the places
---   nearest_of_all   the least key of all is that of the first least place; choice-listed: so is the least of those within a limit, where that place is
---   parted_all       what is within a limit is kept; parted-few: and is no more than there are
+--   nearest_of_all   the least key of all is that of the first least place; choice_listed: so is the least of those within a limit, where that place is
+--   parted_all       what is within a limit is kept; parted_few: and is no more than there are
 use Prim.Native.Nat.{ℕ, zero, suc, ◌+◌, ◌*◌, ◌-◌, ◌/◌, ◌%◌, ◌≤◌, ◌<◌}
 use mathlib.Core.Path.{◌≡◌, refl, sym, ap, ap₂, ◌∙◌, subst}
 use mathlib.Core.Logic.{⊎_elim}

@@ -3,7 +3,7 @@
 --   added_as                           the same spots in other words
 --   row_yes, row_no                    one spot more of a row; rows_more: one row more; rows_none: one that has none within
 --   row_few, rows_few                  there are no more in a part of a row than in the whole, and none more in some rows than in all
---   added_join, added_last             a further row, and all; spots-rows: all rows have all spots
+--   added_join, added_last             a further row, and all; spots_rows: all rows have all spots
 --   key_of_spot                        the key of a spot with distance 0
 use Prim.Native.Nat.{ℕ, ◌+◌, ◌*◌, ◌-◌, ◌≤◌, ◌<◌}
 use mathlib.Core.Path.{◌≡◌, refl, sym, ap, ap₂, ◌∙◌, subst}

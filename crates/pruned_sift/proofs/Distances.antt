@@ -1,6 +1,6 @@
 -- What the functions answer where the numbers are the distances of a block's candidates, or any cost of their vectors.
 --   laid             an array of 2088 numbers has room for the block's rows, n + 32 places apart
---   nearest_chosen   the least key of all is that of a chosen spot; within-kept: the spots within a limit are those whose cost is
+--   nearest_chosen   the least key of all is that of a chosen spot; within_kept: the spots within a limit are those whose cost is
 use Prim.Native.Nat.{ℕ, ◌+◌, ◌*◌, ◌-◌, ◌/◌, ◌%◌, ◌≤◌}
 use mathlib.Core.Path.{◌≡◌, refl, sym, ap, ◌∙◌}
 use mathlib.Core.Bool.{cond}

@@ -1,9 +1,9 @@
 -- The least number of each row, and the least key by way of them.
 --   stored_more                              one more value stored
---   leasts_bound                             no number of a row is less than its least; zeros-bound: nor than 0
+--   leasts_bound                             no number of a row is less than its least; zeros_bound: nor than 0
 --   Passed                                   a key is the least of that it began with and those of the first i rows
 --   passed_first, passed_more, passed_last   no row, one more, and all
---   lowered_keys                             the keys of a row; lowered-over: a row whose least is above the least of all adds nothing
+--   lowered_keys                             the keys of a row; lowered_over: a row whose least is above the least of all adds nothing
 --   bottom_some                              a key that is no more than the one begun with
 use Prim.Native.Nat.{ℕ, ◌+◌, ◌*◌, ◌-◌, ◌≤◌, ◌<◌}
 use mathlib.Core.Path.{◌≡◌, refl, sym, ap, ◌∙◌, subst}

@@ -1,6 +1,6 @@
 -- Rows of numbers, and how many of them are within a limit.
---   row_room         a row lies in the array; place-small: where it begins is no large number
---   kept_row         how many of a list by a rule are within a limit; kept-lists: of lists one behind the other; kept-in-row: of a row; kept-all: of all
+--   row_room         a row lies in the array; place_small: where it begins is no large number
+--   kept_row         how many of a list by a rule are within a limit; kept_lists: of lists one behind the other; kept_in_row: of a row; kept_all: of all
 --   number-on        the number on the spot of a row and a column of the region
 use Prim.Native.Nat.{ℕ, zero, suc, ◌+◌, ◌*◌, ◌-◌, ◌≤◌, ◌<◌}
 use mathlib.Core.Path.{◌≡◌, refl, sym, ap, ap₂, ◌∙◌}

@@ -1,6 +1,6 @@
 -- A number a candidate, in an array that has a region's rows one behind the other, so many places apart.
 --   Laid       the array has them all, and the region lies around the middle of window 16
---   number_at   the number of row i, column j of window 16; numberOn: that on a spot
+--   number_at   the number of row i, column j of window 16; number_on: that on a spot
 --   key_in      its key: the number, then the preference order
 --   RowLeasts  the least number of each row, up to 2³² - 1; LowerBounds: no number of a row is less
 --   row_spots   the spots of row i of the region

@@ -1,6 +1,6 @@
 -- A block by its rows of squares.
 --   stored         an array with the first p rows added up
---   first_inside   the first row lies inside the array, first-bound: and what it adds fits; block-bound: so does each
+--   first_inside   the first row lies inside the array, first_bound: and what it adds fits; block_bound: so does each
 --   block_first    the first row, block_more: a further one
 use Prim.Native.Nat.{ℕ, ◌+◌, ◌*◌, ◌≤◌, ◌<◌}
 use mathlib.Core.Path.{◌≡◌, ap, ◌∙◌}

@@ -1,8 +1,8 @@
 -- A row of squares by its runs.
---   runs_fours   where k is not 1 and not 2 it is some times 4; runs-some: k is not 0
---   four_more    a further run of 4 is inside; four-least: so is the first
+--   runs_fours   where k is not 1 and not 2 it is some times 4; runs_some: k is not 0
+--   four_more    a further run of 4 is inside; four_least: so is the first
 --   added        an array with the first q squares added up, run_more: and a run more
---   run_inside   a run lies inside the array, run-bound: and what it adds fits; first_inside, first-bound: so does the first
+--   run_inside   a run lies inside the array, run_bound: and what it adds fits; first_inside, first_bound: so does the first
 use Prim.Native.Nat.{ℕ, ◌+◌, ◌*◌, ◌≤◌, ◌<◌}
 use mathlib.Core.Path.{◌≡◌, ap, ap₂, ◌∙◌}
 use mathlib.Core.Logic.{⊎_elim}

@@ -1,6 +1,6 @@
 -- Arrays that a loop fills from place 0, and sums.
 --   filled_at    what stands in such an array; filled_next: at the place that is next
---   fill_turn    a turn of such a loop; fill-again: two loops
+--   fill_turn    a turn of such a loop; fill_again: two loops
 --   squared_is   a squared difference
 --   prefix_le    the first terms of a sum are at most the sum; next_le: also with the next
 use Prim.Native.Nat.{ℕ, ◌+◌, ◌-◌, ◌*◌, ◌≤◌, ◌<◌}

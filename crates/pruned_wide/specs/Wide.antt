@@ -4,7 +4,7 @@
 --   squared      the squared difference of two sums
 --   kept         what a run of squares is added to: nothing, where it is the first
 --   row_squares   the squared differences of so many squares in a row, m places apart, summed
---   squares_of    the distance of k × k squares from the place `at` on, squaresAt: that of the candidate at place t
+--   squares_of    the distance of k × k squares from the place `at` on, squares_at: that of the candidate at place t
 --   Runs         k squares are 1, 2, or some times 4
 --   Inside       the squares of a row lie inside the array, for all places
 --   Wide         the squares of a block do, and distances have 32 bits

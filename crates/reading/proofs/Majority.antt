@@ -1,10 +1,10 @@
 -- The vector of most voters is the one that the walk along the preference table keeps: every vector of window 16 stands there, in the order's order,
 -- and a vector outside it has no voter. All laws are of any set of voters; where that is empty the majority is (0,0), the first of the order.
 --   same_no                             what the test of two vectors says
---   votes_none, votes_more, votes_few   how votes grow; votes-ext: blocks with the same vectors, the same votes
+--   votes_none, votes_more, votes_few   how votes grow; votes_ext: blocks with the same vectors, the same votes
 --   votes_outside, votes_blank          a vector that no voter has, and a set without a voter
---   majority_most                       the majority has most voters, ties by preference order; most-unique: no other has
---   majority_blank                      no voter: (0,0); majority-within: a vector of window 16
+--   majority_most                       the majority has most voters, ties by preference order; most_unique: no other has
+--   majority_blank                      no voter: (0,0); majority_within: a vector of window 16
 use Prim.Native.Nat.{ℕ, ◌+◌, ◌≤◌, ◌<◌}
 use mathlib.Core.Path.{◌≡◌, refl, sym, ap, ◌∙◌, subst}
 use mathlib.Core.Logic.{◌⊎◌, inl, inr, ⊎_elim}

@@ -1,7 +1,7 @@
 -- One part of the travels held, dy or dx: what its test says, and the sum of the held ones, place by place.
 --   Kept       the test, as facts: kept_yes, kept_true
 --   sum_at, sum_out   the test holds exactly where the parts, counted, make up the sum
---   more_next, more_last   the places with one more; sum_more, sum-full: its sum; kept_small: a sum of at most 64 is small
+--   more_next, more_last   the places with one more; sum_more, sum_full: its sum; kept_small: a sum of at most 64 is small
 --   Whole      the test of both parts, as facts: whole_yes, whole_true
 use Prim.Native.Nat.{ℕ, zero, suc, ◌+◌, ◌-◌, ◌*◌, ◌≤◌, ◌<◌}
 use mathlib.Core.Path.{◌≡◌, sym, ap, ◌∙◌}

@@ -3,7 +3,7 @@
 --   holding_more   a track that holds the last 64 of a list holds, with a travel more, the last 64 of the longer list
 --   last_few       the last 64 are at most 64
 --   travels_held   the travels in a track are the list that it holds
---   none_ok        homing leaves none of the three faults; more-ok: nor does a travel more, also to a track built by hand
+--   none_ok        homing leaves none of the three faults; more_ok: nor does a travel more, also to a track built by hand
 --   more_long      the places stay 64
 use Prim.Native.Nat.{ℕ, zero, suc, ◌+◌, ◌-◌, ◌≤◌, ◌<◌, min}
 use mathlib.Core.Path.{◌≡◌, refl, ap, ap₂, ◌∙◌}
@@ -11,7 +11,7 @@ use mathlib.Core.List.{List, [], ◌∷◌, ◌++◌, map, map-append}
 use native.Mathlib.Omega.{arith}
 use borrow.Author.Count.{below_more}
 use lib.Dec.{T}
-use lib.IntN.{ℤ, pos, nat_abs, ◌+ℤ◌}
+use lib.IntN.{ℤ, pos, nat_abs}
 use lib.ListN.{length, get_or, take, drop, replicate, length-append, length-drop, length-map}
 use lib.ListN.{get_or-append, get_or-map}
 use lib.Seq.{take_at, drop_at, drop-append-le, drop-drop, length-take-le, get_or_at, get_or-take, get_or-drop, ext_get_or}

@@ -1,12 +1,12 @@
 -- 02, request 7: "The track holds the last 64 travels, oldest first, and the sum of each part as stored numbers, kept true by step and homing alike. Homing
 -- empties them, all places and sums 0. The sixty-fifth pushes out the oldest." "Step also refuses by 32 a track that holds more than 64, a held part outside
 -- -16..16 or a false sum."
---   most_held     64; lastHeld: the last 64 of a list
+--   most_held     64; last_held: the last 64 of a list
 --   no_travels    nothing held: all places and sums 0
---   recent_ok     no more than 64 held, no held part outside -16..16, no false sum; partsOk: of one part, dy or dx
---   recent_more   with one travel more; placesMore: the places of one part; sumHeld: its sum
+--   recent_ok     no more than 64 held, no held part outside -16..16, no false sum; parts_ok: of one part, dy or dx
+--   recent_more   with one travel more; places_more: the places of one part; sum_held: its sum
 --   travels_in    the travels held, oldest first
---   holding      a list of at most 64 travels, as a track holds it; sum_down, sumAcross: the sums of its parts
+--   holding      a list of at most 64 travels, as a track holds it; sum_down, sum_across: the sums of its parts
 use Rattle.std.specs.Prelude.{ℕ, ◌+◌, ◌-◌, min, Bool, ◌&&◌, List, [], ◌∷◌, ◌++◌, map, leb, ℤ, pos, nat_abs, length, get_or, take, drop, replicate}
 use Rattle.base.specs.Tests.{all_below}
 use Rattle.base.specs.Sum.{sum_each}

@@ -1,7 +1,7 @@
 -- The track's rules in plain numbers. 01, "Field, reading, track": "Home (y, x), each in -1,000,000..1,000,000"; "Steps end at 1,000,000."; "Travel is
 -- the reading with both signs turned." 02, request 3: "52, step only, no block votes, tested after 32 and before 33"; request 7: "Step also refuses by 32 a
 -- track that holds more than 64, a held part outside -16..16 or a false sum."
---   inRange       -1,000,000..1,000,000
+--   in_range       -1,000,000..1,000,000
 --   home_refusal   11, of a homing place
 --   may_step       no 32: fewer than 1,000,000 steps, and none of the three faults
 --   state_refusal  31 32, of a track that is to step

@@ -1,6 +1,6 @@
 -- A frame that is cut where a block begins: it begins with that block.
 --   voter_ext         blocks that agree vote alike
---   standing_begins   the block begins inside; standing-inside: its rows lie in what is left
+--   standing_begins   the block begins inside; standing_inside: its rows lie in what is left
 --   standing_votes    it votes exactly if the block that what is left begins with does
 --   last_size         an N that is none of 16, 8 and 4 is 32
 use Prim.Native.Nat.{ℕ, ◌+◌, ◌*◌, ◌%◌, ◌≤◌}

@@ -1,5 +1,4 @@
 -- `refused_search`: the number, and zeros.
-use borrow.Author.Rules.{rules}
 use Rattle.block.proofs.refused_search.Goals as goal
 
 pub returns : goal.returns

@@ -1,7 +1,6 @@
 -- `search_block`: past the chain the block is ready for each search, and the requested search answers.
 use mathlib.Core.Path.{◌≡◌, sym, ◌∙◌}
 use native.Mathlib.Omega.{arith}
-use borrow.Author.Rules.{rules}
 use lib.ListN.{length}
 use Rattle.refusals.specs.Refusals.{window_ok, setting_of, window_small}
 use Rattle.frame.specs.Pictures.{pair_of}

@@ -1,6 +1,5 @@
 -- `search_refusal`: the request's chain, and after it the block's place.
 use mathlib.Core.Path.{◌≡◌, sym}
-use borrow.Author.Rules.{rules}
 use Rattle.base.specs.Tests.{told}
 use Rattle.refusals.specs.Refusals.{unless, place_ok, setting_of, first_refusal_some, first_refusal_none}
 use Rattle.block.specs.Block.{search_refusal}

@@ -2,7 +2,6 @@
 use Prim.Native.Nat.{◌+◌}
 use mathlib.Core.Path.{refl}
 use native.Mathlib.Omega.{arith}
-use borrow.Author.Rules.{rules}
 use Rattle.boxes.specs.Boxes.{area}
 use Rattle.boxes.proofs.Rooms.{square_small}
 use Rattle.boxes.proofs.area.Goals as goal

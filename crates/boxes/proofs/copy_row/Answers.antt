@@ -1,10 +1,10 @@
 -- `copy_row`: after j turns the first j pels are copied.
-use Prim.Native.Nat.{◌+◌, ◌-◌, ◌≤◌}
+use Prim.Native.Nat.{◌+◌}
 use mathlib.Core.Path.{◌≡◌, refl}
 use native.Mathlib.Omega.{arith}
 use borrow.Author.Rules.{rules}
-use lib.ListN.{length, get_or, length-set}
-use Rattle.base.specs.Lists.{fill_to, fill_none, fill_more}
+use lib.ListN.{length-set}
+use Rattle.base.specs.Lists.{fill_none, fill_more}
 use Rattle.boxes.proofs.copy_row.Goals as goal
 
 pub loop-j-init : goal.loop-j-init

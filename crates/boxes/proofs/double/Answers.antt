@@ -1,12 +1,12 @@
 -- `double`: after t turns the first t boxes are stored; what they are made of stands before them.
-use Prim.Native.Nat.{ℕ, ◌+◌, ◌-◌, ◌≤◌, ◌<◌}
+use Prim.Native.Nat.{ℕ, ◌+◌, ◌≤◌, ◌<◌}
 use mathlib.Core.Path.{◌≡◌, refl}
 use native.Mathlib.Omega.{arith}
 use borrow.Author.Rules.{rules}
 use mir.Val.{Fits}
 use mir.Syntax.{w16}
-use lib.ListN.{length, get_or, length-set}
-use Rattle.base.specs.Lists.{fill_to, fill_none, fill_more, fill_before}
+use lib.ListN.{get_or, length-set}
+use Rattle.base.specs.Lists.{fill_none, fill_more, fill_before}
 use Rattle.boxes.specs.Boxes.{doubled}
 use Rattle.boxes.proofs.double.Goals as goal
 use Rattle.boxes.proofs.double.Goals.{At-loop-t}

@@ -7,7 +7,6 @@ use lib.ListN.{get_or}
 use Rattle.frame.specs.declared.Region.{Region}
 use Rattle.refusals.specs.Refusals.{block_size}
 use Rattle.distortion.specs.Blocks.{Bytes}
-use Rattle.search.specs.Target.{Ready}
 use Rattle.reach.specs.Reach.{Standing, reach}
 use Rattle.reach.proofs.Candidates.{Bounds, reach_bounds, ready_standing}
 use Rattle.boxes.specs.Boxes.{window_pels, block_pels, span_of}

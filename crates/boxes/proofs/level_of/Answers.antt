@@ -2,7 +2,6 @@
 use Prim.Native.Nat.{◌+◌, ◌*◌, ◌≤◌}
 use native.Mathlib.Omega.{arith}
 use native.Mathlib.Nat.{mul-le-mul}
-use borrow.Author.Rules.{rules}
 use Rattle.boxes.proofs.Rooms.{log2_power, cut_some, square_small, area_small}
 use Rattle.boxes.proofs.level_of.Goals as goal
 use Rattle.boxes.proofs.level_of.Goals.{After-area}

@@ -1,7 +1,6 @@
 -- `whole_32`: a box has 16 bits.
 use Prim.Native.Nat.{◌+◌}
 use native.Mathlib.Omega.{arith}
-use borrow.Author.Rules.{rules}
 use Rattle.boxes.proofs.whole_32.Goals as goal
 
 pub overflow_cast-result : goal.overflow_cast-result

@@ -1,8 +1,6 @@
 -- `all_passes`: the passes left lead to where all lead.
 use native.Mathlib.Omega.{arith}
-use borrow.Author.Rules.{rules}
-use Rattle.search.specs.Target.{target_of}
-use Rattle.cross.proofs.Passes.{Passing, log2_some, passing_first, passing_more, passing_last}
+use Rattle.cross.proofs.Passes.{log2_some, passing_first, passing_more, passing_last}
 use Rattle.cross.proofs.all_passes.Goals as goal
 
 pub overflow_sub-left : goal.overflow_sub-left

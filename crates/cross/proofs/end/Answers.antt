@@ -1,6 +1,5 @@
 -- `end`: the table is the cross (+), or a pass at 1 is made.
 use lib.Dec.{lit≤}
-use borrow.Author.Rules.{rules}
 use Rattle.probe.specs.Probe.{widened}
 use Rattle.probe.specs.BestSoFar.{pairs}
 use Rattle.probe.proofs.Probe.{all?}

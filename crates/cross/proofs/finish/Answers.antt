@@ -1,7 +1,6 @@
 -- `finish`: the pass at 1, the test of step 6 and the last cross are the definition's.
 use mathlib.Core.Path.{ap, ◌∙◌}
 use native.Mathlib.Omega.{arith}
-use borrow.Author.Rules.{rules}
 use Rattle.search.specs.Target.{target_of}
 use Rattle.probe.specs.BestSoFar.{point, seen_of}
 use Rattle.probe.proofs.Looks.{holds_by}

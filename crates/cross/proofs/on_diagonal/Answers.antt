@@ -1,6 +1,5 @@
 -- `on_diagonal`: the table is the three points of step 6.
 use lib.Dec.{lit≤}
-use borrow.Author.Rules.{rules}
 use Rattle.probe.specs.BestSoFar.{pairs}
 use Rattle.cross.specs.Cross.{diagonal, on_diagonal}
 use Rattle.cross.proofs.on_diagonal.Goals as goal

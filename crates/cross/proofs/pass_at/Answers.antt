@@ -1,5 +1,4 @@
 -- `pass_at`: the table is the cross (X).
-use borrow.Author.Rules.{rules}
 use Rattle.probe.specs.BestSoFar.{pairs}
 use Rattle.probe.proofs.Probe.{all?}
 use Rattle.probe.proofs.Looks.{pattern?, pattern_yes}

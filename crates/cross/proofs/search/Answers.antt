@@ -1,6 +1,5 @@
 -- `search`: the two sides of the test against T are the definition's.
 use mathlib.Core.Path.{ap, ◌∙◌}
-use borrow.Author.Rules.{rules}
 use Rattle.search.specs.Target.{target_of}
 use Rattle.probe.specs.BestSoFar.{seen_of, result_of}
 use Rattle.cross.specs.Cross.{finished}

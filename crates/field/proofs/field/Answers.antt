@@ -2,7 +2,6 @@
 use mathlib.Core.Path.{sym, ◌∙◌}
 use Rattle.field_rules.specs.Rules.{has_room}
 use Rattle.field.specs.Field.{field_refused, field_accepted}
-use borrow.Author.Rules.{rules}
 use Rattle.field.proofs.field.Goals as goal
 
 pub returns-then-refusal-ne0 : goal.returns-then-refusal-ne0

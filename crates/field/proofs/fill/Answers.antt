@@ -1,5 +1,5 @@
 -- `fill`: the table of sums is made, and each block searched; then the reading is that of all votes.
-use borrow.Author.Rules.{sfits_of, rules}
+use borrow.Author.Rules.{rules}
 use mathlib.Core.Path.{refl, ◌∙◌}
 use mir.Facts.{to_z-of_z}
 use Rattle.frame.specs.Pictures.{pair_of}

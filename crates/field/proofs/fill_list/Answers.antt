@@ -1,8 +1,7 @@
 -- `fill_list`: one index over all grid blocks; each turn searches one, stores it, votes for it if it is a voter, and adds it.
-use Prim.Native.Nat.{◌+◌, ◌-◌, ◌*◌, ◌≤◌, ◌<◌}
+use Prim.Native.Nat.{◌+◌, ◌*◌, ◌≤◌, ◌<◌}
 use mathlib.Core.Path.{◌≡◌, ap, ◌∙◌}
 use native.Mathlib.Omega.{arith}
-use borrow.Author.Rules.{rules}
 use lib.ListN.{length}
 use Rattle.signed.proofs.Machine.{through}
 use Rattle.frame.specs.Grid.{blocks, blocks_few}
@@ -10,8 +9,6 @@ use Rattle.frame.specs.Pictures.{pair_of, Fitting}
 use Rattle.refusals.specs.Refusals.{setting_of, requested}
 use Rattle.voter.specs.Voter.{voting}
 use Rattle.reading.proofs.Tally.{tally_room}
-use Rattle.field_block.specs.Blocks.{search_at}
-use Rattle.field.specs.Filling.{BlocksFilled}
 use Rattle.field.proofs.Turns.{filled_first, filled_few, filled_more}
 use Rattle.field.proofs.fill_list.Goals as goal
 use Rattle.field.proofs.fill_list.Goals.{After-is_voter_at-voting, After-search_at-f, Start}

@@ -1,18 +1,12 @@
 -- `fill_list`: one index over all grid blocks; each turn searches one, stores it, votes for it if it is a voter, and adds it.
-use Prim.Native.Nat.{◌+◌, ◌-◌, ◌*◌, ◌≤◌, ◌<◌}
-use mathlib.Core.Path.{◌≡◌, ap, ◌∙◌}
-use native.Mathlib.Omega.{arith}
-use borrow.Author.Rules.{rules}
-use lib.ListN.{length}
-use Rattle.signed.proofs.Machine.{through}
-use Rattle.frame.specs.Grid.{blocks, blocks_few}
-use Rattle.frame.specs.Pictures.{pair_of, Fitting}
-use Rattle.refusals.specs.Refusals.{setting_of, requested}
+use Prim.Native.Nat.{◌-◌, ◌≤◌}
+use mathlib.Core.Path.{◌≡◌}
+use Rattle.frame.specs.Grid.{blocks}
+use Rattle.frame.specs.Pictures.{pair_of}
+use Rattle.refusals.specs.Refusals.{setting_of}
 use Rattle.voter.specs.Voter.{voting}
-use Rattle.reading.proofs.Tally.{tally_room}
 use Rattle.field_block.specs.Blocks.{search_at}
 use Rattle.field.specs.Filling.{BlocksFilled}
-use Rattle.field.proofs.Turns.{filled_first, filled_few, filled_more}
 use Rattle.field.proofs.fill_list.Given as goal
 
 abbrev pub invariant-loop-k : goal.invariant-loop-k

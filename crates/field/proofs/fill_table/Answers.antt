@@ -2,7 +2,6 @@
 use borrow.Author.Tests.{ne_eqb, eq-eqb}
 use native.Mathlib.Omega.{arith}
 use Rattle.field.specs.Field.{table_of}
-use borrow.Author.Rules.{rules}
 use Rattle.field.proofs.fill_table.Goals as goal
 
 pub fill_sums-requires : goal.fill_sums-requires

@@ -1,5 +1,4 @@
 -- `refused_field`: the number, and zeros.
-use borrow.Author.Rules.{rules}
 use Rattle.field.proofs.refused_field.Goals as goal
 
 pub returns : goal.returns

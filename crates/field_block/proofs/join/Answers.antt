@@ -1,18 +1,14 @@
 -- `join`: count by count; each sum is small.
-use Prim.Native.Nat.{ℕ, ◌+◌, ◌-◌, ◌≤◌}
+use Prim.Native.Nat.{ℕ}
 use mathlib.Core.Path.{◌≡◌}
 use mathlib.Core.List.{List}
 use native.Mathlib.Nat.{le_refl}
 use native.Mathlib.Omega.{arith}
-use borrow.Author.Rules.{rules}
 use lib.ListN.{get_or, drop_of_length-le}
 use Rattle.base.specs.Tests.{byte_one, one_le}
 use Rattle.base.specs.Lists.{list_to, length_list_to, fill_to, fill_none, fill_zero, fill_front, front_behind}
 use Rattle.frame.specs.Pictures.{count_number}
-use Rattle.search.specs.declared.SearchResult.{SearchResult}
-use Rattle.field_block.specs.declared.Total.{Total}
 use Rattle.field_block.proofs.join.Goals as goal
-use Rattle.field_block.proofs.join.Invariants.{sum}
 use Rattle.field_block.proofs.join.Goals.{In-loop-i}
 
 -- the place that comes next is as it was

@@ -1,13 +1,8 @@
 -- `join`: count by count; each sum is small.
 use Prim.Native.Nat.{ℕ, ◌+◌, ◌-◌, ◌≤◌}
 use mathlib.Core.Path.{◌≡◌}
-use mathlib.Core.List.{List}
-use native.Mathlib.Nat.{le_refl}
-use native.Mathlib.Omega.{arith}
-use borrow.Author.Rules.{rules}
-use lib.ListN.{get_or, drop_of_length-le}
-use Rattle.base.specs.Tests.{byte_one, one_le}
-use Rattle.base.specs.Lists.{list_to, length_list_to, fill_to, fill_none, fill_zero, fill_front, front_behind}
+use lib.ListN.{get_or}
+use Rattle.base.specs.Lists.{fill_to}
 use Rattle.frame.specs.Pictures.{count_number}
 use Rattle.search.specs.declared.SearchResult.{SearchResult}
 use Rattle.field_block.specs.declared.Total.{Total}

@@ -3,7 +3,6 @@ use Prim.Native.Nat.{◌+◌, ◌≤◌}
 use mathlib.Core.Path.{◌≡◌, sym, ◌∙◌}
 use native.Mathlib.Omega.{arith}
 use lib.ListN.{length}
-use borrow.Author.Rules.{rules}
 use Rattle.frame.specs.Grid.{block_row, block_column, block_down, block_across}
 use Rattle.refusals.specs.Refusals.{setting_of, Requested, requested, window_small}
 use Rattle.block.specs.Block.{search_fine, block_accepted, searched_pruned}
@@ -43,9 +42,12 @@ lies : (b : After-block_column-x) → let q = b.args.q in
     (b.block_row-y.result + q.n ≤ q.height) × (b.block_column-x.result + q.n ≤ q.width)
 lies b =
     let f = (let request : let a = b.args in Requested (length a.older.now) (length a.newer.now) a.q = requested _ _ _ b.requires.0 in request).paired.fitting in
-    rw ((let row_is : let a = b.args in
-    b.block_row-y.result ≡ block_row (setting_of a.q) a.k = rw b.setting_of-s.ensures at b.block_row-y.ensures in row_is), (let column-is : let a = b.args in
-    b.block_column-x.result ≡ block_column (setting_of a.q) a.k = rw b.setting_of-s.ensures at b.block_column-x.ensures in column-is)) (block_down _ f _ b.requires.1, block_across _ f _ b.requires.1)
+    rw (
+      (let row_is : let a = b.args in
+          b.block_row-y.result ≡ block_row (setting_of a.q) a.k = rw b.setting_of-s.ensures at b.block_row-y.ensures in row_is),
+      (let column-is : let a = b.args in
+          b.block_column-x.result ≡ block_column (setting_of a.q) a.k = rw b.setting_of-s.ensures at b.block_column-x.ensures in column-is),
+    ) (block_down _ f _ b.requires.1, block_across _ f _ b.requires.1)
 
 pub search-requires : goal.search-requires
 search-requires c =

@@ -3,7 +3,6 @@ use Prim.Native.Nat.{ℕ, ◌+◌, ◌*◌, ◌≤◌}
 use borrow.Author.Tests.{ne_eqb, eq-eqb, lt-leb, le-leb}
 use lib.Dec.{eqb}
 use mathlib.Core.Bool.{true, not}
-use mathlib.Core.Logic.{⊎_elim}
 use mathlib.Core.Path.{◌≡◌, sym, ap, ◌∙◌}
 use native.Mathlib.Nat.{mul-le-mul}
 use native.Mathlib.Omega.{arith}
@@ -12,7 +11,6 @@ use Rattle.base.specs.Tests.{or_true}
 use Rattle.frame.specs.Grid.{blocks, blocks_few}
 use Rattle.frame.specs.Pictures.{Fitting}
 use Rattle.refusals.specs.Refusals.{first_refusal_none, first_refusal_some, setting_of, request_refusal, requested}
-use borrow.Author.Rules.{rules}
 use Rattle.field_rules.proofs.field_refusal.Goals as goal
 use Rattle.field_rules.proofs.field_refusal.Goals.{After-block_count, Else-refusal-ne0, Joined-q-eq2, then-q-eq2+else-table-q, else-q-eq2}
 
@@ -60,7 +58,7 @@ long : (c : Joined-q-eq2) → let a = c.args in table_ok a.q a.table ≡ true
 long c =
     let a = c.args in
     elim c.if-q-eq2.branch [
-      then-q-eq2+else-table-q w ↦ rw (le-leb _ _ w.if-table-q.false) (or_true (not (eqb a.q.search 2)))
+      | then-q-eq2+else-table-q w ↦ rw (le-leb _ _ w.if-table-q.false) (or_true (not (eqb a.q.search 2)))
       | else-q-eq2 w ↦ rw (ne_eqb a.q.search 2 w.if-q-eq2.false)
     ]
 

@@ -1,7 +1,6 @@
 -- `from_three`: the two sides of the test are the definition's.
 use mathlib.Core.Path.{ap, sym, ◌∙◌}
 use native.Mathlib.Omega.{arith}
-use borrow.Author.Rules.{rules}
 use Rattle.search.specs.Target.{target_of}
 use Rattle.probe.proofs.Looks.{holds_by}
 use Rattle.four_step.specs.FourStep.{step4}

@@ -1,6 +1,5 @@
 -- `search`: step 1, then the rest from (0,0).
 use mathlib.Core.Path.{ap, ◌∙◌}
-use borrow.Author.Rules.{rules}
 use Rattle.signed.specs.Values.{unbias}
 use Rattle.search.specs.Target.{target_of}
 use Rattle.probe.specs.Probe.{origin}

@@ -1,6 +1,5 @@
 -- `step_on`: both tables are the square.
 use lib.Dec.{lit≤}
-use borrow.Author.Rules.{rules}
 use Rattle.probe.specs.Probe.{widened}
 use Rattle.probe.specs.BestSoFar.{pairs}
 use Rattle.probe.proofs.Probe.{all?}

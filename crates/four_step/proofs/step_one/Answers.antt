@@ -1,7 +1,6 @@
 -- `step_one`: the table without its first pair is the pattern without its centre.
 use native.Mathlib.Omega.{arith}
 use lib.Dec.{lit≤}
-use borrow.Author.Rules.{rules}
 use Rattle.search.specs.Target.{target_of}
 use Rattle.probe.specs.Probe.{widened, is_in, fresh}
 use Rattle.probe.specs.BestSoFar.{seen_of, pairs}

@@ -1,7 +1,6 @@
 -- `by_rows`: in reach the copies have the keys of the frames, so the least by the copies is the least.
 use mathlib.Core.Path.{refl, sym, ◌∙◌}
 use native.Mathlib.Omega.{arith}
-use borrow.Author.Rules.{rules}
 use Rattle.distortion.specs.Blocks.{begins, block-inside, kernel_is}
 use Rattle.reach.proofs.Candidates.{ready_standing}
 use Rattle.full.proofs.Reached.{least_same}

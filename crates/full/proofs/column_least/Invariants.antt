@@ -1,16 +1,8 @@
 -- `column_least`: after the rows before i of the upper half and as many of the lower one the least of each half is that of their keys.
-use Prim.Native.Nat.{ℕ, ◌+◌, ◌-◌, ◌%◌, ◌≤◌, ◌<◌, min}
-use mathlib.Core.Path.{◌≡◌, sym, ap, ◌∙◌}
-use native.Mathlib.Omega.{arith}
-use mathlib.Core.List.{List}
-use lib.ListN.{get_or}
-use Rattle.base.specs.Lists.{get_d_list_to}
-use Rattle.reach.specs.Keys.{order_code, code_of}
-use Rattle.reach.proofs.Keys.{code_small}
+use Prim.Native.Nat.{◌+◌, ◌-◌, ◌≤◌}
+use mathlib.Core.Path.{◌≡◌}
 use Rattle.full.specs.Rows.{least_from}
 use Rattle.full.specs.Columns.{key_in_strip}
-use Rattle.full.proofs.Keys.{least_first, least_next, least_cut}
-use Rattle.full.proofs.Strips.{strip_key}
 use Rattle.full.proofs.column_least.Given as goal
 
 abbrev pub invariant-loop-i : goal.invariant-loop-i

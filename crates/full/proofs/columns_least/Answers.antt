@@ -1,5 +1,5 @@
 -- `columns_least`: before column j the least is that of the columns passed (`Passed`).
-use Prim.Native.Nat.{ℕ, ◌+◌, ◌-◌, ◌≤◌}
+use Prim.Native.Nat.{ℕ, ◌+◌, ◌-◌}
 use mathlib.Core.Path.{◌≡◌, refl, ap, ap₂, ◌∙◌}
 use native.Mathlib.Omega.{arith}
 use mathlib.Core.List.{List}
@@ -7,7 +7,7 @@ use lib.ListN.{length}
 use Rattle.base.specs.Rows.{length_in_rows}
 use Rattle.full.specs.Rows.{least_from}
 use Rattle.full.specs.Columns.{key_in_strip, key_by_column}
-use Rattle.full.proofs.Reached.{Passed, passed_first, passed_more, passed_last}
+use Rattle.full.proofs.Reached.{passed_first, passed_more, passed_last}
 use Rattle.full.proofs.columns_least.Goals as goal
 use Rattle.full.proofs.columns_least.Goals.{After-copy_strip}
 

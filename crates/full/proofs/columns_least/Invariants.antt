@@ -1,13 +1,9 @@
 -- `columns_least`: before column j the least is that of the columns passed (`Passed`).
-use Prim.Native.Nat.{ℕ, ◌+◌, ◌-◌, ◌≤◌}
-use mathlib.Core.Path.{◌≡◌, refl, ap, ap₂, ◌∙◌}
-use native.Mathlib.Omega.{arith}
-use mathlib.Core.List.{List}
+use Prim.Native.Nat.{◌-◌, ◌≤◌}
+use mathlib.Core.Path.{◌≡◌}
 use lib.ListN.{length}
-use Rattle.base.specs.Rows.{length_in_rows}
-use Rattle.full.specs.Rows.{least_from}
-use Rattle.full.specs.Columns.{key_in_strip, key_by_column}
-use Rattle.full.proofs.Reached.{Passed, passed_first, passed_more, passed_last}
+use Rattle.full.specs.Columns.{key_by_column}
+use Rattle.full.proofs.Reached.{Passed}
 use Rattle.full.proofs.columns_least.Given as goal
 
 abbrev pub invariant-loop-j : goal.invariant-loop-j

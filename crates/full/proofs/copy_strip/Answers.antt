@@ -1,10 +1,9 @@
 -- `copy_strip`: after i rows and c pels of the next the strip is filled so far.
-use Prim.Native.Nat.{◌+◌, ◌-◌, ◌*◌, ◌≤◌}
 use mathlib.Core.Path.{◌≡◌}
 use native.Mathlib.Omega.{arith}
-use lib.ListN.{length, get_or, length-set}
-use Rattle.base.specs.Lists.{fill_to, fill_none, fill_more}
-use Rattle.base.specs.Rows.{Rowed, rowed_first, rowed_more, rowed_all}
+use lib.ListN.{length-set}
+use Rattle.base.specs.Lists.{fill_none, fill_more}
+use Rattle.base.specs.Rows.{rowed_first, rowed_more, rowed_all}
 use Rattle.full.proofs.copy_strip.Goals as goal
 
 pub loop-i-init : goal.loop-i-init

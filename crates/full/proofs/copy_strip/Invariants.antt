@@ -1,10 +1,9 @@
 -- `copy_strip`: after i rows and c pels of the next the strip is filled so far.
 use Prim.Native.Nat.{◌+◌, ◌-◌, ◌*◌, ◌≤◌}
 use mathlib.Core.Path.{◌≡◌}
-use native.Mathlib.Omega.{arith}
-use lib.ListN.{length, get_or, length-set}
-use Rattle.base.specs.Lists.{fill_to, fill_none, fill_more}
-use Rattle.base.specs.Rows.{Rowed, rowed_first, rowed_more, rowed_all}
+use lib.ListN.{length, get_or}
+use Rattle.base.specs.Lists.{fill_to}
+use Rattle.base.specs.Rows.{Rowed}
 use Rattle.full.proofs.copy_strip.Given as goal
 
 abbrev pub invariant-loop-c : goal.invariant-loop-c

@@ -2,7 +2,6 @@
 use Prim.Native.Nat.{◌+◌, ◌-◌}
 use mathlib.Core.Path.{◌≡◌}
 use native.Mathlib.Omega.{arith}
-use borrow.Author.Rules.{rules}
 use Rattle.full.proofs.Reached.{lowered_none, lowered_row}
 use Rattle.full.proofs.row_in_reach.Goals as goal
 

@@ -3,14 +3,14 @@ use Prim.Native.Nat.{ℕ, ◌+◌, ◌-◌, ◌≤◌, ◌<◌}
 use mir.Syntax.{w32}
 use mathlib.Core.Path.{◌≡◌, refl, ap, ◌∙◌}
 use native.Mathlib.Omega.{arith}
-use borrow.Author.Rules.{rules, Fits-under}
+use borrow.Author.Rules.{Fits-under}
 use mathlib.Core.List.{List}
 use lib.ListN.{get_or}
 use Rattle.base.specs.Lists.{get_d_list_to}
 use Rattle.distortion.specs.Blocks.{size_by, measure_by}
 use Rattle.reach.specs.Keys.{order_code, key_of, code_of}
 use Rattle.reach.proofs.Keys.{code_small}
-use Rattle.full.specs.Rows.{key_in_copy, least_from}
+use Rattle.full.specs.Rows.{key_in_copy}
 use Rattle.full.proofs.Keys.{least_first, least_more, least_low, least_enough}
 use Rattle.full.proofs.row_least.Goals as goal
 use Rattle.full.proofs.row_least.Goals.{At-loop-j}

@@ -1,5 +1,5 @@
 -- `rows_least`: before turn t the least is that of the rows nearer than t to the middle (`Led`).
-use Prim.Native.Nat.{ℕ, ◌-◌, ◌≤◌, ◌<◌}
+use Prim.Native.Nat.{ℕ, ◌<◌}
 use mathlib.Core.Path.{◌≡◌}
 use native.Mathlib.Omega.{arith}
 use mathlib.Core.List.{List}
@@ -7,10 +7,10 @@ use lib.Dec.{T}
 use lib.ListN.{length}
 use Rattle.base.specs.Lists.{list_to}
 use Rattle.refusals.specs.Refusals.{block_size_ok}
-use Rattle.distortion.specs.Blocks.{size_by, measure_by}
+use Rattle.distortion.specs.Blocks.{size_by}
 use Rattle.reach.specs.Keys.{code_of}
-use Rattle.full.specs.Rows.{key_in_copy, Around}
-use Rattle.full.proofs.Reached.{Led, led_first, led_more, led_last}
+use Rattle.full.specs.Rows.{Around}
+use Rattle.full.proofs.Reached.{led_first, led_more, led_last}
 use Rattle.full.proofs.rows_least.Goals as goal
 use Rattle.full.proofs.rows_least.Goals.{Start}
 

@@ -1,16 +1,8 @@
 -- `rows_least`: before turn t the least is that of the rows nearer than t to the middle (`Led`).
-use Prim.Native.Nat.{ℕ, ◌-◌, ◌≤◌, ◌<◌}
-use mathlib.Core.Path.{◌≡◌}
-use native.Mathlib.Omega.{arith}
-use mathlib.Core.List.{List}
-use lib.Dec.{T}
-use lib.ListN.{length}
-use Rattle.base.specs.Lists.{list_to}
-use Rattle.refusals.specs.Refusals.{block_size_ok}
+use Prim.Native.Nat.{◌-◌, ◌≤◌, ◌<◌}
 use Rattle.distortion.specs.Blocks.{size_by, measure_by}
-use Rattle.reach.specs.Keys.{code_of}
-use Rattle.full.specs.Rows.{key_in_copy, Around}
-use Rattle.full.proofs.Reached.{Led, led_first, led_more, led_last}
+use Rattle.full.specs.Rows.{key_in_copy}
+use Rattle.full.proofs.Reached.{Led}
 use Rattle.full.proofs.rows_least.Given as goal
 
 abbrev pub invariant-loop-t : goal.invariant-loop-t

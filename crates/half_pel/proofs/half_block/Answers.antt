@@ -1,13 +1,12 @@
 -- `half_block`: after i turns the first i rows are stored, and the places are those of row i.
-use Prim.Native.Nat.{◌+◌, ◌-◌, ◌*◌, ◌/◌, ◌≤◌}
+use Prim.Native.Nat.{◌+◌, ◌*◌, ◌/◌, ◌≤◌}
 use mathlib.Core.Path.{◌≡◌, ◌∙◌}
 use native.Mathlib.Nat.{zero-mul}
 use native.Mathlib.Omega.{arith}
 use lib.ListN.{length}
 use Rattle.base.specs.Index.{row_next}
-use Rattle.base.specs.Lists.{stored_rows, stored_none}
+use Rattle.base.specs.Lists.{stored_none}
 use Rattle.frame.specs.Pictures.{pels_few}
-use Rattle.half_pel.specs.HalfPel.{half_block}
 use Rattle.half_pel.proofs.Values.{half_room, half_more}
 use Rattle.half_pel.proofs.half_block.Goals as goal
 use Rattle.half_pel.proofs.half_block.Goals.{Start}

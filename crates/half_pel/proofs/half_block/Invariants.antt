@@ -1,14 +1,9 @@
 -- `half_block`: after i turns the first i rows are stored, and the places are those of row i.
 use Prim.Native.Nat.{◌+◌, ◌-◌, ◌*◌, ◌/◌, ◌≤◌}
-use mathlib.Core.Path.{◌≡◌, ◌∙◌}
-use native.Mathlib.Nat.{zero-mul}
-use native.Mathlib.Omega.{arith}
+use mathlib.Core.Path.{◌≡◌}
 use lib.ListN.{length}
-use Rattle.base.specs.Index.{row_next}
-use Rattle.base.specs.Lists.{stored_rows, stored_none}
-use Rattle.frame.specs.Pictures.{pels_few}
+use Rattle.base.specs.Lists.{stored_rows}
 use Rattle.half_pel.specs.HalfPel.{half_block}
-use Rattle.half_pel.proofs.Values.{half_room, half_more}
 use Rattle.half_pel.proofs.half_block.Given as goal
 
 abbrev pub invariant-loop-i : goal.invariant-loop-i

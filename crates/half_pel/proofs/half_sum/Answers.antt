@@ -1,6 +1,5 @@
 -- `half_sum`: the array holds the half-pel block, so its distortion is that block's.
 use mathlib.Core.Path.{◌≡◌, refl}
-use borrow.Author.Rules.{rules}
 use lib.ListN.{replicate}
 use Rattle.measures.specs.Measures.{measure_of}
 use Rattle.distortion.specs.Blocks.{kernel_is, kernel_sum, size_small}

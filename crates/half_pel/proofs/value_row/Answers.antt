@@ -1,11 +1,9 @@
 -- `value_row`: after j turns the first j values are stored.
-use Prim.Native.Nat.{◌+◌, ◌-◌, ◌≤◌}
 use mathlib.Core.Path.{◌≡◌, refl}
 use native.Mathlib.Omega.{arith}
 use borrow.Author.Rules.{rules}
-use lib.ListN.{length, length-set}
-use Rattle.base.specs.Lists.{fill_to, fill_none, fill_more}
-use Rattle.half_pel.specs.HalfPel.{value_from}
+use lib.ListN.{length-set}
+use Rattle.base.specs.Lists.{fill_none, fill_more}
 use Rattle.half_pel.proofs.value_row.Goals as goal
 
 pub loop-j-init : goal.loop-j-init

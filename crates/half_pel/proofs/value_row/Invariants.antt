@@ -1,10 +1,8 @@
 -- `value_row`: after j turns the first j values are stored.
 use Prim.Native.Nat.{◌+◌, ◌-◌, ◌≤◌}
-use mathlib.Core.Path.{◌≡◌, refl}
-use native.Mathlib.Omega.{arith}
-use borrow.Author.Rules.{rules}
-use lib.ListN.{length, length-set}
-use Rattle.base.specs.Lists.{fill_to, fill_none, fill_more}
+use mathlib.Core.Path.{◌≡◌}
+use lib.ListN.{length}
+use Rattle.base.specs.Lists.{fill_to}
 use Rattle.half_pel.specs.HalfPel.{value_from}
 use Rattle.half_pel.proofs.value_row.Given as goal
 

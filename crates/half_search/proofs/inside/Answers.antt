@@ -1,7 +1,6 @@
 -- `inside`: a place with 1 added is 0 only where it lies before the side.
 use mathlib.Core.Path.{refl}
 use native.Mathlib.Omega.{arith}
-use borrow.Author.Rules.{rules}
 use Rattle.signed.specs.Values.{unbias}
 use Rattle.half_search.proofs.Leading.{place_at}
 use Rattle.half_search.proofs.inside.Goals as goal

@@ -1,9 +1,9 @@
 -- `refine`: the centre is the search's vector, and each turn of the loop tries one neighbour more.
-use Prim.Native.Nat.{ℕ, ◌+◌, ◌-◌, ◌*◌, ◌≤◌}
+use Prim.Native.Nat.{ℕ, ◌+◌, ◌*◌, ◌≤◌}
 use mathlib.Core.Path.{◌≡◌, refl, sym, ap, ◌∙◌}
 use mathlib.Core.List.{List}
 use native.Mathlib.Omega.{arith}
-use borrow.Author.Rules.{rules, sfits_of}
+use borrow.Author.Rules.{sfits_of}
 use lib.IntN.{nat_abs}
 use lib.ListN.{length}
 use mir.Facts.{to_z-of_z}
@@ -16,7 +16,7 @@ use Rattle.half_search.specs.Half.{neighbour_count, counts, costs}
 use Rattle.half_pel.proofs.Values.{half_long}
 use Rattle.half_search.specs.Steps.{Refining, try_at}
 use Rattle.half_search.proofs.Best.{centre_distortion, centre_tried}
-use Rattle.half_search.proofs.Leading.{Leading, leading_first, leading_next, leading_few, try_is, refined_is, past_of}
+use Rattle.half_search.proofs.Leading.{leading_first, leading_next, leading_few, try_is, refined_is, past_of}
 use mir.Syntax.{w32}
 use Rattle.half_search.proofs.refine.Goals as goal
 use Rattle.half_search.proofs.refine.Goals.{After-past-column}

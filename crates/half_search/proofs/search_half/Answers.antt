@@ -1,6 +1,5 @@
 -- `search_half`: what the search found is refined, unless it was refused.
 use mathlib.Core.Path.{◌≡◌, sym, ap, ◌∙◌}
-use borrow.Author.Rules.{rules}
 use Rattle.search.specs.declared.SearchResult.{SearchResult}
 use Rattle.block.specs.Block.{search_block}
 use Rattle.half_search.proofs.Answer.{half_accepted, half_refused, refining}

@@ -1,5 +1,4 @@
 -- `answer_of`: the two cases.
-use borrow.Author.Rules.{rules}
 use Rattle.measuring.specs.Measured.{answer_of}
 use Rattle.measuring.proofs.answer_of.Goals as goal
 

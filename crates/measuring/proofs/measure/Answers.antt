@@ -1,15 +1,13 @@
 -- `measure`: the tests are the chain's; where they pass, the older block is the one that the vector names, and it lies inside.
 use mathlib.Core.Path.{◌≡◌, ap, sym, ◌∙◌}
 use mathlib.Core.Bool.{true}
-use borrow.Author.Rules.{rules}
 use lib.Dec.{T}
 use lib.ListN.{length}
 use mir.Facts.{to_z-of_z}
-use Rattle.order.specs.declared.Vector.{Vector}
 use Rattle.order.specs.Vectors.{vec}
 use Rattle.base.specs.Tests.{T_true, told}
 use Rattle.measures.specs.Measures.{measure_ok}
-use Rattle.frame.specs.Pictures.{Pair, pair_of}
+use Rattle.frame.specs.Pictures.{pair_of}
 use Rattle.frame.specs.Candidates.{candidate, older_at, older_row, older_column, candidate_older, older_is, older_no}
 use Rattle.refusals.specs.Refusals.{place_ok, pair_refusal, placed}
 use Rattle.measuring.specs.Measured.{measure_at, refused_by, measured_refused, measured_unmeasured, measured_elsewhere, measured_outside, measured_at}

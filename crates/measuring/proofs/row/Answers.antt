@@ -1,11 +1,11 @@
 -- `row`: after j pels the sum is that of the first j, each at most the measure's most.
-use Prim.Native.Nat.{◌-◌, ◌*◌, ◌≤◌}
+use Prim.Native.Nat.{◌*◌, ◌≤◌}
 use mathlib.Core.Path.{◌≡◌, sym}
 use native.Mathlib.Nat.{mul-le-mul}
 use native.Mathlib.Omega.{arith}
 use Rattle.base.specs.Index.{row_next}
 use Rattle.measures.specs.Measures.{measure_of, most_small}
-use Rattle.distortion.specs.Blocks.{row_from, row_first, row-more}
+use Rattle.distortion.specs.Blocks.{row_first, row-more}
 use Rattle.measuring.proofs.row.Goals as goal
 
 pub loop-j-init : goal.loop-j-init

@@ -1,11 +1,8 @@
 -- `row`: after j pels the sum is that of the first j, each at most the measure's most.
 use Prim.Native.Nat.{◌-◌, ◌*◌, ◌≤◌}
-use mathlib.Core.Path.{◌≡◌, sym}
-use native.Mathlib.Nat.{mul-le-mul}
-use native.Mathlib.Omega.{arith}
-use Rattle.base.specs.Index.{row_next}
-use Rattle.measures.specs.Measures.{measure_of, most_small}
-use Rattle.distortion.specs.Blocks.{row_from, row_first, row-more}
+use mathlib.Core.Path.{◌≡◌}
+use Rattle.measures.specs.Measures.{measure_of}
+use Rattle.distortion.specs.Blocks.{row_from}
 use Rattle.measuring.proofs.row.Given as goal
 
 abbrev pub invariant-loop-j : goal.invariant-loop-j

@@ -6,7 +6,7 @@ use native.Mathlib.Omega.{arith}
 use Rattle.base.specs.Index.{row_next}
 use Rattle.base.specs.Sum.{sum_to_none, sum_to_more}
 use Rattle.measures.specs.Measures.{measure_of, most_small}
-use Rattle.distortion.specs.Blocks.{row_from, rows_from, size_small}
+use Rattle.distortion.specs.Blocks.{row_from, size_small}
 use Rattle.measuring.specs.Measurement.{rows_measured}
 use Rattle.measuring.proofs.Passing.{rows_none, rows_more, rows_passed}
 use Rattle.measuring.proofs.rows_measured.Goals as goal

@@ -1,14 +1,9 @@
 -- `rows_measured`: after so many rows the sum is theirs, none before has passed the ceiling, and the next row begins so many widths on.
-use Prim.Native.Nat.{◌+◌, ◌-◌, ◌*◌, ◌≤◌, ◌<◌}
-use mathlib.Core.Path.{◌≡◌, sym, ap, ◌∙◌}
-use native.Mathlib.Nat.{le_of_lt, zero-mul, mul-le-mul, mul-le-mul_right}
-use native.Mathlib.Omega.{arith}
-use Rattle.base.specs.Index.{row_next}
-use Rattle.base.specs.Sum.{sum_to_none, sum_to_more}
-use Rattle.measures.specs.Measures.{measure_of, most_small}
-use Rattle.distortion.specs.Blocks.{row_from, rows_from, size_small}
+use Prim.Native.Nat.{◌+◌, ◌-◌, ◌*◌, ◌≤◌}
+use mathlib.Core.Path.{◌≡◌}
+use Rattle.measures.specs.Measures.{measure_of}
+use Rattle.distortion.specs.Blocks.{rows_from}
 use Rattle.measuring.specs.Measurement.{rows_measured}
-use Rattle.measuring.proofs.Passing.{rows_none, rows_more, rows_passed}
 use Rattle.measuring.proofs.rows_measured.Given as goal
 
 abbrev pub invariant-loop-rows : goal.invariant-loop-rows

@@ -1,5 +1,5 @@
 -- `against`: the two parts are the point, and the ceiling is the least so far.
-use borrow.Author.Rules.{rules, sfits_of}
+use borrow.Author.Rules.{sfits_of}
 use mir.Facts.{to_z-of_z}
 use mir.Syntax.{w32}
 use Rattle.probe.proofs.against.Goals as goal

@@ -1,6 +1,5 @@
 -- `is_at`: a point is another where both parts are.
 use mathlib.Core.Path.{◌≡◌}
-use borrow.Author.Rules.{rules}
 use lib.IntN.{◌+ℤ◌}
 use mir.Facts.{to_z-of_z}
 use Rattle.signed.specs.Int.{eq_z}

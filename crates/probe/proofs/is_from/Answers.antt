@@ -1,6 +1,5 @@
 -- `is_from`: the shifted part is the sum, or lies outside window 16, where y does not.
 use mathlib.Core.Path.{◌≡◌, sym, ◌∙◌}
-use borrow.Author.Rules.{rules}
 use mir.Facts.{to_z-of_z}
 use Rattle.signed.specs.Values.{shifted_by}
 use Rattle.probe.proofs.Looks.{from_at, from_out}

@@ -1,15 +1,14 @@
 -- `is_in`: a point that none of the offsets passed leads to is among those that the others lead to.
-use Prim.Native.Nat.{◌-◌}
 use mathlib.Core.Path.{◌≡◌, sym, ◌∙◌}
 use mathlib.Core.List.{[]}
 use native.Mathlib.Omega.{arith}
-use borrow.Author.Rules.{rules, sfits_of}
-use lib.ListN.{length, get_or}
+use borrow.Author.Rules.{sfits_of}
+use lib.ListN.{get_or}
 use mir.Facts.{to_z-of_z}
 use Rattle.order.specs.Vectors.{same?}
 use Rattle.probe.specs.Probe.{plus}
 use Rattle.probe.specs.BestSoFar.{point, offset}
-use Rattle.probe.proofs.Looks.{Missing, missing_first, missing_hit, missing_more, missing_last}
+use Rattle.probe.proofs.Looks.{missing_first, missing_hit, missing_more, missing_last}
 use mir.Syntax.{w32}
 use Rattle.probe.proofs.is_in.Goals as goal
 use Rattle.probe.proofs.is_in.Goals.{After-is_at}

@@ -1,7 +1,6 @@
 -- `pattern`: no point is in a pattern without offsets.
 use mathlib.Core.Path.{ap}
 use native.Mathlib.Omega.{arith}
-use borrow.Author.Rules.{rules}
 use Rattle.search.specs.Target.{target_of}
 use Rattle.probe.specs.Probe.{probe, around}
 use Rattle.probe.specs.BestSoFar.{seen_of, pairs}

@@ -1,21 +1,10 @@
 -- `pattern_new`: the points left lead from the best by now to where all lead from the first.
 use Prim.Native.Nat.{◌-◌, ◌≤◌}
-use lib.IntN.{pos, ◌*ℤ◌}
-use mathlib.Core.Path.{◌≡◌, ◌∙◌}
-use mathlib.Core.List.{[]}
-use native.Mathlib.Omega.{arith}
-use borrow.Author.Rules.{rules, sfits_of}
-use lib.Dec.{lit≤}
-use lib.ListN.{length, get_or}
-use mir.Syntax.{w32}
-use mir.Val.{to_z, of_z}
-use mir.Facts.{to_z-of_z}
-use Rattle.order.specs.Vectors.{Within}
+use lib.ListN.{length}
 use Rattle.search.specs.Target.{target_of}
 use Rattle.probe.specs.Probe.{around}
-use Rattle.probe.specs.BestSoFar.{point, offset, pairs}
-use Rattle.probe.proofs.Probe.{within_more}
-use Rattle.probe.proofs.Looks.{Going, going_first, going_near, going_more, going_last}
+use Rattle.probe.specs.BestSoFar.{point, pairs}
+use Rattle.probe.proofs.Looks.{Going}
 use Rattle.probe.proofs.pattern_new.Given as goal
 
 abbrev pub invariant-loop-i : goal.invariant-loop-i

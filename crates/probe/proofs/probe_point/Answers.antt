@@ -1,7 +1,6 @@
 -- `probe_point`: the point is no candidate, or over the least, or its distortion is less than the least, or no less.
 use mathlib.Core.Path.{sym, ◌∙◌}
 use native.Mathlib.Omega.{arith}
-use borrow.Author.Rules.{rules}
 use Rattle.probe.proofs.Looks.{holds_same, holds_more, probe_point_none, probe_point_over, probe_point_less, probe_point_more}
 use Rattle.probe.proofs.probe_point.Goals as goal
 

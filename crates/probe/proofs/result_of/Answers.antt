@@ -1,5 +1,5 @@
 -- `result_of`: the parts are read back without their 16.
-use borrow.Author.Rules.{rules, sfits_of}
+use borrow.Author.Rules.{sfits_of}
 use mir.Facts.{to_z-of_z}
 use Rattle.probe.specs.BestSoFar.{result_of}
 use mir.Syntax.{w32}

@@ -2,7 +2,6 @@
 use Prim.Native.Nat.{◌≤◌}
 use mathlib.Core.Path.{sym}
 use native.Mathlib.Nat.{le_of_eq}
-use borrow.Author.Rules.{rules}
 use lib.ListN.{length}
 use Rattle.reach.proofs.Candidates.{ready_standing}
 use Rattle.pruned_sift.proofs.Distances.{laid}

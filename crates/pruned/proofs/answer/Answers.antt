@@ -2,7 +2,7 @@
 use Prim.Native.Nat.{◌/◌, ◌%◌, ◌≤◌}
 use mathlib.Core.Path.{◌≡◌, refl}
 use native.Mathlib.Omega.{arith}
-use borrow.Author.Rules.{rules, sfits_of}
+use borrow.Author.Rules.{sfits_of}
 use mir.Facts.{to_z-of_z}
 use Rattle.pruned_rule.specs.Spots.{vector_on, choice_of}
 use Rattle.pruned_list.specs.Listed.{distance_of, distortion_to}

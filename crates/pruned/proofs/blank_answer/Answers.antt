@@ -3,7 +3,7 @@ use Prim.Native.Nat.{◌*◌, ◌≤◌}
 use mathlib.Core.Path.{refl}
 use native.Mathlib.Nat.{mul-le-mul}
 use native.Mathlib.Omega.{arith}
-use borrow.Author.Rules.{rules, Fits-under}
+use borrow.Author.Rules.{Fits-under}
 use mir.Syntax.{w64}
 use Rattle.pruned.proofs.blank_answer.Goals as goal
 use Rattle.pruned.proofs.blank_answer.Goals.{Start}

@@ -2,7 +2,6 @@
 use Prim.Native.Nat.{◌+◌, ◌≤◌, min}
 use mathlib.Core.Path.{◌≡◌, sym, ap, ◌∙◌}
 use native.Mathlib.Omega.{arith}
-use borrow.Author.Rules.{rules}
 use Rattle.refusals.specs.Refusals.{block_size}
 use Rattle.reach.proofs.Candidates.{ready_standing}
 use Rattle.pruned_rule.specs.Spots.{vector_on, choice_of}

@@ -2,7 +2,6 @@
 use Prim.Native.Nat.{ℕ, min}
 use mathlib.Core.Path.{◌≡◌, sym, ap, ◌∙◌}
 use native.Mathlib.Omega.{arith}
-use borrow.Author.Rules.{rules}
 use Rattle.pruned_rule.specs.Spots.{vector_on}
 use Rattle.pruned_list.specs.Listed.{spot_of, nearest_key, distortion_to}
 use Rattle.pruned.proofs.Flow.{bound_same, bound_lowered}

@@ -1,12 +1,8 @@
 -- `fill_counts`: after each turn one place more has the count.
-use Prim.Native.Nat.{ℕ, ◌+◌, ◌-◌, ◌≤◌, ◌<◌}
-use mathlib.Core.Path.{◌≡◌, sym, ap, ◌∙◌}
-use mathlib.Core.List.{List, ◌∷◌, [], ◌++◌, append-nil, append_assoc}
-use native.Mathlib.Numerals.{add-one}
-use native.Mathlib.Omega.{arith}
-use borrow.Author.Rules.{rules}
-use lib.ListN.{length, take, set, length-set, replicate, replicate-append-replicate}
-use lib.Seq.{take-suc-set, take_all}
+use Prim.Native.Nat.{ℕ, ◌-◌, ◌≤◌}
+use mathlib.Core.Path.{◌≡◌}
+use mathlib.Core.List.{List, ◌++◌}
+use lib.ListN.{length, take, replicate}
 use Rattle.frame.specs.Pictures.{count_number}
 use Rattle.pruned.proofs.fill_counts.Given as goal
 

@@ -1,6 +1,5 @@
 -- `level`: of all, or of those listed.
 use mathlib.Core.Path.{sym, ◌∙◌}
-use borrow.Author.Rules.{rules}
 use Rattle.pruned.proofs.Steps.{size_small, side_small, all_fits, must_list}
 use Rattle.pruned.proofs.level.Goals as goal
 

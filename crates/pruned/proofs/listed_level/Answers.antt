@@ -1,7 +1,6 @@
 -- `listed_level`: the distances of those listed, E lowered, and those within its limit.
 use mathlib.Core.Path.{◌∙◌}
 use native.Mathlib.Omega.{arith}
-use borrow.Author.Rules.{rules}
 use Rattle.pruned.proofs.Steps.{side_small, region_small, near_at, facing_in, nearest_in, listed_leveled}
 use Rattle.pruned.proofs.listed_level.Goals as goal
 

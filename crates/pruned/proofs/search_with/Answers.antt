@@ -1,9 +1,7 @@
 -- `search_with`: the boxes, then the tests.
-use Prim.Native.Nat.{suc, ◌*◌, ◌≤◌}
-use mathlib.Core.Path.{◌≡◌}
+use Prim.Native.Nat.{suc}
 use native.Mathlib.Nat.{le_refl}
 use native.Mathlib.Omega.{arith}
-use borrow.Author.Rules.{rules}
 use Rattle.pruned.proofs.Blocks.{block_size_power}
 use Rattle.pruned.proofs.search_with.Goals as goal
 

@@ -3,13 +3,12 @@ use Prim.Native.Nat.{ℕ, ◌-◌, ◌/◌, ◌≤◌}
 use mathlib.Core.Path.{◌≡◌, refl, ap, ◌∙◌}
 use mathlib.Core.Logic.{⊎_elim}
 use native.Mathlib.Omega.{arith}
-use borrow.Author.Rules.{rules}
 use lib.ListN.{length, length-replicate}
 use Rattle.reach.proofs.Candidates.{ready_standing}
 use Rattle.pruned_rule.specs.Spots.{places_of}
 use Rattle.pruned.proofs.Flow.{first_facing}
 use Rattle.pruned.proofs.Steps.{size_small}
-use Rattle.pruned.proofs.Rounds.{Turning, next_either, total_places, places_few, turning_first, turning_search, turning_facing, turning_slot, turning_more, turning_few}
+use Rattle.pruned.proofs.Rounds.{next_either, total_places, places_few, turning_first, turning_search, turning_facing, turning_slot, turning_more, turning_few}
 use Rattle.pruned.proofs.Rounds.{turning_closing, turning_last}
 use Rattle.pruned.proofs.tests.Goals as goal
 use Rattle.pruned.proofs.tests.Goals.{After-begin-first}

@@ -1,16 +1,8 @@
 -- `tests`: a test at each resolution until one candidate remains, then the answer.
-use Prim.Native.Nat.{ℕ, ◌-◌, ◌/◌, ◌≤◌}
-use mathlib.Core.Path.{◌≡◌, refl, ap, ◌∙◌}
-use mathlib.Core.Logic.{⊎_elim}
-use native.Mathlib.Omega.{arith}
-use borrow.Author.Rules.{rules}
-use lib.ListN.{length, length-replicate}
-use Rattle.reach.proofs.Candidates.{ready_standing}
+use mathlib.Core.Path.{◌≡◌}
+use lib.ListN.{length}
 use Rattle.pruned_rule.specs.Spots.{places_of}
-use Rattle.pruned.proofs.Flow.{first_facing}
-use Rattle.pruned.proofs.Steps.{size_small}
-use Rattle.pruned.proofs.Rounds.{Turning, next_either, total_places, places_few, turning_first, turning_search, turning_facing, turning_slot, turning_more, turning_few}
-use Rattle.pruned.proofs.Rounds.{turning_closing, turning_last}
+use Rattle.pruned.proofs.Rounds.{Turning}
 use Rattle.pruned.proofs.tests.Given as goal
 
 abbrev pub invariant-loop-m : goal.invariant-loop-m

@@ -1,16 +1,12 @@
 -- `choose`: the least key of those measured is carried along, from 2^50 - 1 on, which no key reaches.
-use Prim.Native.Nat.{ℕ, ◌-◌, ◌≤◌, ◌<◌}
 use mathlib.Core.Path.{◌≡◌, refl, ◌∙◌}
-use mathlib.Core.List.{List, ◌∷◌}
 use native.Mathlib.Omega.{arith}
-use borrow.Author.Rules.{rules}
 use lib.ListN.{get_or}
 use Rattle.base.specs.Lists.{list_to}
 use Rattle.base.specs.Least.{least_of, least_from}
-use Rattle.frame.specs.declared.SearchBlock.{SearchBlock}
 use Rattle.distortion.specs.Blocks.{Bytes}
 use Rattle.pruned_rule.specs.Spots.{vector_on}
-use Rattle.pruned_list.specs.Listed.{spot_of, distortion_to, measured_key}
+use Rattle.pruned_list.specs.Listed.{spot_of}
 use Rattle.pruned_list.proofs.Measuring.{distortion_small, least_first, least_more}
 use Rattle.pruned_list.proofs.choose.Goals as goal
 use Rattle.pruned_list.proofs.choose.Invariants.{key_at}

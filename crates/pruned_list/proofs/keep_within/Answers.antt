@@ -1,10 +1,7 @@
 -- `keep_within`: of the keys passed those within the limit stand in front.
-use Prim.Native.Nat.{◌-◌}
-use mathlib.Core.Logic.{⊎_elim}
 use mathlib.Core.Path.{◌≡◌}
 use native.Mathlib.Omega.{arith}
-use borrow.Author.Rules.{rules}
-use Rattle.pruned_list.proofs.Turns.{Sifting, sifting_first, sifting_yes, sifting_no, sifting_last}
+use Rattle.pruned_list.proofs.Turns.{sifting_first, sifting_yes, sifting_no, sifting_last}
 use Rattle.pruned_list.proofs.keep_within.Goals as goal
 use Rattle.pruned_list.proofs.keep_within.Goals.{then-key-limit, else-key-limit}
 
@@ -16,7 +13,7 @@ loop-from-preserved c =
     let l = c.loop-from in
     let t = c.loop-from-test.true in
     elim c.if-key-limit.branch [
-      then-key-limit w ↦ rw w.kept-is (sifting_yes l.invariant t (omega arith) (omega (arith, w.if-key-limit.true)))
+      | then-key-limit w ↦ rw w.kept-is (sifting_yes l.invariant t (omega arith) (omega (arith, w.if-key-limit.true)))
       | else-key-limit w ↦ rw w.kept-is (sifting_no l.invariant t (omega arith) (omega (arith, w.if-key-limit.false)))
     ]
 

@@ -1,7 +1,6 @@
 -- `lesser_measured`: over, the key by the distortion is more than the least so far; else the two are compared.
 use mathlib.Core.Path.{◌≡◌, sym, ◌∙◌}
 use native.Mathlib.Omega.{arith}
-use borrow.Author.Rules.{rules}
 use Rattle.distortion.specs.Blocks.{within_says, over_says}
 use Rattle.pruned_list.specs.Listed.{distortion_to, measured_key}
 use Rattle.pruned_list.proofs.lesser_measured.Goals as goal

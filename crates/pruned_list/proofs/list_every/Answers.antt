@@ -1,12 +1,12 @@
 -- `list_every`: after i turns the keys of the first i rows stand in front.
-use Prim.Native.Nat.{◌+◌, ◌-◌, ◌*◌, ◌≤◌, ◌<◌}
-use mathlib.Core.Path.{◌≡◌, sym}
+use Prim.Native.Nat.{◌+◌, ◌≤◌, ◌<◌}
+use mathlib.Core.Path.{sym}
 use native.Mathlib.Nat.{zero-mul}
 use native.Mathlib.Omega.{arith}
 use lib.ListN.{length}
 use Rattle.base.specs.Index.{row_next, row_fits}
-use Rattle.base.specs.Rows.{Rowed, rowed_first, rowed_more}
-use Rattle.pruned_list.proofs.Listed.{code_in, every_last}
+use Rattle.base.specs.Rows.{rowed_first, rowed_more}
+use Rattle.pruned_list.proofs.Listed.{every_last}
 use Rattle.pruned_list.proofs.list_every.Goals as goal
 use Rattle.pruned_list.proofs.list_every.Goals.{At-loop-i}
 

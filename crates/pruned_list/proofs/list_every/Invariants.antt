@@ -1,12 +1,8 @@
 -- `list_every`: after i turns the keys of the first i rows stand in front.
-use Prim.Native.Nat.{◌+◌, ◌-◌, ◌*◌, ◌≤◌, ◌<◌}
-use mathlib.Core.Path.{◌≡◌, sym}
-use native.Mathlib.Nat.{zero-mul}
-use native.Mathlib.Omega.{arith}
-use lib.ListN.{length}
-use Rattle.base.specs.Index.{row_next, row_fits}
-use Rattle.base.specs.Rows.{Rowed, rowed_first, rowed_more}
-use Rattle.pruned_list.proofs.Listed.{code_in, every_last}
+use Prim.Native.Nat.{◌-◌, ◌*◌, ◌≤◌}
+use mathlib.Core.Path.{◌≡◌}
+use Rattle.base.specs.Rows.{Rowed}
+use Rattle.pruned_list.proofs.Listed.{code_in}
 use Rattle.pruned_list.proofs.list_every.Given as goal
 
 abbrev pub invariant-loop-i : goal.invariant-loop-i

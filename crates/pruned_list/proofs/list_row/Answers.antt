@@ -1,11 +1,11 @@
 -- `list_row`: after j turns the keys of the first j columns are stored.
-use Prim.Native.Nat.{ℕ, ◌+◌, ◌-◌, ◌≤◌, ◌<◌}
+use Prim.Native.Nat.{ℕ, ◌+◌, ◌<◌}
 use mathlib.Core.Path.{◌≡◌, refl, ap, ap₂, ◌∙◌}
 use mathlib.Core.List.{List}
 use native.Mathlib.Omega.{arith}
 use borrow.Author.Rules.{rules}
-use lib.ListN.{length, get_or, set, length-set}
-use Rattle.base.specs.Lists.{fill_to, fill_none, fill_more, get_d_list_to}
+use lib.ListN.{get_or, set, length-set}
+use Rattle.base.specs.Lists.{fill_none, fill_more, get_d_list_to}
 use Rattle.reach.specs.Keys.{order_code, code_of}
 use Rattle.reach.proofs.Keys.{code_parts, code_small}
 use Rattle.pruned_list.proofs.list_row.Goals as goal

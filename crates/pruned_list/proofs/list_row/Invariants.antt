@@ -1,13 +1,9 @@
 -- `list_row`: after j turns the keys of the first j columns are stored.
-use Prim.Native.Nat.{ℕ, ◌+◌, ◌-◌, ◌≤◌, ◌<◌}
-use mathlib.Core.Path.{◌≡◌, refl, ap, ap₂, ◌∙◌}
-use mathlib.Core.List.{List}
-use native.Mathlib.Omega.{arith}
-use borrow.Author.Rules.{rules}
-use lib.ListN.{length, get_or, set, length-set}
-use Rattle.base.specs.Lists.{fill_to, fill_none, fill_more, get_d_list_to}
-use Rattle.reach.specs.Keys.{order_code, code_of}
-use Rattle.reach.proofs.Keys.{code_parts, code_small}
+use Prim.Native.Nat.{◌+◌, ◌-◌, ◌≤◌}
+use mathlib.Core.Path.{◌≡◌}
+use lib.ListN.{length}
+use Rattle.base.specs.Lists.{fill_to}
+use Rattle.reach.specs.Keys.{order_code}
 use Rattle.pruned_list.proofs.list_row.Given as goal
 
 abbrev pub invariant-loop-j : goal.invariant-loop-j

@@ -1,7 +1,6 @@
 -- `lowered`: over, the distortion is more than E; else it is at most E.
 use mathlib.Core.Path.{sym, ◌∙◌}
 use native.Mathlib.Omega.{arith}
-use borrow.Author.Rules.{rules}
 use Rattle.distortion.specs.Blocks.{within_says, over_says}
 use Rattle.pruned_list.proofs.lowered.Goals as goal
 

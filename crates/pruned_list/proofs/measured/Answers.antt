@@ -1,7 +1,6 @@
 -- `measured`: the spot is a candidate's, so its older block stands inside and can be compared.
 use Prim.Native.Nat.{◌+◌, ◌/◌, ◌%◌, ◌≤◌}
 use native.Mathlib.Omega.{arith}
-use borrow.Author.Rules.{rules}
 use Rattle.reach.proofs.Candidates.{older-at}
 use Rattle.distortion.specs.Blocks.{distortion}
 use Rattle.pruned_list.proofs.Measuring.{spot_behind, spot_block}

@@ -1,11 +1,7 @@
 -- `nearest`: the least of the keys passed is carried along.
-use Prim.Native.Nat.{◌-◌, ◌≤◌, ◌<◌}
-use mathlib.Core.Logic.{⊎_elim}
 use mathlib.Core.Path.{◌≡◌}
 use native.Mathlib.Omega.{arith}
-use borrow.Author.Rules.{rules}
-use lib.ListN.{take}
-use Rattle.base.specs.Least.{least_of, least_of_one, least_next_yes, least_next_no}
+use Rattle.base.specs.Least.{least_of_one, least_next_yes, least_next_no}
 use Rattle.pruned_list.specs.Listed.{nearest_key}
 use Rattle.pruned_list.proofs.nearest.Goals as goal
 use Rattle.pruned_list.proofs.nearest.Goals.{then-key-least, else-key-least}
@@ -20,7 +16,7 @@ loop-i-preserved c =
     let l = c.loop-i in
     let keys = c.args.keys.now in
     elim c.if-key-least.branch [
-      then-key-least w ↦ rw w.least-is (omega arith, omega arith, least_next_yes (λ k. k) keys l.i l.least l.invariant.2 l.invariant.0 (omega arith) w.if-key-least.true)
+      | then-key-least w ↦ rw w.least-is (omega arith, omega arith, least_next_yes (λ k. k) keys l.i l.least l.invariant.2 l.invariant.0 (omega arith) w.if-key-least.true)
       | else-key-least w ↦ rw w.least-is (omega arith, omega arith, least_next_no (λ k. k) keys l.i l.least l.invariant.2 l.invariant.0 (omega arith) w.if-key-least.false)
     ]
 

@@ -1,17 +1,10 @@
 -- `fill`: after i turns the first i keys have their distances.
-use Prim.Native.Nat.{ℕ, ◌+◌, ◌-◌, ◌/◌, ◌%◌, ◌≤◌, ◌<◌}
-use mathlib.Core.Path.{◌≡◌, refl, ap, ap₂, ◌∙◌}
-use mathlib.Core.List.{List}
-use native.Mathlib.Omega.{arith}
-use borrow.Author.Rules.{rules}
-use lib.ListN.{length, get_or, set, length-set}
-use Rattle.base.specs.Lists.{fill_to, fill_none, fill_front, fill_after}
-use Rattle.boxes.specs.Boxes.{level_of}
-use Rattle.reach.specs.Reach.{InReach}
+use Prim.Native.Nat.{◌-◌, ◌≤◌}
+use mathlib.Core.Path.{◌≡◌}
+use lib.ListN.{length, get_or}
+use Rattle.base.specs.Lists.{fill_to}
 use Rattle.pruned_list.specs.Listed.{spot_of, renewed}
-use Rattle.pruned_lookup.specs.Lookup.{box_distance, side_of, place_on, looked_up}
-use Rattle.pruned_lookup.proofs.Places.{near_place}
-use Rattle.pruned_lookup.proofs.Looked.{distanced}
+use Rattle.pruned_lookup.specs.Lookup.{looked_up}
 use Rattle.pruned_lookup.proofs.fill.Given as goal
 
 abbrev pub invariant-loop-i : goal.invariant-loop-i

@@ -1,12 +1,11 @@
 -- `rows_at`: the sum so far is that of the first p rows of squares.
-use Prim.Native.Nat.{◌+◌, ◌-◌, ◌*◌, ◌≤◌, ◌<◌}
+use Prim.Native.Nat.{◌+◌, ◌*◌, ◌≤◌, ◌<◌}
 use mathlib.Core.Path.{◌≡◌, sym}
 use native.Mathlib.Nat.{mul-le-mul}
 use native.Mathlib.Omega.{arith}
 use borrow.Author.Rules.{rules}
 use lib.ListN.{length}
-use Rattle.base.specs.Sum.{sum_to, sum_to_none, sum_to_more}
-use Rattle.pruned_lookup.specs.Lookup.{box_run}
+use Rattle.base.specs.Sum.{sum_to_none, sum_to_more}
 use Rattle.pruned_lookup.proofs.rows_at.Goals as goal
 use Rattle.pruned_lookup.proofs.rows_at.Goals.{After-row_at-sum, In-loop-p}
 

@@ -1,11 +1,7 @@
 -- `rows_at`: the sum so far is that of the first p rows of squares.
-use Prim.Native.Nat.{◌+◌, ◌-◌, ◌*◌, ◌≤◌, ◌<◌}
-use mathlib.Core.Path.{◌≡◌, sym}
-use native.Mathlib.Nat.{mul-le-mul}
-use native.Mathlib.Omega.{arith}
-use borrow.Author.Rules.{rules}
-use lib.ListN.{length}
-use Rattle.base.specs.Sum.{sum_to, sum_to_none, sum_to_more}
+use Prim.Native.Nat.{◌+◌, ◌-◌, ◌*◌, ◌≤◌}
+use mathlib.Core.Path.{◌≡◌}
+use Rattle.base.specs.Sum.{sum_to}
 use Rattle.pruned_lookup.specs.Lookup.{box_run}
 use Rattle.pruned_lookup.proofs.rows_at.Given as goal
 

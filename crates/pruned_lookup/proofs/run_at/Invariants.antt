@@ -1,11 +1,6 @@
 -- `run_at`: the sum so far is that of the first q squares' differences, each of two numbers of 16 bits.
-use Prim.Native.Nat.{◌+◌, ◌-◌, ◌*◌, ◌≤◌, ◌<◌}
-use mathlib.Core.Path.{◌≡◌, sym}
-use native.Mathlib.Omega.{arith}
-use borrow.Author.Rules.{rules}
-use lib.ListN.{length, get_or}
-use Rattle.base.specs.Sum.{sum_to_none, sum_to_more}
-use Rattle.measures.specs.Measures.{measure_of, diff_most}
+use Prim.Native.Nat.{◌-◌, ◌*◌, ◌≤◌}
+use mathlib.Core.Path.{◌≡◌}
 use Rattle.pruned_lookup.specs.Lookup.{box_run}
 use Rattle.pruned_lookup.proofs.run_at.Given as goal
 

@@ -1,13 +1,12 @@
 -- `add_block`: after p turns the first p rows are there.
-use Prim.Native.Nat.{ℕ, ◌+◌, ◌-◌, ◌*◌, ◌≤◌, ◌<◌}
+use Prim.Native.Nat.{ℕ, ◌+◌, ◌*◌, ◌≤◌, ◌<◌}
 use mathlib.Core.Path.{◌≡◌, sym, ap, ◌∙◌, subst}
 use native.Mathlib.Omega.{arith}
 use borrow.Author.Rules.{rules}
 use lib.ListN.{length, get_or, length-replicate}
 use mathlib.Core.List.{List}
-use Rattle.base.specs.Lists.{fill_to, length_fill}
-use Rattle.base.specs.Sum.{sum_to}
-use Rattle.pruned_narrow.specs.Narrow.{places, row_sum, row_more, turned, carried, Inside}
+use Rattle.base.specs.Lists.{length_fill}
+use Rattle.pruned_narrow.specs.Narrow.{places, row_sum, turned, carried, Inside}
 use native.Mathlib.Nat.{zero-mul}
 use Rattle.base.specs.Index.{row_next, row_fits}
 use Rattle.pruned_narrow.proofs.Whole.{zeros, stored, block_first, block_bound, block_more, turn_fits, turn_is}

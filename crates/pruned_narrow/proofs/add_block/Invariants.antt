@@ -1,16 +1,10 @@
 -- `add_block`: after p turns the first p rows are there.
-use Prim.Native.Nat.{ℕ, ◌+◌, ◌-◌, ◌*◌, ◌≤◌, ◌<◌}
-use mathlib.Core.Path.{◌≡◌, sym, ap, ◌∙◌, subst}
-use native.Mathlib.Omega.{arith}
-use borrow.Author.Rules.{rules}
-use lib.ListN.{length, get_or, length-replicate}
-use mathlib.Core.List.{List}
-use Rattle.base.specs.Lists.{fill_to, length_fill}
+use Prim.Native.Nat.{◌+◌, ◌-◌, ◌*◌, ◌≤◌}
+use mathlib.Core.Path.{◌≡◌}
+use Rattle.base.specs.Lists.{fill_to}
 use Rattle.base.specs.Sum.{sum_to}
-use Rattle.pruned_narrow.specs.Narrow.{places, row_sum, row_more, turned, carried, Inside}
-use native.Mathlib.Nat.{zero-mul}
-use Rattle.base.specs.Index.{row_next, row_fits}
-use Rattle.pruned_narrow.proofs.Whole.{zeros, stored, block_first, block_bound, block_more, turn_fits, turn_is}
+use Rattle.pruned_narrow.specs.Narrow.{row_more}
+use Rattle.pruned_narrow.proofs.Whole.{zeros}
 use Rattle.pruned_narrow.proofs.add_block.Given as goal
 
 abbrev pub invariant-loop-p : goal.invariant-loop-p

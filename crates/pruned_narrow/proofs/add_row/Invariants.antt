@@ -1,13 +1,9 @@
 -- `add_row`: after each run the squares so far are there.
-use Prim.Native.Nat.{ℕ, ◌+◌, ◌-◌, ◌*◌, ◌≤◌, ◌<◌}
-use mathlib.Core.Path.{◌≡◌, sym, ap, ◌∙◌, subst}
-use native.Mathlib.Omega.{arith}
-use borrow.Author.Rules.{rules}
-use lib.ListN.{length, get_or}
-use mathlib.Core.List.{List}
-use Rattle.base.specs.Lists.{fill_to, length_fill}
-use Rattle.pruned_narrow.specs.Narrow.{row_sum, row_more, Fours, Inside}
-use Rattle.pruned_narrow.proofs.Rows.{runs_fours, four_more, row_first, run_inside, run_bound, run_more}
+use Prim.Native.Nat.{◌+◌, ◌-◌, ◌≤◌}
+use mathlib.Core.Path.{◌≡◌}
+use lib.ListN.{get_or}
+use Rattle.base.specs.Lists.{fill_to}
+use Rattle.pruned_narrow.specs.Narrow.{row_more, Fours}
 use Rattle.pruned_narrow.proofs.add_row.Given as goal
 
 abbrev pub invariant-loop-q : goal.invariant-loop-q

@@ -1,11 +1,11 @@
 -- `add_run`: after t turns the first t places have theirs.
-use Prim.Native.Nat.{ℕ, ◌+◌, ◌-◌, ◌*◌, ◌≤◌, ◌<◌}
+use Prim.Native.Nat.{ℕ, ◌+◌, ◌-◌, ◌*◌, ◌<◌}
 use mathlib.Core.Path.{◌≡◌, ap, ap₂, ◌∙◌, subst}
 use native.Mathlib.Omega.{arith}
 use borrow.Author.Rules.{rules}
 use lib.ListN.{length, get_or}
 use mathlib.Core.List.{List}
-use Rattle.base.specs.Lists.{fill_to, fill_none}
+use Rattle.base.specs.Lists.{fill_none}
 use Rattle.base.specs.Sum.{sum_to, sum_to_ext}
 use Rattle.pruned_narrow.proofs.Sums.{filled_next, minus_le, fill_turn}
 use Rattle.pruned_narrow.specs.Narrow.{row_more}

@@ -1,12 +1,8 @@
 -- `add_turned`: after t turns the first t places have their distances.
-use Prim.Native.Nat.{ℕ, ◌+◌, ◌-◌, ◌≤◌, ◌<◌}
-use mathlib.Core.Path.{◌≡◌, refl, ap, ap₂, ◌∙◌}
-use native.Mathlib.Omega.{arith}
-use borrow.Author.Rules.{rules}
-use mathlib.Core.List.{List}
+use Prim.Native.Nat.{◌+◌, ◌-◌, ◌≤◌}
+use mathlib.Core.Path.{◌≡◌}
 use lib.ListN.{get_or}
-use Rattle.base.specs.Lists.{fill_to, fill_none}
-use Rattle.pruned_narrow.proofs.Sums.{filled_next, fill_turn}
+use Rattle.base.specs.Lists.{fill_to}
 use Rattle.pruned_narrow.specs.Narrow.{turned, carried}
 use Rattle.pruned_narrow.proofs.add_turned.Given as goal
 

@@ -1,10 +1,10 @@
 -- `fill_32`: after t turns the first t places have their distances.
-use Prim.Native.Nat.{ℕ, ◌+◌, ◌-◌, ◌*◌, ◌≤◌, ◌<◌}
+use Prim.Native.Nat.{ℕ, ◌+◌, ◌*◌, ◌≤◌, ◌<◌}
 use mathlib.Core.Path.{◌≡◌, ap}
 use native.Mathlib.Omega.{arith}
 use borrow.Author.Rules.{rules}
 use lib.ListN.{length}
-use Rattle.base.specs.Lists.{fill_to, fill_none}
+use Rattle.base.specs.Lists.{fill_none}
 use Rattle.boxes.specs.Boxes.{area, level_at, own_at, level_of, whole_of}
 use Rattle.boxes.specs.declared.Level.{Level}
 use Rattle.boxes.proofs.Rooms.{log2_power, cut_sixteen, area_is}

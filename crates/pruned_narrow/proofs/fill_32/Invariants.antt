@@ -1,14 +1,7 @@
 -- `fill_32`: after t turns the first t places have their distances.
-use Prim.Native.Nat.{ℕ, ◌+◌, ◌-◌, ◌*◌, ◌≤◌, ◌<◌}
-use mathlib.Core.Path.{◌≡◌, ap}
-use native.Mathlib.Omega.{arith}
-use borrow.Author.Rules.{rules}
-use lib.ListN.{length}
-use Rattle.base.specs.Lists.{fill_to, fill_none}
-use Rattle.boxes.specs.Boxes.{area, level_at, own_at, level_of, whole_of}
-use Rattle.boxes.specs.declared.Level.{Level}
-use Rattle.boxes.proofs.Rooms.{log2_power, cut_sixteen, area_is}
-use Rattle.pruned_narrow.proofs.Sums.{fill_turn}
+use Prim.Native.Nat.{◌-◌, ◌≤◌}
+use mathlib.Core.Path.{◌≡◌}
+use Rattle.base.specs.Lists.{fill_to}
 use Rattle.pruned_narrow.specs.Narrow.{whole_at}
 use Rattle.pruned_narrow.proofs.fill_32.Given as goal
 

@@ -12,7 +12,7 @@ use Rattle.pruned_narrow.specs.Narrow.{places, distance_of, distance_at, Runs, S
 use Rattle.pruned_narrow.proofs.Sums.{filled_at, fill_added}
 use Rattle.pruned_narrow.proofs.Levels.{quarter, quarters_are}
 use Rattle.pruned_narrow.proofs.fill_quarters.Goals as goal
-use Rattle.pruned_narrow.proofs.fill_quarters.Goals.{After-add_block, After-add_block-2, After-add_block-3, After-level_of-h, Start}
+use Rattle.pruned_narrow.proofs.fill_quarters.Goals.{After-level_of-h, Start}
 
 -- what the two levels are: a quarter dy rows and dx columns on is one that can be added, and four are all
 module _ (s : Start) (l w : Level) (e : l ≡ level_of 32 s.args.m) (f : w ≡ level_of 32 16) where

@@ -4,7 +4,7 @@ use mathlib.Core.Path.{◌≡◌, sym}
 use native.Mathlib.Omega.{arith}
 use borrow.Author.Rules.{rules}
 use lib.ListN.{length, get_or}
-use Rattle.base.specs.Sum.{sum_to, sum_to_none, sum_to_more}
+use Rattle.base.specs.Sum.{sum_to_none, sum_to_more}
 use Rattle.pruned_narrow.proofs.Sums.{next_le}
 use Rattle.pruned_narrow.proofs.surplus.Goals as goal
 use Rattle.pruned_narrow.proofs.surplus.Goals.{At-loop-q}

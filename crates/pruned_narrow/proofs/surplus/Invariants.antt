@@ -1,11 +1,8 @@
 -- `surplus`: after q turns the first q squares are summed.
-use Prim.Native.Nat.{◌+◌, ◌-◌, ◌*◌, ◌≤◌, ◌<◌}
-use mathlib.Core.Path.{◌≡◌, sym}
-use native.Mathlib.Omega.{arith}
-use borrow.Author.Rules.{rules}
-use lib.ListN.{length, get_or}
-use Rattle.base.specs.Sum.{sum_to, sum_to_none, sum_to_more}
-use Rattle.pruned_narrow.proofs.Sums.{next_le}
+use Prim.Native.Nat.{◌+◌, ◌-◌, ◌*◌, ◌≤◌}
+use mathlib.Core.Path.{◌≡◌}
+use lib.ListN.{get_or}
+use Rattle.base.specs.Sum.{sum_to}
 use Rattle.pruned_narrow.proofs.surplus.Given as goal
 
 abbrev pub invariant-loop-q : goal.invariant-loop-q

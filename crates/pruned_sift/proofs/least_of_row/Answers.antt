@@ -1,11 +1,7 @@
 -- `least_of_row`: after j turns the least of the first j numbers.
-use Prim.Native.Nat.{◌-◌, ◌≤◌}
-use mathlib.Core.Logic.{⊎_elim}
 use mathlib.Core.Path.{◌≡◌}
 use native.Mathlib.Omega.{arith}
-use borrow.Author.Rules.{rules}
 use lib.ListN.{get_or}
-use Rattle.full.specs.Rows.{least_from}
 use Rattle.full.proofs.Keys.{least_first, least_more}
 use Rattle.pruned_sift.proofs.least_of_row.Goals as goal
 use Rattle.pruned_sift.proofs.least_of_row.Goals.{then-d-least, else-d-least}
@@ -20,9 +16,9 @@ loop-j-preserved c =
     let m = least_more 4294967295 (λ k. get_or a.numbers.now k 0) a.from l.j in (
       omega arith,
       elim c.if-d-least.branch [
-      then-d-least w ↦ omega (arith, m, l.invariant.1, w.least-is, w.if-d-least.true)
-      | else-d-least w ↦ omega (arith, m, l.invariant.1, w.least-is, w.if-d-least.false)
-    ],
+        | then-d-least w ↦ omega (arith, m, l.invariant.1, w.least-is, w.if-d-least.true)
+        | else-d-least w ↦ omega (arith, m, l.invariant.1, w.least-is, w.if-d-least.false)
+      ],
     )
 
 pub returns : goal.returns

@@ -1,12 +1,8 @@
 -- `least_of_row`: after j turns the least of the first j numbers.
 use Prim.Native.Nat.{◌-◌, ◌≤◌}
-use mathlib.Core.Logic.{⊎_elim}
 use mathlib.Core.Path.{◌≡◌}
-use native.Mathlib.Omega.{arith}
-use borrow.Author.Rules.{rules}
 use lib.ListN.{get_or}
 use Rattle.full.specs.Rows.{least_from}
-use Rattle.full.proofs.Keys.{least_first, least_more}
 use Rattle.pruned_sift.proofs.least_of_row.Given as goal
 
 abbrev pub invariant-loop-j : goal.invariant-loop-j

@@ -1,8 +1,8 @@
 -- `leasts`: after i turns the least of each of the first i rows is stored.
-use Prim.Native.Nat.{ℕ, ◌-◌, ◌*◌, ◌≤◌, ◌<◌}
-use mathlib.Core.Path.{◌≡◌, refl}
+use Prim.Native.Nat.{◌*◌, ◌<◌}
+use mathlib.Core.Path.{refl}
 use native.Mathlib.Omega.{arith}
-use lib.ListN.{length, get_or, length-set}
+use lib.ListN.{get_or, length-set}
 use Rattle.full.specs.Rows.{least_from}
 use Rattle.pruned_sift.proofs.Sifted.{row_room, place_small}
 use Rattle.pruned_sift.proofs.Rows.{stored_more}

@@ -1,11 +1,8 @@
 -- `leasts`: after i turns the least of each of the first i rows is stored.
 use Prim.Native.Nat.{ℕ, ◌-◌, ◌*◌, ◌≤◌, ◌<◌}
-use mathlib.Core.Path.{◌≡◌, refl}
-use native.Mathlib.Omega.{arith}
-use lib.ListN.{length, get_or, length-set}
+use mathlib.Core.Path.{◌≡◌}
+use lib.ListN.{length, get_or}
 use Rattle.full.specs.Rows.{least_from}
-use Rattle.pruned_sift.proofs.Sifted.{row_room, place_small}
-use Rattle.pruned_sift.proofs.Rows.{stored_more}
 use Rattle.pruned_sift.proofs.leasts.Given as goal
 
 abbrev pub invariant-loop-i : goal.invariant-loop-i

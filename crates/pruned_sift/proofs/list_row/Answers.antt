@@ -1,6 +1,5 @@
 -- `list_row`: after j turns the keys of those within the limit among the first j are stored.
-use Prim.Native.Nat.{ℕ, ◌+◌, ◌-◌, ◌*◌, ◌≤◌, ◌<◌}
-use mathlib.Core.Logic.{⊎_elim}
+use Prim.Native.Nat.{ℕ, ◌+◌, ◌*◌, ◌≤◌, ◌<◌}
 use mathlib.Core.Path.{◌≡◌, ap, ap₂, ◌∙◌}
 use mathlib.Core.List.{List}
 use native.Mathlib.Omega.{arith}
@@ -9,13 +8,11 @@ use lib.ListN.{length, get_or}
 use Rattle.base.specs.Lists.{list_to, get_d_list_to}
 use Rattle.reach.specs.Keys.{order_code, code_of}
 use Rattle.reach.proofs.Keys.{code_parts, code_small}
-use Rattle.frame.specs.declared.Region.{Region}
 use Rattle.pruned_rule.specs.Sift.{kept}
-use Rattle.pruned_sift.specs.Laid.{number_on, within, Added}
+use Rattle.pruned_sift.specs.Laid.{number_on}
 use Rattle.pruned_sift.proofs.Sifted.{row_room, place_small, number-on}
 use Rattle.pruned_sift.proofs.Added.{added_first, added_as, added_yes, added_no, row_yes, row_no, row_few, key_of_spot}
 use Rattle.pruned_sift.proofs.list_row.Goals as goal
-use Rattle.pruned_sift.proofs.list_row.Invariants.{spotsTo}
 use Rattle.pruned_sift.proofs.list_row.Goals.{At-loop-j, then-numbers-from, else-numbers-from}
 
 -- what row and column add to a key is their place in the order
@@ -113,7 +110,7 @@ loop-j-preserved c =
     let d = number-on a.numbers.now a.pitch a.r a.i l.j c.requires.0.around.few_columns h in
     let k = code_is (goal.at.loop-j-preserved c).At-loop-j (column (goal.at.loop-j-preserved c).At-loop-j h) ∙ key_of_spot (a.r.top + a.i) (a.r.left + l.j) (omega (arith, column (goal.at.loop-j-preserved c).At-loop-j h)) in
     elim c.if-numbers-from.branch [
-      then-numbers-from w ↦ rw w.n-is (omega arith, added_as (row_yes v a.most g l.j (omega (arith, d, w.if-numbers-from.true))) (added_yes l.invariant.1 (g l.j) _ (room (goal.at.loop-j-preserved c).At-loop-j h) k))
+      | then-numbers-from w ↦ rw w.n-is (omega arith, added_as (row_yes v a.most g l.j (omega (arith, d, w.if-numbers-from.true))) (added_yes l.invariant.1 (g l.j) _ (room (goal.at.loop-j-preserved c).At-loop-j h) k))
       | else-numbers-from w ↦ rw w.n-is (omega arith, added_as (row_no v a.most g l.j (omega (arith, d, w.if-numbers-from.false))) (added_no l.invariant.1 _))
     ]
 

@@ -1,13 +1,12 @@
 -- `list_within`: after i turns the keys of those within the limit in the first i rows stand in front.
-use Prim.Native.Nat.{ℕ, ◌+◌, ◌-◌, ◌≤◌, ◌<◌}
+use Prim.Native.Nat.{ℕ, ◌+◌, ◌<◌}
 use mathlib.Core.Path.{◌≡◌, ap}
-use mathlib.Core.Logic.{⊎_elim}
 use mathlib.Core.List.{List}
 use native.Mathlib.Omega.{arith}
 use lib.ListN.{length}
 use Rattle.base.specs.Lists.{concat_to}
 use Rattle.pruned_rule.specs.Sift.{kept}
-use Rattle.pruned_sift.specs.Laid.{number_on, row_spots, within, Added}
+use Rattle.pruned_sift.specs.Laid.{number_on, row_spots, within}
 use Rattle.pruned_sift.proofs.Added.{added_first, added_as, added_join, added_last, rows_more, rows_none, rows_few, spots_rows}
 use Rattle.pruned_sift.proofs.list_within.Goals as goal
 use Rattle.pruned_sift.proofs.list_within.Goals.{At-loop-i, then-counts-i-gt0, else-counts-i-gt0}
@@ -51,10 +50,10 @@ loop-i-preserved c =
     let v = number_on a.numbers.now a.pitch a.r in
     let f = row_spots a.r in
     elim c.if-counts-i-gt0.branch [
-      then-counts-i-gt0 w ↦ rw (w.keys-is, w.n-is)
-    (omega arith, added_as (rows_more v a.most f l.i) (added_join l.invariant.1 {us = kept v a.most (f l.i)} w.list_row-n.ensures))
+      | then-counts-i-gt0 w ↦ rw (w.keys-is, w.n-is)
+          (omega arith, added_as (rows_more v a.most f l.i) (added_join l.invariant.1 {us = kept v a.most (f l.i)} w.list_row-n.ensures))
       | else-counts-i-gt0 w ↦ rw (w.keys-is, w.n-is)
-    (omega arith, added_as (rows_none v a.most f l.i (omega (arith, w.if-counts-i-gt0.false, c.requires.1 l.i (omega arith)))) l.invariant.1)
+          (omega arith, added_as (rows_none v a.most f l.i (omega (arith, w.if-counts-i-gt0.false, c.requires.1 l.i (omega arith)))) l.invariant.1)
     ]
 
 pub shape_of-keys : goal.shape_of-keys

@@ -1,14 +1,10 @@
 -- `nearest`: after i turns the least of the key that it begins with and those of the first i rows.
-use Prim.Native.Nat.{◌+◌, ◌-◌, ◌*◌, ◌≤◌}
 use mathlib.Core.Path.{◌≡◌}
-use mathlib.Core.Logic.{⊎_elim}
 use native.Mathlib.Omega.{arith}
-use borrow.Author.Rules.{rules}
 use lib.ListN.{get_or}
 use Rattle.full.proofs.Keys.{least_least}
-use Rattle.pruned_sift.specs.Laid.{key_in}
 use Rattle.pruned_sift.proofs.Sifted.{row_room, place_small}
-use Rattle.pruned_sift.proofs.Rows.{Passed, passed_first, passed_more, passed_last, lowered_keys, lowered_over, leasts_bound, bottom_some}
+use Rattle.pruned_sift.proofs.Rows.{passed_first, passed_more, passed_last, lowered_keys, lowered_over, leasts_bound, bottom_some}
 use Rattle.pruned_sift.proofs.nearest.Goals as goal
 use Rattle.pruned_sift.proofs.nearest.Goals.{then-least-i, else-least-i}
 
@@ -52,10 +48,10 @@ loop-i-preserved c =
     let low = lowered_over a.numbers.now a.pitch a.r a.least.now l.i l.best _ (omega arith) (leasts_bound a.numbers.now a.pitch a.r a.least.now c.requires.1) l.invariant.1.low in
     let least = least_least 4294967295 (λ k. get_or a.least.now k 0) 0 a.r.rows l.i (omega arith) (omega arith) in
     elim c.if-least-i.branch [
-      then-least-i w ↦ rw w.best-is
-    (omega arith, passed_more _ _ _ l.i l.best _ (lowered_keys a.numbers.now a.pitch a.r l.i l.best _ (omega arith) w.row_keys-best.ensures) l.invariant.1)
+      | then-least-i w ↦ rw w.best-is
+          (omega arith, passed_more _ _ _ l.i l.best _ (lowered_keys a.numbers.now a.pitch a.r l.i l.best _ (omega arith) w.row_keys-best.ensures) l.invariant.1)
       | else-least-i w ↦ rw w.best-is
-    (omega arith, passed_more _ _ _ l.i l.best _ (low (omega (arith, least, c.least_of_row-bottom.ensures, w.if-least-i.false))) l.invariant.1)
+          (omega arith, passed_more _ _ _ l.i l.best _ (low (omega (arith, least, c.least_of_row-bottom.ensures, w.if-least-i.false))) l.invariant.1)
     ]
 
 pub returns : goal.returns

@@ -1,14 +1,7 @@
 -- `nearest`: after i turns the least of the key that it begins with and those of the first i rows.
 use Prim.Native.Nat.{◌+◌, ◌-◌, ◌*◌, ◌≤◌}
-use mathlib.Core.Path.{◌≡◌}
-use mathlib.Core.Logic.{⊎_elim}
-use native.Mathlib.Omega.{arith}
-use borrow.Author.Rules.{rules}
-use lib.ListN.{get_or}
-use Rattle.full.proofs.Keys.{least_least}
 use Rattle.pruned_sift.specs.Laid.{key_in}
-use Rattle.pruned_sift.proofs.Sifted.{row_room, place_small}
-use Rattle.pruned_sift.proofs.Rows.{Passed, passed_first, passed_more, passed_last, lowered_keys, lowered_over, leasts_bound, bottom_some}
+use Rattle.pruned_sift.proofs.Rows.{Passed}
 use Rattle.pruned_sift.proofs.nearest.Given as goal
 
 abbrev pub invariant-loop-i : goal.invariant-loop-i

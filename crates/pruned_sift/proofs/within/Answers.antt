@@ -1,10 +1,9 @@
 -- `within`: after i turns those within the limit in the first i rows are counted, together and row by row.
-use Prim.Native.Nat.{ℕ, ◌-◌, ◌*◌, ◌≤◌, ◌<◌}
+use Prim.Native.Nat.{ℕ, ◌<◌}
 use mathlib.Core.Path.{◌≡◌, sym, ◌∙◌}
 use native.Mathlib.Omega.{arith}
-use borrow.Author.Rules.{rules}
-use lib.ListN.{length, get_or, length-set}
-use Rattle.base.specs.Sum.{sum_to, sum_to_none, sum_to_more}
+use lib.ListN.{length, length-set}
+use Rattle.base.specs.Sum.{sum_to_none, sum_to_more}
 use Rattle.pruned_sift.specs.Laid.{row_spots, within}
 use Rattle.pruned_sift.proofs.Sifted.{row_room, place_small, kept_in_row, kept_all}
 use Rattle.pruned_sift.proofs.Rows.{stored_more}

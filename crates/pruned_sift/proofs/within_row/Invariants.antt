@@ -1,13 +1,9 @@
 -- `within_row`: none where the least exceeds the limit; else after j turns the number of those within the limit among the first j.
 use Prim.Native.Nat.{◌+◌, ◌-◌, ◌≤◌}
-use mathlib.Core.Logic.{⊎_elim}
-use mathlib.Core.Path.{◌≡◌, sym, ap}
-use native.Mathlib.Omega.{arith}
-use borrow.Author.Rules.{rules}
-use borrow.Author.Tests.{le-leb, lt-leb}
+use mathlib.Core.Path.{◌≡◌}
 use lib.Dec.{leb}
 use lib.ListN.{get_or}
-use Rattle.base.specs.Sum.{sum_to, sum_to_none, sum_to_more, sum_to_zero}
+use Rattle.base.specs.Sum.{sum_to}
 use Rattle.base.specs.Tests.{one}
 use Rattle.pruned_sift.proofs.within_row.Given as goal
 

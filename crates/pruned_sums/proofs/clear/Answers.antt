@@ -1,10 +1,9 @@
 -- `clear`: after i turns the first i places are 0.
 use borrow.Author.Rules.{rules}
 use native.Mathlib.Omega.{arith}
-use Prim.Native.Nat.{◌-◌, ◌≤◌}
 use mathlib.Core.Path.{◌≡◌}
-use lib.ListN.{length, length-set}
-use Rattle.base.specs.Lists.{fill_to, fill_none, fill_front}
+use lib.ListN.{length-set}
+use Rattle.base.specs.Lists.{fill_none, fill_front}
 use Rattle.pruned_sums.proofs.clear.Goals as goal
 
 pub loop-i-init : goal.loop-i-init

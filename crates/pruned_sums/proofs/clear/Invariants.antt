@@ -1,10 +1,8 @@
 -- `clear`: after i turns the first i places are 0.
-use borrow.Author.Rules.{rules}
-use native.Mathlib.Omega.{arith}
 use Prim.Native.Nat.{◌-◌, ◌≤◌}
 use mathlib.Core.Path.{◌≡◌}
-use lib.ListN.{length, length-set}
-use Rattle.base.specs.Lists.{fill_to, fill_none, fill_front}
+use lib.ListN.{length}
+use Rattle.base.specs.Lists.{fill_to}
 use Rattle.pruned_sums.proofs.clear.Given as goal
 
 abbrev pub invariant-loop-i : goal.invariant-loop-i

@@ -1,9 +1,6 @@
 -- `fill_row`: after c turns c entries are written (`RowGoing`); the last entry is written behind the loop.
-use borrow.Author.Rules.{rules}
-use native.Mathlib.Omega.{arith}
-use Prim.Native.Nat.{◌+◌, ◌-◌}
-use mathlib.Core.Path.{◌≡◌}
-use Rattle.pruned_sums.proofs.Row.{RowGoing, row_first, row_read, row-more, row_filled}
+use Prim.Native.Nat.{◌-◌}
+use Rattle.pruned_sums.proofs.Row.{RowGoing}
 use Rattle.pruned_sums.proofs.fill_row.Given as goal
 
 abbrev pub invariant-loop-c : goal.invariant-loop-c

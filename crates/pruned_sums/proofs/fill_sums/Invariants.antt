@@ -1,13 +1,6 @@
 -- `fill_sums`: after r turns the first r + 1 rows of the table are made (`SumsGoing`).
-use Prim.Native.Nat.{ℕ, ◌+◌, ◌-◌, ◌≤◌}
-use mathlib.Core.Path.{◌∙◌}
-use native.Mathlib.Nat.{add-mul}
-use native.Mathlib.Omega.{arith}
-use borrow.Author.Rules.{rules}
-use lib.ListN.{length, get_or}
-use Rattle.base.specs.Index.{row_next}
-use Rattle.pruned_sums.specs.Filling.{Fillable}
-use Rattle.pruned_sums.proofs.Rows.{SumsGoing, sums_first, sums_room, sums_pels, sums_small, sums_more, sums_last}
+use Prim.Native.Nat.{◌-◌}
+use Rattle.pruned_sums.proofs.Rows.{SumsGoing}
 use Rattle.pruned_sums.proofs.fill_sums.Given as goal
 
 abbrev pub invariant-loop-r : goal.invariant-loop-r

@@ -1,13 +1,10 @@
 -- `add_row`: after each run the squares so far are there.
-use Prim.Native.Nat.{ℕ, ◌+◌, ◌-◌, ◌*◌, ◌≤◌, ◌<◌}
-use mathlib.Core.Path.{◌≡◌, sym, ap, ◌∙◌, subst}
-use native.Mathlib.Omega.{arith}
-use borrow.Author.Rules.{rules}
-use lib.ListN.{length, get_or}
+use Prim.Native.Nat.{ℕ, ◌+◌, ◌-◌, ◌≤◌}
+use mathlib.Core.Path.{◌≡◌}
+use lib.ListN.{length}
 use mathlib.Core.List.{List}
-use Rattle.base.specs.Lists.{fill_to, length_fill}
-use Rattle.pruned_wide.specs.Wide.{places, kept, row_squares, Fours, Inside}
-use Rattle.pruned_wide.proofs.Rows.{runs_fours, four_more, four_least, run_more, run_inside, run_bound, first_inside, first_bound}
+use Rattle.base.specs.Lists.{fill_to}
+use Rattle.pruned_wide.specs.Wide.{row_squares, Fours}
 use Rattle.pruned_wide.proofs.add_row.Given as goal
 
 -- numbers₀: after the first run

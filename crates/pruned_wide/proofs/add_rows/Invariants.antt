@@ -1,14 +1,9 @@
 -- `add_rows`: after p turns the first p rows are there.
-use Prim.Native.Nat.{ℕ, ◌+◌, ◌-◌, ◌*◌, ◌≤◌, ◌<◌}
-use mathlib.Core.Path.{◌≡◌, sym, ap, ◌∙◌, subst}
-use native.Mathlib.Omega.{arith}
-use borrow.Author.Rules.{rules}
-use lib.ListN.{length, get_or}
+use Prim.Native.Nat.{ℕ, ◌-◌, ◌≤◌}
+use mathlib.Core.Path.{◌≡◌}
+use lib.ListN.{length}
 use mathlib.Core.List.{List}
-use Rattle.base.specs.Lists.{length_fill}
-use Rattle.pruned_wide.specs.Wide.{row_squares}
-use Rattle.pruned_wide.proofs.Rows.{runs_some}
-use Rattle.pruned_wide.proofs.Blocks.{stored, first_inside, first_bound, block_first, block_bound, block_more}
+use Rattle.pruned_wide.proofs.Blocks.{stored}
 use Rattle.pruned_wide.proofs.add_rows.Given as goal
 
 -- numbers₀: after the first row

@@ -1,11 +1,11 @@
 -- `add_run`: after t turns the first t places have theirs.
-use Prim.Native.Nat.{ℕ, ◌+◌, ◌-◌, ◌*◌, ◌≤◌, ◌<◌}
+use Prim.Native.Nat.{ℕ, ◌+◌, ◌*◌, ◌<◌}
 use mathlib.Core.Path.{◌≡◌, refl, ap, ap₂, ◌∙◌}
 use native.Mathlib.Omega.{arith}
 use borrow.Author.Rules.{rules}
 use lib.ListN.{length, get_or}
 use mathlib.Core.List.{List}
-use Rattle.base.specs.Lists.{fill_to, fill_none}
+use Rattle.base.specs.Lists.{fill_none}
 use Rattle.base.specs.Sum.{sum_to, sum_to_ext}
 use Rattle.pruned_wide.specs.Wide.{squared, kept, row_squares}
 use Rattle.pruned_wide.proofs.Sums.{filled_next, fill_turn}
@@ -51,13 +51,12 @@ overflow_add-numbers c =
     omega (arith, next (goal.at.overflow_add-numbers c).At-loop-t (omega arith) _ c.kept.ensures, same (goal.at.overflow_add-numbers c).At-loop-t _ c.run_at.ensures, c.requires.5 c.loop-t.t (omega arith))
 
 pub loop-t-preserved : goal.loop-t-preserved
-loop-t-preserved c =
-    (
-      omega arith,
-      fill_turn _ _ (λ i. kept c.args.fresh (get_or c.args.numbers.now i 0) + row_squares c.args.boxes.now (c.args.at + i) c.args.own c.args.m c.args.count) c.loop-t.t _ c.loop-t.invariant.1
-          (ap₂ ◌+◌ (next (goal.at.loop-t-preserved c).At-loop-t (omega arith) _ c.kept.ensures) (same (goal.at.loop-t-preserved c).At-loop-t _ c.run_at.ensures))
-          (omega (arith, c.requires.0, c.requires.1)),
-    )
+loop-t-preserved c = (
+  omega arith,
+  fill_turn _ _ (λ i. kept c.args.fresh (get_or c.args.numbers.now i 0) + row_squares c.args.boxes.now (c.args.at + i) c.args.own c.args.m c.args.count) c.loop-t.t _ c.loop-t.invariant.1
+      (ap₂ ◌+◌ (next (goal.at.loop-t-preserved c).At-loop-t (omega arith) _ c.kept.ensures) (same (goal.at.loop-t-preserved c).At-loop-t _ c.run_at.ensures))
+      (omega (arith, c.requires.0, c.requires.1)),
+)
 
 pub returns : goal.returns
 returns c =

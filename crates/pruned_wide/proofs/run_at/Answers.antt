@@ -1,10 +1,10 @@
 -- `run_at`: after q turns the first q squares are summed.
-use Prim.Native.Nat.{◌+◌, ◌-◌, ◌*◌, ◌≤◌, ◌<◌}
+use Prim.Native.Nat.{◌+◌, ◌*◌, ◌≤◌, ◌<◌}
 use mathlib.Core.Path.{◌≡◌, sym}
 use native.Mathlib.Omega.{arith}
 use borrow.Author.Rules.{rules}
 use lib.ListN.{length, get_or}
-use Rattle.base.specs.Sum.{sum_to, sum_to_none, sum_to_more}
+use Rattle.base.specs.Sum.{sum_to_none, sum_to_more}
 use Rattle.pruned_wide.specs.Wide.{squared}
 use Rattle.pruned_wide.proofs.Sums.{next_le}
 use Rattle.pruned_wide.proofs.run_at.Goals as goal

@@ -1,12 +1,9 @@
 -- `run_at`: after q turns the first q squares are summed.
-use Prim.Native.Nat.{◌+◌, ◌-◌, ◌*◌, ◌≤◌, ◌<◌}
-use mathlib.Core.Path.{◌≡◌, sym}
-use native.Mathlib.Omega.{arith}
-use borrow.Author.Rules.{rules}
-use lib.ListN.{length, get_or}
-use Rattle.base.specs.Sum.{sum_to, sum_to_none, sum_to_more}
+use Prim.Native.Nat.{◌+◌, ◌-◌, ◌*◌, ◌≤◌}
+use mathlib.Core.Path.{◌≡◌}
+use lib.ListN.{get_or}
+use Rattle.base.specs.Sum.{sum_to}
 use Rattle.pruned_wide.specs.Wide.{squared}
-use Rattle.pruned_wide.proofs.Sums.{next_le}
 use Rattle.pruned_wide.proofs.run_at.Given as goal
 
 abbrev pub invariant-loop-q : goal.invariant-loop-q

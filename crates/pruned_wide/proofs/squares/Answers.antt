@@ -1,10 +1,10 @@
 -- `squares`: after q turns the first q are there.
-use Prim.Native.Nat.{◌+◌, ◌-◌, ◌*◌, ◌≤◌, ◌<◌}
+use Prim.Native.Nat.{◌+◌, ◌*◌, ◌<◌}
 use mathlib.Core.Path.{◌≡◌, refl, ◌∙◌}
 use native.Mathlib.Omega.{arith}
 use borrow.Author.Rules.{rules}
-use lib.ListN.{length, get_or}
-use Rattle.base.specs.Lists.{fill_to, fill_none, fill_front, length_fill}
+use lib.ListN.{length}
+use Rattle.base.specs.Lists.{fill_none, fill_front, length_fill}
 use Rattle.pruned_wide.proofs.Sums.{filled_at}
 use Rattle.pruned_wide.proofs.squares.Goals as goal
 use Rattle.pruned_wide.proofs.squares.Goals.{At-loop-q}

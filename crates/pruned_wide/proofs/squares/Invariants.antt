@@ -1,11 +1,8 @@
 -- `squares`: after q turns the first q are there.
-use Prim.Native.Nat.{◌+◌, ◌-◌, ◌*◌, ◌≤◌, ◌<◌}
-use mathlib.Core.Path.{◌≡◌, refl, ◌∙◌}
-use native.Mathlib.Omega.{arith}
-use borrow.Author.Rules.{rules}
+use Prim.Native.Nat.{◌+◌, ◌-◌, ◌*◌, ◌≤◌}
+use mathlib.Core.Path.{◌≡◌}
 use lib.ListN.{length, get_or}
-use Rattle.base.specs.Lists.{fill_to, fill_none, fill_front, length_fill}
-use Rattle.pruned_wide.proofs.Sums.{filled_at}
+use Rattle.base.specs.Lists.{fill_to}
 use Rattle.pruned_wide.proofs.squares.Given as goal
 
 abbrev pub invariant-loop-q : goal.invariant-loop-q

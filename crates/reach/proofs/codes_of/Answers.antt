@@ -1,11 +1,9 @@
 -- `codes_of`: after i turns the first i codes are stored.
-use Prim.Native.Nat.{◌-◌, ◌≤◌}
 use mathlib.Core.Path.{◌≡◌, refl, ◌∙◌}
 use mathlib.Core.List.{append-nil}
 use native.Mathlib.Omega.{arith}
-use lib.ListN.{length, length-set}
-use Rattle.base.specs.Lists.{fill_to, fill_none, fill_front, fill_zero}
-use Rattle.reach.specs.Keys.{code_of}
+use lib.ListN.{length-set}
+use Rattle.base.specs.Lists.{fill_none, fill_front, fill_zero}
 use Rattle.reach.proofs.codes_of.Goals as goal
 
 pub loop-i-init : goal.loop-i-init

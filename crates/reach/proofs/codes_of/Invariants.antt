@@ -1,10 +1,8 @@
 -- `codes_of`: after i turns the first i codes are stored.
 use Prim.Native.Nat.{◌-◌, ◌≤◌}
-use mathlib.Core.Path.{◌≡◌, refl, ◌∙◌}
-use mathlib.Core.List.{append-nil}
-use native.Mathlib.Omega.{arith}
-use lib.ListN.{length, length-set}
-use Rattle.base.specs.Lists.{fill_to, fill_none, fill_front, fill_zero}
+use mathlib.Core.Path.{◌≡◌}
+use lib.ListN.{length}
+use Rattle.base.specs.Lists.{fill_to}
 use Rattle.reach.specs.Keys.{code_of}
 use Rattle.reach.proofs.codes_of.Given as goal
 

@@ -1,13 +1,11 @@
 -- `reading_of`: the walk along the table keeps the first greatest count; after its last vector that is the array's reading.
-use mathlib.Core.Logic.{⊎_elim}
-use Prim.Native.Nat.{◌-◌}
 use mathlib.Core.Path.{◌≡◌}
 use native.Mathlib.Omega.{arith}
-use borrow.Author.Rules.{rules, sfits_of}
+use borrow.Author.Rules.{sfits_of}
 use mir.Facts.{to_z-of_z}
 use Rattle.order.proofs.Order.{inside}
 use Rattle.order.specs.Vectors.{vector_count}
-use Rattle.reading.proofs.Tally.{Walked, walked_first, walked_yes, walked_no, walked_last}
+use Rattle.reading.proofs.Tally.{walked_first, walked_yes, walked_no, walked_last}
 use mir.Syntax.{w32}
 use Rattle.reading.proofs.reading_of.Goals as goal
 use Rattle.reading.proofs.reading_of.Goals.{then-most-x, else-most-x}
@@ -27,7 +25,7 @@ loop-k-preserved c =
     let t = c.loop-k-test.true in
     let v = c.vector_at-v.ensures in
     elim c.if-most-x.branch [
-      then-most-x w ↦ rw (w.best-is, w.most-is) (walked_yes l.invariant t _ _ v (rw c.code_of-e.ensures.0) w.if-most-x.true)
+      | then-most-x w ↦ rw (w.best-is, w.most-is) (walked_yes l.invariant t _ _ v (rw c.code_of-e.ensures.0) w.if-most-x.true)
       | else-most-x w ↦ rw (w.best-is, w.most-is) (walked_no l.invariant t _ _ v (rw c.code_of-e.ensures.0) w.if-most-x.false)
     ]
 

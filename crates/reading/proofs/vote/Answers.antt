@@ -1,6 +1,5 @@
 -- `vote`: one more at the vector's place, where the block votes.
 use native.Mathlib.Omega.{arith}
-use borrow.Author.Rules.{rules}
 use Rattle.base.specs.Tests.{byte_one, one_le}
 use Rattle.reading.proofs.vote.Goals as goal
 

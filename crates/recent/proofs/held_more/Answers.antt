@@ -1,6 +1,5 @@
 -- `held_more`: the smaller of two numbers.
 use native.Mathlib.Omega.{arith}
-use borrow.Author.Rules.{rules}
 use Rattle.recent.proofs.held_more.Goals as goal
 
 pub returns-then-held-lt-MOST : goal.returns-then-held-lt-MOST

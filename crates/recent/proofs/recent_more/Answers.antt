@@ -1,6 +1,6 @@
 -- `recent_more`: held, places and sums are those of the definition, part by part.
 use mathlib.Core.Path.{◌≡◌}
-use borrow.Author.Rules.{rules, sfits_of}
+use borrow.Author.Rules.{sfits_of}
 use mir.Syntax.{w32}
 use mir.Val.{to_z, of_z}
 use mir.Facts.{to_z-of_z}

@@ -1,9 +1,7 @@
 -- `measure_candidate`: the older block is the one that the vector names, and it lies inside.
 use mathlib.Core.Path.{◌≡◌, sym, ap, ◌∙◌}
-use borrow.Author.Rules.{rules}
 use lib.Dec.{T}
 use mir.Facts.{to_z-of_z}
-use Rattle.order.specs.declared.Vector.{Vector}
 use Rattle.order.specs.Vectors.{vec}
 use Rattle.base.specs.Tests.{T_true}
 use Rattle.frame.specs.Candidates.{candidate, older_at, older_row, older_column, candidate_older, older_is, older_no}

@@ -1,6 +1,5 @@
 -- `home_refusal`: the two tests are those of the definition.
 use mathlib.Core.Path.{◌≡◌, ap, ◌∙◌}
-use borrow.Author.Rules.{rules}
 use mir.Facts.{to_z-of_z}
 use Rattle.base.specs.Tests.{told}
 use Rattle.track_rules.specs.Rules.{in_range}

@@ -1,6 +1,5 @@
 -- `state_refusal`: the three tests are those of the definition.
-use borrow.Author.Rules.{rules}
-use borrow.Author.Tests.{le-leb, lt-leb, not-true, not-false}
+use borrow.Author.Tests.{le-leb, lt-leb}
 use Rattle.base.specs.Tests.{told}
 use Rattle.track_rules.proofs.state_refusal.Goals as goal
 

@@ -1,14 +1,12 @@
 -- `differs`: at column j and row i the place is i × width + j; least and most are the smallest and the largest of the column's pels before, low and
 -- high those of the columns before (`Seen`).
-use Prim.Native.Nat.{◌+◌, ◌-◌, ◌*◌, ◌%◌, ◌≤◌, ◌<◌}
+use Prim.Native.Nat.{◌+◌, ◌*◌, ◌≤◌}
 use mathlib.Core.Path.{◌≡◌}
 use native.Mathlib.Nat.{mul-le-mul}
 use native.Mathlib.Omega.{arith}
-use borrow.Author.Rules.{rules}
 use lib.ListN.{length}
 use Rattle.base.specs.Index.{row_next, row_fits}
-use Rattle.distortion.specs.Blocks.{block_at}
-use Rattle.voter.proofs.Walk.{first_block, Seen, seen_first, seen_more, seen_two, column, Columns, seen_last}
+use Rattle.voter.proofs.Walk.{first_block, seen_first, seen_more, seen_two, column, seen_last}
 use Rattle.voter.proofs.differs.Goals as goal
 use Rattle.voter.proofs.differs.Goals.{In-loop-i}
 

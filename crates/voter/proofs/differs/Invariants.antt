@@ -2,13 +2,8 @@
 -- high those of the columns before (`Seen`).
 use Prim.Native.Nat.{◌+◌, ◌-◌, ◌*◌, ◌%◌, ◌≤◌, ◌<◌}
 use mathlib.Core.Path.{◌≡◌}
-use native.Mathlib.Nat.{mul-le-mul}
-use native.Mathlib.Omega.{arith}
-use borrow.Author.Rules.{rules}
-use lib.ListN.{length}
-use Rattle.base.specs.Index.{row_next, row_fits}
 use Rattle.distortion.specs.Blocks.{block_at}
-use Rattle.voter.proofs.Walk.{first_block, Seen, seen_first, seen_more, seen_two, column, Columns, seen_last}
+use Rattle.voter.proofs.Walk.{Seen, column, Columns}
 use Rattle.voter.proofs.differs.Given as goal
 
 abbrev pub invariant-loop-i : goal.invariant-loop-i

@@ -2,7 +2,6 @@
 use Prim.Native.Nat.{◌+◌, ◌*◌, ◌≤◌}
 use mathlib.Core.Path.{◌≡◌}
 use native.Mathlib.Omega.{arith}
-use borrow.Author.Rules.{rules}
 use lib.ListN.{length}
 use Rattle.voter.proofs.Cut.{standing_begins, standing_inside, standing_votes, last_size}
 use Rattle.voter.proofs.is_voter.Goals as goal

@@ -1,5 +1,4 @@
 -- `is_voter_at`: a grid block stands wholly inside the frame.
-use borrow.Author.Rules.{rules}
 use Rattle.frame.specs.Grid.{block_down, block_across}
 use Rattle.voter.proofs.is_voter_at.Goals as goal
 

@@ -1,10 +1,8 @@
 -- `copy_row`: after j turns the first j pels are copied.
 use Prim.Native.Nat.{◌+◌, ◌-◌, ◌≤◌}
-use mathlib.Core.Path.{◌≡◌, refl}
-use native.Mathlib.Omega.{arith}
-use borrow.Author.Rules.{rules}
-use lib.ListN.{length, get_or, length-set}
-use Rattle.base.specs.Lists.{fill_to, fill_none, fill_more}
+use mathlib.Core.Path.{◌≡◌}
+use lib.ListN.{length, get_or}
+use Rattle.base.specs.Lists.{fill_to}
 use Rattle.window_copy.proofs.copy_row.Given as goal
 
 abbrev pub invariant-loop-j : goal.invariant-loop-j

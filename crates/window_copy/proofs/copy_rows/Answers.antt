@@ -1,12 +1,11 @@
 -- `copy_rows`: after i turns the first i rows are copied, and the places are those of row i.
-use Prim.Native.Nat.{◌+◌, ◌-◌, ◌*◌, ◌≤◌, ◌<◌}
+use Prim.Native.Nat.{◌+◌, ◌≤◌, ◌<◌}
 use mathlib.Core.Path.{◌≡◌, refl, sym, ◌∙◌}
 use native.Mathlib.Nat.{zero-mul}
 use native.Mathlib.Omega.{arith}
 use lib.ListN.{length}
 use Rattle.base.specs.Index.{row_next, row_fits}
 use Rattle.base.specs.Lists.{stored_none, stored_more}
-use Rattle.window_copy.specs.Copy.{copied_rows}
 use Rattle.window_copy.proofs.copy_rows.Goals as goal
 use Rattle.window_copy.proofs.copy_rows.Goals.{At-loop-i}
 

@@ -1,11 +1,7 @@
 -- `copy_rows`: after i turns the first i rows are copied, and the places are those of row i.
-use Prim.Native.Nat.{◌+◌, ◌-◌, ◌*◌, ◌≤◌, ◌<◌}
-use mathlib.Core.Path.{◌≡◌, refl, sym, ◌∙◌}
-use native.Mathlib.Nat.{zero-mul}
-use native.Mathlib.Omega.{arith}
+use Prim.Native.Nat.{◌+◌, ◌-◌, ◌*◌, ◌≤◌}
+use mathlib.Core.Path.{◌≡◌}
 use lib.ListN.{length}
-use Rattle.base.specs.Index.{row_next, row_fits}
-use Rattle.base.specs.Lists.{stored_none, stored_more}
 use Rattle.window_copy.specs.Copy.{copied_rows}
 use Rattle.window_copy.proofs.copy_rows.Given as goal
 

@@ -1,8 +1,7 @@
 -- `copy_sum`: after g turns the sum is that of the first 4 × g rows, the next row is at place 4 × g × 64 on from the blocks' first, and beyond half way
 -- the first half does not pass the ceiling.
-use Prim.Native.Nat.{◌+◌, ◌-◌, ◌*◌, ◌≤◌, ◌<◌}
+use Prim.Native.Nat.{◌+◌, ◌*◌, ◌≤◌, ◌<◌}
 use mathlib.Core.Path.{◌≡◌, refl, ◌∙◌}
-use mathlib.Core.Logic.{⊎_elim}
 use native.Mathlib.Omega.{arith}
 use Rattle.base.specs.Sum.{sum_to}
 use Rattle.measures.specs.Measures.{measure_of, most_small}
@@ -22,7 +21,7 @@ on : (j : Joined-g-eq2) → let a = j.args in
     2 < j.loop-g.g + 1 → copy_rows a.window.now a.block.now a.at 8 ≤ a.ceiling
 on j h =
     elim j.if-g-eq2.branch [
-      then-g-eq2+else-ceiling-sum w ↦ omega (arith, rw w.if-g-eq2.true at j.loop-g.invariant.4, w.if-ceiling-sum.false)
+      | then-g-eq2+else-ceiling-sum w ↦ omega (arith, rw w.if-g-eq2.true at j.loop-g.invariant.4, w.if-ceiling-sum.false)
       | else-g-eq2 w ↦ j.loop-g.invariant.5 (omega (arith, w.if-g-eq2.false))
     ]
 

@@ -1,14 +1,8 @@
 -- `copy_sum`: after g turns the sum is that of the first 4 × g rows, the next row is at place 4 × g × 64 on from the blocks' first, and beyond half way
 -- the first half does not pass the ceiling.
 use Prim.Native.Nat.{◌+◌, ◌-◌, ◌*◌, ◌≤◌, ◌<◌}
-use mathlib.Core.Path.{◌≡◌, refl, ◌∙◌}
-use mathlib.Core.Logic.{⊎_elim}
-use native.Mathlib.Omega.{arith}
-use Rattle.base.specs.Sum.{sum_to}
-use Rattle.measures.specs.Measures.{measure_of, most_small}
-use Rattle.distortion.proofs.Rows.{rows_cut}
+use mathlib.Core.Path.{◌≡◌}
 use Rattle.window_copy.specs.Copy.{copy_rows}
-use Rattle.window_copy.proofs.Half.{copy_on, copy_passed}
 use Rattle.window_copy.proofs.copy_sum.Given as goal
 
 abbrev pub invariant-loop-g : goal.invariant-loop-g

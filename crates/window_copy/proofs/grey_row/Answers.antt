@@ -1,14 +1,11 @@
 -- `grey_row`: after j turns none were counted where the first j pels have the grey, and no more than j.
-use Prim.Native.Nat.{ℕ, ◌+◌, ◌-◌, ◌≤◌}
-use mathlib.Core.Logic.{⊎_elim}
+use Prim.Native.Nat.{ℕ, ◌+◌}
 use mathlib.Core.Bool.{Bool}
 use mathlib.Core.Path.{◌≡◌, refl}
 use native.Mathlib.Omega.{arith}
-use borrow.Author.Rules.{rules}
 use borrow.Author.Tests.{eq-eqb, ne_eqb}
 use lib.Dec.{eqb}
 use lib.ListN.{get_or}
-use Rattle.window_copy.specs.Grey.{grey_row}
 use Rattle.window_copy.proofs.Grey.{none_yes, none_no}
 use Rattle.window_copy.proofs.grey_row.Goals as goal
 use Rattle.window_copy.proofs.grey_row.Goals.{then-frame-from, else-frame-from}
@@ -20,7 +17,7 @@ pub overflow_add-others : goal.overflow_add-others
 overflow_add-others c =
     let l = c.loop-j in
     elim c.if-frame-from.branch [
-      then-frame-from w ↦ omega (arith, w.others-is, l.invariant.1)
+      | then-frame-from w ↦ omega (arith, w.others-is, l.invariant.1)
       | else-frame-from w ↦ omega (arith, w.others-is, l.invariant.1)
     ]
 
@@ -30,7 +27,7 @@ loop-j-preserved c =
     let a = c.args in
     let f : ℕ → Bool = λ k. eqb (get_or a.frame.now (a.from + k) 0) a.grey in
     elim c.if-frame-from.branch [
-      then-frame-from w ↦ (
+      | then-frame-from w ↦ (
         omega arith,
         omega (arith, w.others-is, l.invariant.1),
         rw w.others-is (none_yes f l.others l.j l.invariant.2 (eq-eqb _ _ w.if-frame-from.true)),

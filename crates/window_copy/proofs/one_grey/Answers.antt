@@ -1,13 +1,12 @@
 -- `one_grey`: after so many turns so many rows have the grey of the first pel, and the place is that of the next.
-use Prim.Native.Nat.{◌+◌, ◌-◌, ◌*◌, ◌≤◌, ◌<◌}
+use Prim.Native.Nat.{◌+◌, ◌≤◌, ◌<◌}
 use mathlib.Core.Path.{◌≡◌, refl, sym}
 use mathlib.Core.Bool.{true}
 use native.Mathlib.Nat.{zero-mul}
 use native.Mathlib.Omega.{arith}
-use borrow.Author.Rules.{rules}
 use lib.ListN.{length}
 use Rattle.base.specs.Index.{row_next, row_fits}
-use Rattle.base.specs.Tests.{all_below, told}
+use Rattle.base.specs.Tests.{told}
 use Rattle.window_copy.specs.Grey.{row_is, one_grey}
 use Rattle.window_copy.proofs.Grey.{all_yes, all_not}
 use Rattle.window_copy.proofs.one_grey.Goals as goal

@@ -1,15 +1,9 @@
 -- `one_grey`: after so many turns so many rows have the grey of the first pel, and the place is that of the next.
-use Prim.Native.Nat.{◌+◌, ◌-◌, ◌*◌, ◌≤◌, ◌<◌}
-use mathlib.Core.Path.{◌≡◌, refl, sym}
+use Prim.Native.Nat.{◌+◌, ◌-◌, ◌*◌, ◌≤◌}
+use mathlib.Core.Path.{◌≡◌}
 use mathlib.Core.Bool.{true}
-use native.Mathlib.Nat.{zero-mul}
-use native.Mathlib.Omega.{arith}
-use borrow.Author.Rules.{rules}
-use lib.ListN.{length}
-use Rattle.base.specs.Index.{row_next, row_fits}
-use Rattle.base.specs.Tests.{all_below, passed, failed}
-use Rattle.window_copy.specs.Grey.{row_is, one_grey}
-use Rattle.window_copy.proofs.Grey.{all_yes, all_not}
+use Rattle.base.specs.Tests.{all_below}
+use Rattle.window_copy.specs.Grey.{row_is}
 use Rattle.window_copy.proofs.one_grey.Given as goal
 
 abbrev pub invariant-loop-row : goal.invariant-loop-row
