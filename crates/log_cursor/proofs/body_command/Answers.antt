@@ -21,11 +21,11 @@ returns-in-2 c = simp (lt-leb _ _ c.if-log-at.false, one_of _ 2 5 c.in-2.is) c.b
 
 pub returns-in-3 : goal.returns-in-3
 unfolding body_command
-returns-in-3 c = simp (lt-leb _ _ c.if-log-at.false, c.in-3.is) c.still_due.ensures
+returns-in-3 c = simp (lt-leb _ _ c.if-log-at.false, c.in-3.is) (search rules)
 
 pub returns-in-4 : goal.returns-in-4
 unfolding body_command
-returns-in-4 c = simp (lt-leb _ _ c.if-log-at.false, c.in-4.is) c.end_due.ensures
+returns-in-4 c = simp (lt-leb _ _ c.if-log-at.false, c.in-4.is) (search rules)
 
 pub returns-in-6 : goal.returns-in-6
 unfolding body_command
