@@ -84,8 +84,8 @@ fn block_passes(head: Head, k: usize, dy: i32, dx: i32, distortion: usize) -> bo
 
 // A whole block command that is due: the block, or 16.
 fn block_taken(log: &[u8], at: usize, head: Head, blocks: usize) -> Command
-    requires at_in_bounds { (at + 5 ≤ length log.now) × (at + size_by (get_or log.now at 0) ≤ length log.now) }
-    requires head_value { (head_refusal head ≡ 0) × (blocks < head_blocks head) }
+    requires inside { (at + 5 ≤ length log.now) × (at + size_by (get_or log.now at 0) ≤ length log.now) }
+    requires due { (head_refusal head ≡ 0) × (blocks < head_blocks head) }
     ensures { result ≡ block_taken log.now at head blocks }
 {
     let dy = signed::from_byte(log[at + 1]);

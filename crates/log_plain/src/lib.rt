@@ -6,8 +6,8 @@ ghost use Rattle.std.specs.Prelude.{◌≡◌, pos};
 ghost use Rattle.log_head.specs.Heads.{no_head};
 ghost use Rattle.log_plain.specs.Plain.{cursor_of, plain_of, answer, answer_of, walk_from};
 
-use log_cursor::{Cursor, Phase};
 use log_command::Command;
+use log_cursor::{Cursor, Phase};
 use log_head::Head;
 
 // Where a walk stands: the offset of the next command, and how far the walk is: 0 before the head, 1 among the blocks, 2 after the end,

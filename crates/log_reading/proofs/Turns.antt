@@ -12,7 +12,6 @@ use lib.ListN.{length, drop, length-append}
 use Rattle.log_head.specs.declared.Head.{Head}
 use Rattle.log_cursor.specs.declared.Cursor.{Cursor}
 use Rattle.log_command.specs.declared.Command.{Command}
-use Rattle.log_command.specs.declared.Command.TheVariants as Cmd
 use Rattle.log_cursor.specs.declared.WalkStep.{WalkStep}
 use Rattle.log_command.specs.Commands.{command_number, is_refused, block_values}
 use Rattle.log_head.specs.Heads.{head_blocks, largest_logged, entry}

@@ -1,5 +1,5 @@
 -- 01, "Log": "A walker over a lent log hands out one command a call." A walker is the lent log and a cursor; what a call hands out, and where the walker then
--- stands, is `step_at` of log/specs/Step.antt, for a walker built by hand too.
+-- stands, is `step_at` of log_cursor/specs/Step.antt, for a walker built by hand too.
 --   next_command  what a call hands out
 --   next_walker   the walker after it: the same lent log, at the next cursor
 use Rattle.log_command.specs.declared.Command.{Command}

@@ -6,8 +6,8 @@ ghost use Rattle.std.specs.Prelude.{◌≡◌};
 ghost use Rattle.log_cursor.specs.Step.{start_cursor};
 ghost use Rattle.log_walker.specs.Walkers.{next_command, next_walker};
 
-use log_cursor::Cursor;
 use log_command::Command;
+use log_cursor::Cursor;
 
 // A log that is walked, and where the walk stands.
 #[derive(Clone, Copy)]

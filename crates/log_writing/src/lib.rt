@@ -48,7 +48,7 @@ fn still_at(list: &[i32], k: usize) -> bool
 
 // How many bytes block k takes.
 fn block_size(list: &[i32], k: usize) -> usize
-    requires k_in_bounds { (3 * k + 3 ≤ length list.now) × (k < 1048576) }
+    requires inside { (3 * k + 3 ≤ length list.now) × (k < 1048576) }
     requires entry { Entry (value_of list.now k 0) (value_of list.now k 1) (value_of list.now k 2) }
     ensures { (result ≡ length (block_bytes list.now k)) × (result ≤ 7) }
 {
@@ -143,7 +143,7 @@ fn put_numbers(out: &mut [u8], at: usize, dy: i32, dx: i32, distortion: i32) -> 
 
 // Block k.
 fn put_block(out: &mut [u8], at: usize, list: &[i32], k: usize) -> usize
-    requires at_bound { (at < 100000000000) × (3 * k + 3 ≤ length list.now) × (k < 1048576) }
+    requires inside { (at < 100000000000) × (3 * k + 3 ≤ length list.now) × (k < 1048576) }
     requires entry { Entry (value_of list.now k 0) (value_of list.now k 1) (value_of list.now k 2) }
     ensures { Put out.old at (block_bytes list.now k) out.new result × (result ≤ at + 7) }
 {

@@ -3,7 +3,6 @@ use mir.Facts.{to_z-of_z}
 use Rattle.put.specs.Put.{put_then}
 use Rattle.log_line.specs.Line.{worded, spaced}
 use native.Mathlib.Omega.{arith}
-use borrow.Author.Rules.{rules}
 use Rattle.log_line.proofs.put_block.Goals as goal
 
 pub returns : goal.returns

@@ -1,7 +1,6 @@
 -- `put_block_line`: number 3 is a still block's.
 use mathlib.Core.Path.{sym, ◌∙◌}
 use native.Mathlib.Omega.{arith}
-use borrow.Author.Rules.{rules}
 use Rattle.log_line.proofs.Texts.{still_number}
 use Rattle.log_line.proofs.put_block_line.Goals as goal
 

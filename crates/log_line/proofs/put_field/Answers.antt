@@ -3,7 +3,6 @@ use Rattle.put.specs.Put.{put_then}
 use Rattle.log_line.specs.Line.{number_text}
 use Rattle.put.specs.Digits.{digits_length}
 use native.Mathlib.Omega.{arith}
-use borrow.Author.Rules.{rules}
 use Rattle.log_line.proofs.put_field.Goals as goal
 
 pub put_byte-requires : goal.put_byte-requires

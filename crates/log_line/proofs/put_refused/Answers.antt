@@ -2,7 +2,6 @@
 use Rattle.put.specs.Put.{put_then}
 use Rattle.log_line.specs.Line.{worded, spaced, refused_word, at_word}
 use native.Mathlib.Omega.{arith}
-use borrow.Author.Rules.{rules}
 use Rattle.log_line.proofs.put_refused.Goals as goal
 
 pub returns : goal.returns

@@ -1,7 +1,6 @@
 -- `put_search`: two numbers, or one.
 use mathlib.Core.Path.{sym, ◌∙◌}
 use native.Mathlib.Omega.{arith}
-use borrow.Author.Rules.{rules}
 use Rattle.put.specs.Put.{put_then}
 use Rattle.log_line.specs.Line.{spaced}
 use Rattle.log_line.proofs.put_search.Goals as goal

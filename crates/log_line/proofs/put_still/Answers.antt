@@ -3,26 +3,9 @@ use Prim.Native.Nat.{suc, ◌+◌}
 use mathlib.Core.Path.{◌≡◌, refl}
 use native.Mathlib.Omega.{arith}
 use native.Mathlib.Numerals.{add-one}
-use borrow.Author.Rules.{rules}
-use lib.ListN.{length-set}
 use Rattle.put.specs.Digits.{digits}
 use Rattle.log_line.specs.Line.{worded, spaced, number_text}
 use Rattle.log_line.proofs.put_still.Goals as goal
-
-pub bounds-out-at-then-at-out : goal.bounds-out-at-then-at-out
-bounds-out-at-then-at-out c = simp length-set (omega arith)
-
-pub bounds-out-at-then-at-out-2 : goal.bounds-out-at-then-at-out-2
-bounds-out-at-then-at-out-2 c = simp length-set (omega arith)
-
-pub bounds-out-at-then-at-out-3 : goal.bounds-out-at-then-at-out-3
-bounds-out-at-then-at-out-3 c = simp length-set (omega arith)
-
-pub bounds-out-at-then-at-out-4 : goal.bounds-out-at-then-at-out-4
-bounds-out-at-then-at-out-4 c = simp length-set (omega arith)
-
-pub bounds-out-at-then-at-out-5 : goal.bounds-out-at-then-at-out-5
-bounds-out-at-then-at-out-5 c = simp length-set (omega arith)
 
 pub returns-then-at-out : goal.returns-then-at-out
 unfolding worded spaced number_text digits

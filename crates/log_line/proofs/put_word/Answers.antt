@@ -1,27 +1,15 @@
 -- `put_word`: byte by byte, the bytes before the next are put.
-use Prim.Native.Nat.{◌<◌, ◌+◌, ◌-◌, ◌≤◌}
-use mathlib.Core.Path.{◌≡◌, refl, ◌∙◌}
+use Prim.Native.Nat.{◌<◌}
+use mathlib.Core.Path.{refl, ◌∙◌}
 use native.Mathlib.Omega.{arith}
-use lib.ListN.{length, take}
+use lib.ListN.{length}
 use lib.Seq.{take_all}
-use Rattle.put.specs.Put.{Put, put_none}
+use Rattle.put.specs.Put.{put_none}
 use Rattle.log_line.proofs.Texts.{word_more}
 use Rattle.log_line.proofs.put_word.Goals as goal
 
 pub loop-i-init : goal.loop-i-init
 loop-i-init c = (omega arith, omega arith, refl, put_none _ _)
-
-pub bounds-word-i : goal.bounds-word-i
-bounds-word-i c = omega arith
-
-pub put_byte-k-requires : goal.put_byte-k-requires
-put_byte-k-requires c = omega arith
-
-pub overflow_add-i : goal.overflow_add-i
-overflow_add-i c = omega arith
-
-pub loop-i-smaller : goal.loop-i-smaller
-loop-i-smaller c = omega arith
 
 pub loop-i-preserved : goal.loop-i-preserved
 loop-i-preserved c =

@@ -1,11 +1,8 @@
 -- `put_word`: byte by byte, the bytes before the next are put.
-use Prim.Native.Nat.{◌<◌, ◌+◌, ◌-◌, ◌≤◌}
-use mathlib.Core.Path.{◌≡◌, refl, ◌∙◌}
-use native.Mathlib.Omega.{arith}
+use Prim.Native.Nat.{◌+◌, ◌-◌, ◌≤◌}
+use mathlib.Core.Path.{◌≡◌}
 use lib.ListN.{length, take}
-use lib.Seq.{take_all}
-use Rattle.put.specs.Put.{Put, put_none}
-use Rattle.log_line.proofs.Texts.{word_more}
+use Rattle.put.specs.Put.{Put}
 use Rattle.log_line.proofs.put_word.Given as goal
 
 abbrev pub invariant-loop-i : goal.invariant-loop-i

@@ -1,7 +1,6 @@
 -- `block_size`: a still block is its command alone; how many bytes another takes hangs on its distortion.
 use mathlib.Core.Path.{◌≡◌, ap, sym, ◌∙◌}
 use native.Mathlib.Omega.{arith}
-use borrow.Author.Rules.{rules}
 use lib.ListN.{length}
 use Rattle.signed.specs.Int.{up, parts}
 use Rattle.log_list.specs.Listed.{value_of}
@@ -20,7 +19,7 @@ returns c =
     let list = c.args.list.now in
     let z = value_of list c.args.k in
     let d = through c.value.type_inv c.value.ensures in
-    let n : c.magnitude-distortion.result ≡ up (z 2) = omega (arith, rw d at c.magnitude-distortion.ensures, c.requires.1, parts (z 2)) in
+    let n : c.magnitude-distortion.result ≡ up (z 2) = omega (arith, rw d at c.magnitude-distortion.ensures, c.requires.entry, parts (z 2)) in
     let number : c.block_number.result ≡ block_number (up (z 2)) = rw n at c.block_number.ensures in
     let size = c.size_by-size.ensures ∙ ap size_by number ∙ sym (block_size (z 0) (z 1) (up (z 2))) in
     let moved = block_moved list c.args.k (sym c.still_at.ensures ∙ c.if-still_at.false) in

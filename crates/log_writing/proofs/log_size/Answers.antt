@@ -1,13 +1,10 @@
 -- `log_size`: the bytes of head and end, and those of each block.
-use Prim.Native.Nat.{◌+◌, ◌-◌, ◌*◌, ◌≤◌, ◌<◌}
+use Prim.Native.Nat.{◌<◌}
 use mathlib.Core.Path.{◌≡◌, ap, ◌∙◌}
 use native.Mathlib.Omega.{arith}
-use borrow.Author.Rules.{rules}
-use Rattle.base.specs.Lists.{concat_to}
 use Rattle.log_head.specs.Heads.{head_blocks, entry}
-use Rattle.log_writing.specs.Parts.{head_bytes, block_bytes}
+use Rattle.log_writing.specs.Parts.{head_bytes}
 use Rattle.log_writing.proofs.Bytes.{head_few, sized_first, sized_more, sized_all}
-use lib.ListN.{length}
 use Rattle.log_command.specs.Commands.{head_number, size_by, head_size}
 use Rattle.log_writing.proofs.log_size.Goals as goal
 use Rattle.log_writing.proofs.log_size.Goals.{After-size_by-size}
@@ -34,7 +31,10 @@ block_size-size-requires c =
     let l = c.loop-k in
     let p = c.requires in
     let t : l.k < head_blocks c.args.head = omega (arith, c.head_blocks-n.ensures) in
-    ((omega (arith, p.listed.room), omega (arith, p.listed.few)), entry _ p.listed.fine _ _ _ _ (p.each _ t))
+    record {
+      inside = (omega (arith, p.listed.room), omega (arith, p.listed.few));
+      entry = entry _ p.listed.fine _ _ _ _ (p.each _ t);
+    }
 
 pub loop-k-preserved : goal.loop-k-preserved
 loop-k-preserved c =

@@ -1,14 +1,9 @@
 -- `log_size`: the bytes of head and end, and those of each block.
-use Prim.Native.Nat.{◌+◌, ◌-◌, ◌*◌, ◌≤◌, ◌<◌}
-use mathlib.Core.Path.{◌≡◌, ap, ◌∙◌}
-use native.Mathlib.Omega.{arith}
-use borrow.Author.Rules.{rules}
+use Prim.Native.Nat.{◌+◌, ◌-◌, ◌*◌, ◌≤◌}
+use mathlib.Core.Path.{◌≡◌}
 use Rattle.base.specs.Lists.{concat_to}
-use Rattle.log_head.specs.Heads.{head_blocks, entry}
-use Rattle.log_writing.specs.Parts.{head_bytes, block_bytes}
-use Rattle.log_writing.proofs.Bytes.{head_few, sized_first, sized_more, sized_all}
+use Rattle.log_writing.specs.Parts.{block_bytes}
 use lib.ListN.{length}
-use Rattle.log_command.specs.Commands.{head_number, size_by, head_size}
 use Rattle.log_writing.proofs.log_size.Given as goal
 
 abbrev pub invariant-loop-k : goal.invariant-loop-k

@@ -1,7 +1,6 @@
 -- `put_block`: a still block is its command alone, any other its numbers.
 use mathlib.Core.Path.{◌≡◌, sym, ◌∙◌}
 use native.Mathlib.Omega.{arith}
-use borrow.Author.Rules.{rules}
 use mir.Syntax.{w32}
 use mir.Val.{to_z, of_z}
 use Rattle.log_list.specs.Listed.{value_of}
@@ -29,7 +28,7 @@ values c =
 pub put_numbers-requires : goal.put_numbers-requires
 put_numbers-requires c =
     let v = values c in
-    (c.requires.0.0, rw (v.0, v.1, v.2) c.requires.1)
+    (c.requires.inside.0, rw (v.0, v.1, v.2) c.requires.entry)
 
 pub returns : goal.returns
 returns c =
@@ -37,4 +36,4 @@ returns c =
     let a = c.args in
     let z = value_of a.list.now a.k in
     let w = rw (v.0, v.1, v.2) at c.put_numbers.ensures in
-    (rw (block_moved _ _ (sym c.still_at.ensures ∙ c.if-still_at.left)) w, omega (arith, w.place, numbers_few (z 0) (z 1) (z 2)))
+    (rw (block_moved _ _ (sym c.still_at.ensures ∙ c.if-still_at.false)) w, omega (arith, w.place, numbers_few (z 0) (z 1) (z 2)))

@@ -1,13 +1,11 @@
 -- `put_blocks`: each turn puts one block behind those before it.
-use Prim.Native.Nat.{◌+◌, ◌-◌, ◌*◌, ◌≤◌, ◌<◌}
+use Prim.Native.Nat.{◌<◌}
 use mathlib.Core.Path.{◌≡◌, refl, ◌∙◌}
 use native.Mathlib.Omega.{arith}
-use borrow.Author.Rules.{rules}
-use Rattle.put.specs.Put.{Put, put_none, put_then}
+use Rattle.put.specs.Put.{put_none, put_then}
 use Rattle.base.specs.Lists.{concat_to, concat_to_more}
 use Rattle.log_head.specs.Heads.{head_blocks, entry}
 use Rattle.log_writing.specs.Parts.{block_bytes}
-use lib.ListN.{length}
 use Rattle.log_writing.proofs.put_blocks.Goals as goal
 
 pub head_blocks-n-requires : goal.head_blocks-n-requires
@@ -21,10 +19,11 @@ pub put_block-next-requires : goal.put_block-next-requires
 put_block-next-requires c =
     let l = c.loop-k in
     let p = c.requires.1 in
-    let t : l.k < head_blocks c.args.head = omega (arith, c.head_blocks-n.ensures) in (
-      (omega (arith, l.invariant.1, c.head_blocks-n.ensures), omega (arith, p.listed.room), omega (arith, p.listed.few)),
-      entry _ p.listed.fine _ _ _ _ (p.each _ t),
-    )
+    let t : l.k < head_blocks c.args.head = omega (arith, c.head_blocks-n.ensures) in
+    record {
+      inside = (omega (arith, l.invariant.1, c.head_blocks-n.ensures), omega (arith, p.listed.room), omega (arith, p.listed.few));
+      entry = entry _ p.listed.fine _ _ _ _ (p.each _ t);
+    }
 
 pub loop-k-preserved : goal.loop-k-preserved
 loop-k-preserved c =

@@ -1,11 +1,8 @@
 -- `put_blocks`: each turn puts one block behind those before it.
-use Prim.Native.Nat.{◌+◌, ◌-◌, ◌*◌, ◌≤◌, ◌<◌}
-use mathlib.Core.Path.{◌≡◌, refl, ◌∙◌}
-use native.Mathlib.Omega.{arith}
-use borrow.Author.Rules.{rules}
-use Rattle.put.specs.Put.{Put, put_none, put_then}
-use Rattle.base.specs.Lists.{concat_to, concat_to_more}
-use Rattle.log_head.specs.Heads.{head_blocks, entry}
+use Prim.Native.Nat.{◌+◌, ◌-◌, ◌*◌, ◌≤◌}
+use mathlib.Core.Path.{◌≡◌}
+use Rattle.put.specs.Put.{Put}
+use Rattle.base.specs.Lists.{concat_to}
 use Rattle.log_writing.specs.Parts.{block_bytes}
 use lib.ListN.{length}
 use Rattle.log_writing.proofs.put_blocks.Given as goal

@@ -1,5 +1,4 @@
 -- `put_end`: the command, then the number.
-use borrow.Author.Rules.{rules}
 use Rattle.put.specs.Put.{put_then}
 use Rattle.log_writing.specs.Parts.{end_bytes}
 use Rattle.log_writing.proofs.put_end.Goals as goal

@@ -1,7 +1,6 @@
 -- `put_head`: each number of an accepted head fits its bytes, and they are put in order.
 use mathlib.Core.Path.{◌≡◌, ◌∙◌}
 use native.Mathlib.Omega.{arith}
-use borrow.Author.Rules.{rules}
 use Rattle.log_writing.specs.Parts.{head_bytes}
 use Rattle.put.specs.Put.{put_then}
 use Rattle.log_head.specs.Heads.{headed}
@@ -29,8 +28,8 @@ put_measure-requires c =
 
 pub shape_of-out : goal.shape_of-out
 shape_of-out c =
-    let last = c.put_measure.auto.out ∙ c.put_byte-measure.kept.0 ∙ c.put_byte-search.kept.0 ∙ c.put_byte-w.kept.0 in
-    last ∙ c.put_two-n.kept.0 ∙ c.put_two-height.kept.0 ∙ c.put_byte-width.kept.0
+    let last = c.put_measure.auto.out ∙ c.put_byte-measure.auto.out ∙ c.put_byte-search.auto.out ∙ c.put_byte-w.auto.out in
+    last ∙ c.put_two-n.auto.out ∙ c.put_two-height.auto.out ∙ c.put_byte-width.auto.out
 
 pub returns : goal.returns
 unfolding head_bytes

@@ -1,6 +1,5 @@
 -- `put_log`: head, blocks and end, one after the other.
 use native.Mathlib.Omega.{arith}
-use borrow.Author.Rules.{rules}
 use Rattle.put.specs.Put.{put_then}
 use Rattle.log_writing.proofs.Bytes.{head_few, log_parts}
 use Rattle.log_writing.proofs.put_log.Goals as goal

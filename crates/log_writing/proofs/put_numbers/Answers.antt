@@ -1,7 +1,6 @@
 -- `put_numbers`: the command, then the numbers in order.
 use mathlib.Core.Path.{◌≡◌}
 use native.Mathlib.Omega.{arith}
-use borrow.Author.Rules.{rules}
 use mir.Facts.{to_z-of_z}
 use Rattle.log_writing.specs.Parts.{numbers_bytes}
 use Rattle.signed.specs.Int.{up, parts}

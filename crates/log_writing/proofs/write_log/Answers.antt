@@ -1,6 +1,5 @@
 -- `write_log`: the verdict, then 19; else the log is put over the buffer's front.
 use mathlib.Core.Path.{refl, ap, sym, ◌∙◌}
-use borrow.Author.Rules.{rules}
 use borrow.Author.Tests.{lt-ltb, le-ltb, eq-eqb, ne_eqb}
 use Rattle.log_list.specs.Listed.{AllPass}
 use Rattle.log_list.proofs.Sound.{verdict_yes}

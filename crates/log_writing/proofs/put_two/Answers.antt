@@ -1,7 +1,0 @@
--- `put_two`: two bytes, one after the other.
-use borrow.Author.Rules.{rules}
-use Rattle.put.specs.Put.{put_then}
-use Rattle.log_writing.proofs.put_two.Goals as goal
-
-pub returns : goal.returns
-returns c = put_then c.put_byte-low.ensures c.put_byte.ensures
