@@ -11,7 +11,7 @@ use mathlib.Core.List.{List, [], ◌∷◌, ◌++◌, map, map-append}
 use native.Mathlib.Omega.{arith}
 use borrow.Author.Count.{below_more}
 use lib.Dec.{T}
-use lib.IntN.{ℤ, pos, nat_abs}
+use lib.IntN.{◌+ℤ◌, ℤ, pos, nat_abs}
 use lib.ListN.{length, get_or, take, drop, replicate, length-append, length-drop, length-map}
 use lib.ListN.{get_or-append, get_or-map}
 use lib.Seq.{take_at, drop_at, drop-append-le, drop-drop, length-take-le, get_or_at, get_or-take, get_or-drop, ext_get_or}
