@@ -10,7 +10,7 @@
 --   start_command, body_command, after_end   what a call hands out at the start, among the blocks, after the end: "The command byte decides"
 --   refused_step, command_step, step_of      a command with the cursor after it
 --   step_at       one call of the walker, 34 included
---   start_cursor  where a walk begins; bodyCursor: a place among the blocks
+--   start_cursor  where a walk begins; body_cursor: a place among the blocks
 use Rattle.std.specs.Prelude.{ℕ, ◌+◌, ◌≤◌, ◌<◌, ◌≡◌, ◌⊎◌, List, Bool, cond, not, ◌&&◌, ◌||◌, length, ltb, ℤ, pos}
 use Rattle.std.proofs.Math.Path.{refl, sym}
 use Rattle.std.proofs.Common.{ap, ◌∙◌, inl, inr, ⊎_elim, arith, leb→le, eqb→eq}

@@ -60,25 +60,25 @@ unfolding worded spaced limit
 block_line dy dx distortion a =
     both (few_signed 1 dy 32 (omega (arith, a.down))) (both (few_signed 1 dx 32 (omega (arith, a.across))) (any_number distortion 10))
 
-end-word : Short end_word 4
+short_end : Short end_word 4
 unfolding end_word
-end-word = record { most = omega arith }
+short_end = record { most = omega arith }
 
 pub end_line : (blocks : ℕ) → Short (line_of (Cmd.End blocks)) 25
 unfolding worded spaced
-end_line blocks = both end-word (any_number blocks 10)
+end_line blocks = both short_end (any_number blocks 10)
 
-refused-word : Short refused_word 8
+short_refused : Short refused_word 8
 unfolding refused_word
-refused-word = record { most = omega arith }
+short_refused = record { most = omega arith }
 
-at-word : Short at_word 3
+short_at : Short at_word 3
 unfolding at_word
-at-word = record { most = omega arith }
+short_at = record { most = omega arith }
 
 pub refused_words : (n place : ℕ) → n ≤ 34 → place ≤ 65536 → Short (worded (Cmd.Refused n place)) 20
 unfolding worded spaced limit
-refused_words n place h p = both (both (both refused-word (few_digits 1 n 32 (omega arith))) at-word) (few_digits 4 place 10 (omega arith))
+refused_words n place h p = both (both (both short_refused (few_digits 1 n 32 (omega arith))) short_at) (few_digits 4 place 10 (omega arith))
 
 pub refused_line : (n place : ℕ) → n ≤ 34 → place ≤ 65536 → Short (line_of (Cmd.Refused n place)) 20
 refused_line n place h p =

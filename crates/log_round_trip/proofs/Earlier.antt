@@ -38,7 +38,7 @@ use Rattle.log_walks.proofs.Entries as Entries
 use Rattle.log_walks.proofs.Complete.{complete}
 use Rattle.log_round_trip.specs.Earlier.{Earlier, Allowed, head_of, earlier_of, grid_blocks, down, across, distortion}
 use Rattle.log_round_trip.specs.Earlier.{earlier_head, earlier_block, earlier_end, earlier_log, earlier_line, earlier_text, EarlierLogs}
-use Rattle.log_round_trip.proofs.Fields.{block-values}
+use Rattle.log_round_trip.proofs.Fields.{values_of_block}
 use Rattle.log_round_trip.proofs.Writing as Writing
 use Rattle.log_round_trip.proofs.Reading as Reading
 use Rattle.log_round_trip.proofs.RoundTrip.{three, field_log, round_trip}
@@ -114,7 +114,7 @@ module _ (e : Earlier) (a : Allowed e) where
   -- a block's line has its three numbers
   line_same : (k : ℕ) → k < grid_blocks e → line_of (block_command e.field k) ≡ earlier_line e k
   unfolding worded
-  line_same k l = go (block_command e.field k) (made e.field k) (block-values h e.field fine entries k l (block_command e.field k) (made e.field k))
+  line_same k l = go (block_command e.field k) (made e.field k) (values_of_block h e.field fine entries k l (block_command e.field k) (made e.field k))
     where
       go : (x : Command) → Made (down e k) (across e k) (distortion e k) x → block_values x ≡ down e k ∷ across e k ∷ distortion e k ∷ [] → line_of x ≡ earlier_line e k
       go x (as_still t) q = ap spaced q

@@ -39,10 +39,10 @@ still_is dy dx z e =
     (zero_is dy (T_true a (and_left a (b && c) t)), zero_is dx (T_true b (and_left b c u)), zero_is z (T_true c (and_right b c u)))
 
 module _ (h : Head) (list : List ℤ) (ok : head_refusal h ≡ 0) (entries : (k : ℕ) → k < head_blocks h → listed_ok h list k ≡ true) where
-  pub block-values : (k : ℕ) → k < head_blocks h → (x : Command) → Made (value_of list k 0) (value_of list k 1) (value_of list k 2) x
+  pub values_of_block : (k : ℕ) → k < head_blocks h → (x : Command) → Made (value_of list k 0) (value_of list k 1) (value_of list k 2) x
       → block_values x ≡ value_of list k 0 ∷ value_of list k 1 ∷ value_of list k 2 ∷ []
-  block-values k l x (as_still e) = let s = still_is (value_of list k 0) (value_of list k 1) (value_of list k 2) e in rw (s.0, s.1, s.2)
-  block-values k l x (as_block e) =
+  values_of_block k l x (as_still e) = let s = still_is (value_of list k 0) (value_of list k 1) (value_of list k 2) e in rw (s.0, s.1, s.2)
+  values_of_block k l x (as_block e) =
       let z = value_of list k 2 in
       let is = entry h ok k (value_of list k 0) (value_of list k 1) z (entries k l) in
       rw (same (pos (up z)) z (omega (arith, is.above)))
@@ -60,7 +60,7 @@ module _ (h : Head) (list : List ℤ) (ok : head_refusal h ≡ 0) (entries : (k 
   blocks_values (suc n) l m =
       let b = block_command list n in
       flat_map_append block_values (list_to (block_command list) n) (b ∷ [])
-      ∙ ap₂ ◌++◌ (blocks_values n (omega arith) (omega arith)) (append-nil (block_values b) ∙ block-values n (omega arith) b (made list n))
+      ∙ ap₂ ◌++◌ (blocks_values n (omega arith) (omega arith)) (append-nil (block_values b) ∙ values_of_block n (omega arith) b (made list n))
       ∙ sym (take_three n m)
 
   pub field_is : 3 * head_blocks h ≤ length list → field_of (log_commands h list ++ (Cmd.Refused 34 0 ∷ [])) ≡ take (3 * head_blocks h) list

@@ -18,14 +18,14 @@ use Rattle.log_walks.specs.Cases.{Kind, refused, head, block, still, end, kinds}
 use Rattle.log_walks.proofs.Ends.{enough}
 
 -- from any place, in any number of calls
-commands-from : (calls : ℕ) (log : List ℕ) (p : Place) → CommandsOf (answers_from calls log p) (commands_from calls log (cursor_of p))
+told_from : (calls : ℕ) (log : List ℕ) (p : Place) → CommandsOf (answers_from calls log p) (commands_from calls log (cursor_of p))
 unfolding answers_from commands_from walk_from
-commands-from zero log p = none
-commands-from (suc calls) log p =
+told_from zero log p = none
+told_from (suc calls) log p =
     more (step_at log (cursor_of p)).command (plain_of (step_at log (cursor_of p)).next)
     (go
     (λ c. subst (λ (d : Cursor). CommandsOf (answers_from calls log (plain_of c)) (commands_from calls log d)) (cursor_plain c)
-    (commands-from calls log (plain_of c)))
+    (told_from calls log (plain_of c)))
     (step_at log (cursor_of p))
     (kinds log (cursor_of p)))
   where
@@ -41,4 +41,4 @@ commands-from (suc calls) log p =
 pub plain_walk : (log : List ℕ) (calls : ℕ) → length log < calls → CommandsOf (answers_from calls log (plain_of start_cursor)) (walk log)
 unfolding walk phase_of
 plain_walk log calls l =
-    rw (enough (length log + 1) calls log start_cursor (omega arith) (omega arith) (omega arith)) (commands-from calls log (plain_of start_cursor))
+    rw (enough (length log + 1) calls log start_cursor (omega arith) (omega arith) (omega arith)) (told_from calls log (plain_of start_cursor))

@@ -4,8 +4,8 @@
 --   Allowed            15 and 16 as they were let it pass
 --   earlier_log         its bytes: "one head, all grid blocks in order, one end"
 --   earlier_text        what the program printed for it
---   head_of             its head today: the same five numbers, and measure 1; earlierOf: what is read of a log today, without the measure
---   EarlierLogs        the theorem; proofs/Earlier.antt has earlier-logs : EarlierLogs
+--   head_of             its head today: the same five numbers, and measure 1; earlier_of: what is read of a log today, without the measure
+--   EarlierLogs        the theorem; proofs/Earlier.antt has earlier_logs : EarlierLogs
 use Rattle.std.specs.Prelude.{ℕ, ◌*◌, ◌≤◌, ◌<◌, ◌≡◌, ◌⊎◌, true, cond, List, [], ◌∷◌, ◌++◌, ℤ, pos, length, take, drop}
 use Rattle.base.specs.Lists.{Each, concat_to}
 use Rattle.signed.specs.Int.{up, dn}

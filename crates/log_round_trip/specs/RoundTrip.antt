@@ -1,10 +1,10 @@
--- Writing, reading and walking a log agree with each other. proofs/RoundTrip.antt has the theorem, round-trip : RoundTrip.
+-- Writing, reading and walking a log agree with each other. proofs/RoundTrip.antt has the theorem, round_trip : RoundTrip.
 -- From below come, as the contracts of the code cite them:
 --   write_log      what writing answers, with the buffer afterwards (crates/log_writing)
---                 log_of, logCommands: the log of a head and a list, as bytes and as commands
+--                 log_of, log_commands: the log of a head and a list, as bytes and as commands
 --   read_log       what reading answers, with the list afterwards (crates/log_reading); field_of: the list that a walk's blocks make
---   step_at        one call of the walker, from any cursor (crates/log)
---                 commandsFrom: the commands of so many calls; walk: of all, from the log's start; logHead: the head that the first hands out
+--   step_at        one call of the walker, from any cursor (crates/log_cursor)
+--                 commands_from: the commands of so many calls; walk: of all, from the log's start; log_head: the head that the first hands out
 --   answers_from   the answers of the plain call, each from the place that the one before handed back, until a refusal (crates/log_plain)
 --                 CommandsOf: they tell these commands
 use Rattle.std.specs.Prelude.{ℕ, ◌+◌, ◌*◌, ◌≤◌, ◌<◌, ◌≡◌, ◌↔◌, true, List, [], ◌∷◌, ◌++◌, ℤ, length, take, drop}

@@ -78,8 +78,8 @@ module _ {log : List ℕ} {h : Head} {before : List ℕ} {from first : ℕ} {out
           absurd (omega arith)
 
   -- it goes on inside the log
-  pub block-on : is_refused command ≡ false → (next < next + command_size command) × (next + command_size command ≤ length log)
-  block-on e = rw (block_step e) at (goes_on log here (step_at log here) (kinds log here) (ap (λ (s : WalkStep). is_refused s.command) (block_step e) ∙ e))
+  pub block_goes_on : is_refused command ≡ false → (next < next + command_size command) × (next + command_size command ≤ length log)
+  block_goes_on e = rw (block_step e) at (goes_on log here (step_at log here) (kinds log here) (ap (λ (s : WalkStep). is_refused s.command) (block_step e) ∙ e))
 
   module _ {m : List ℕ} {to : ℕ} (w : Put out at (line_of command) m to) where
     pub printing_more : is_refused command ≡ false → to ≤ at + 128 → (size : ℕ) → size ≡ command_size command
@@ -87,7 +87,7 @@ module _ {log : List ℕ} {h : Head} {before : List ℕ} {from first : ℕ} {out
     printing_more e l size f =
         let n : length log - k - 1 ≡ length log - (k + 1) = omega (arith, p.on, p.inside) in
         let s = command_step command next (Body h (k + 1)) in
-        let o = block-on e in
+        let o = block_goes_on e in
         record {
           on = omega (arith, p.on, o.0, f);
           inside = omega (arith, o.1, f);

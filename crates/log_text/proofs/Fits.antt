@@ -41,10 +41,10 @@ some_bytes distortion = go (is_long distortion)
     go true = omega arith
     go false = omega arith
 
-one-more : (calls : ℕ) (log : List ℕ) (c : Cursor) → length log ≤ longest_log
+one_call_more : (calls : ℕ) (log : List ℕ) (c : Cursor) → length log ≤ longest_log
     → ((next : Cursor) → next.at ≤ length log → Fitted calls log next) → c.at ≤ length log → Fitted (suc calls) log c
 unfolding commands_from flat_map
-one-more calls log c small after h = go (step_at log c) (kinds log c)
+one_call_more calls log c small after h = go (step_at log c) (kinds log c)
   where
     -- a line, and what follows it
     more : (line : List ℕ) (next : Cursor) (m : ℕ) → Short line m → next.at ≤ length log → m + 6 * c.at ≤ 6 * next.at
@@ -63,7 +63,7 @@ one-more calls log c small after h = go (step_at log c) (kinds log c)
 from_here : (calls : ℕ) (log : List ℕ) (c : Cursor) → length log ≤ longest_log → c.at ≤ length log → Fitted calls log c
 unfolding commands_from flat_map
 from_here zero log c small h = omega arith
-from_here (suc calls) log c small h = one-more calls log c small (λ next l. from_here calls log next small l) h
+from_here (suc calls) log c small h = one_call_more calls log c small (λ next l. from_here calls log next small l) h
 
 pub printed_long : (log : List ℕ) → longest_log < length log → print_log log ≡ worded (Cmd.Refused 20 longest_log)
 unfolding print_log

@@ -53,11 +53,11 @@ module _ (log : List ℕ) (at : ℕ) (inside : at ≤ length log) where
   abbrev at_end : Cursor
   at_end = record { at = at; phase = Ended }
 
-  after-end : (calls : ℕ) → 0 < calls → command_number (last_of (commands_from calls log at_end)) ≡ 34
+  past_end : (calls : ℕ) → 0 < calls → command_number (last_of (commands_from calls log at_end)) ≡ 34
       → (commands_from calls log at_end ≡ Cmd.Refused 34 0 ∷ []) × (length log ≤ at)
   unfolding commands_from last_of
-  after-end zero p e = absurd (omega arith)
-  after-end (suc calls) p e = go (step_at log at_end) (kinds log at_end) e
+  past_end zero p e = absurd (omega arith)
+  past_end (suc calls) p e = go (step_at log at_end) (kinds log at_end) e
     where
       why : NoMore log at_end → length log ≤ at
       why (past l) = omega arith
@@ -114,31 +114,31 @@ module _ (log : List ℕ) (h : Head) (ok : head_refusal h ≡ 0) where
         let later = sym (ap command_number (last_after x calls log (body to (k + 1)) (omega arith))) in
         (few, rw (eh, ek) (walked to (k + 1) (omega arith) inside (omega arith) (later ∙ (rw (eh, ek) at e))))
 
-    one-more : Walked calls → (s : WalkStep) → Kind log (body at k) s → command_number (last_of (called s)) ≡ 34 → AcceptedFrom log h at k (called s)
+    one_turn : Walked calls → (s : WalkStep) → Kind log (body at k) s → command_number (last_of (called s)) ≡ 34 → AcceptedFrom log h at k (called s)
     unfolding last_of
-    one-more walked s (Cases.refused number place a b w) e = absurd (not_over at k l m (w.over e).1)
-    one-more walked s (Cases.head q t r) e = let z : ◌≡◌ {A = ℕ} 0 1 = cc in absurd (omega arith)
-    one-more walked s (Cases.block h' k' q r g t o u) e =
+    one_turn walked s (Cases.refused number place a b w) e = absurd (not_over at k l m (w.over e).1)
+    one_turn walked s (Cases.head q t r) e = let z : ◌≡◌ {A = ℕ} 0 1 = cc in absurd (omega arith)
+    one_turn walked s (Cases.block h' k' q r g t o u) e =
         let eh : h' ≡ h = cc in
         let ek : k' ≡ k = cc in
         let x = after_block _ (at + command_size (block_in log at)) h' k' eh ek g (omega arith) t.room walked e in
         block x.0 t (rw (eh, ek) at o) u x.1
-    one-more walked s (Cases.still h' k' q r g t) e =
+    one_turn walked s (Cases.still h' k' q r g t) e =
         let eh : h' ≡ h = cc in
         let ek : k' ≡ k = cc in
         let x = after_block _ (at + command_size Cmd.Still) h' k' eh ek g (omega arith) t.room walked e in
         still x.0 t x.1
-    one-more walked s (Cases.end h' k' q r g t n) e =
+    one_turn walked s (Cases.end h' k' q r g t n) e =
         let eh : h' ≡ h = cc in
         let ek : k' ≡ k = cc in
         let later = sym (ap command_number (last_after _ calls log _ (omega arith))) ∙ e in
-        let x = after-end log (at + command_size (Cmd.End (head_blocks h'))) t.room calls (omega arith) later in
+        let x = past_end log (at + command_size (Cmd.End (head_blocks h'))) t.room calls (omega arith) later in
         rw (eh, x.0) (last (rw (eh, ek) at g) (rw eh at t) (omega (arith, x.1, t.room)) (rw eh at n))
 
   walked_all : (calls : ℕ) → Walked calls
   unfolding Walked commands_from
   walked_all zero at k l m enough e = absurd (omega arith)
-  walked_all (suc calls) at k l m enough e = one-more calls at k l m enough (walked_all calls) (step_at log (body at k)) (kinds log (body at k)) e
+  walked_all (suc calls) at k l m enough e = one_turn calls at k l m enough (walked_all calls) (step_at log (body at k)) (kinds log (body at k)) e
 
 -- ---- from the start
 

@@ -49,10 +49,10 @@ module _ (h : Head) (list : List ℤ) (ok : head_refusal h ≡ 0)
   body at k = record { at = at; phase = Body h k }
 
   -- a block of either kind
-  block-on : (at k : ℕ) → k < head_blocks h → (rest : List ℕ) (x : Command) → Made (value_of list k 0) (value_of list k 1) (value_of list k 2) x
+  on_block : (at k : ℕ) → k < head_blocks h → (rest : List ℕ) (x : Command) → Made (value_of list k 0) (value_of list k 1) (value_of list k 2) x
       → drop at log ≡ command_bytes x ++ rest → step_at log (body at k) ≡ command_step x at (Body h (k + 1))
-  block-on at k l rest x (as_still e) goes = still_step log at h k ok l rest goes
-  block-on at k l rest x (as_block e) goes = block_step log at h k ok l (value_of list k 0) (value_of list k 1) (value_of list k 2) (entries k l) e rest goes
+  on_block at k l rest x (as_still e) goes = still_step log at h k ok l rest goes
+  on_block at k l rest x (as_block e) goes = block_step log at h k ok l (value_of list k 0) (value_of list k 1) (value_of list k 2) (entries k l) e rest goes
 
   -- so many blocks from block k on, and the end
   rest_walked : (n at k calls : ℕ) → n + k ≡ head_blocks h → length log < calls + at
@@ -70,7 +70,7 @@ module _ (h : Head) (list : List ℤ) (ok : head_refusal h ≡ 0)
       let rest = flat_map command_bytes (list_from (block_command list) (k + 1) n ++ (Cmd.End (head_blocks h) ∷ [])) in
       let given = block_given (made list k) in
       let m : at + length bytes ≤ length log = room log at bytes rest goes given.1 in
-      call_on calls log (body at k) _ _ (omega arith) (block-on at k (omega arith) rest (block_command list k) (made list k) goes) given.0
+      call_on calls log (body at k) _ _ (omega arith) (on_block at k (omega arith) rest (block_command list k) (made list k) goes) given.0
       ∙ ap (◌∷◌ (block_command list k)) (rest_walked n (at + length bytes) (k + 1) (calls - 1) (omega arith) (omega arith) (behind log at bytes rest goes))
 
 pub complete : (h : Head) (list : List ℤ) → head_refusal h ≡ 0

@@ -22,10 +22,10 @@ use Rattle.log_walks.proofs.Accepted.{AcceptedFrom, last, block, still, accepted
 
 module _ {log : List ℕ} (bytes : Bytes log) where
   -- the bytes at an offset are those of the command there: of a block with a distortion of two bytes and of four, by its number
-  block-bytes : (at : ℕ) → get_or log at 0 ≡ command_number (block_in log at)
+  bytes_of_block : (at : ℕ) → get_or log at 0 ≡ command_number (block_in log at)
       → list_to (λ i. get_or log (at + i) 0) (command_size (block_in log at)) ≡ command_bytes (block_in log at)
   unfolding list_to
-  block-bytes at own = go (is_long (distortion_in log at)) refl
+  bytes_of_block at own = go (is_long (distortion_in log at)) refl
     where
       z : at + 0 ≡ at
       z = omega arith
@@ -63,19 +63,19 @@ module _ {log : List ℕ} (bytes : Bytes log) where
       let z : at + 0 ≡ at = omega arith in
       rw (z, e)
 
-  end-bytes : (at blocks : ℕ) → get_or log at 0 ≡ 4 → be4 log (at + 1) ≡ blocks → list_to (λ i. get_or log (at + i) 0) 5 ≡ command_bytes (Cmd.End blocks)
+  bytes_of_end : (at blocks : ℕ) → get_or log at 0 ≡ 4 → be4 log (at + 1) ≡ blocks → list_to (λ i. get_or log (at + i) 0) 5 ≡ command_bytes (Cmd.End blocks)
   unfolding list_to
-  end-bytes at blocks e f =
+  bytes_of_end at blocks e f =
       let z : at + 0 ≡ at = omega arith in
       let a : at + 1 + 1 ≡ at + 2 = omega arith in
       let b : at + 1 + 2 ≡ at + 3 = omega arith in
       let c : at + 1 + 3 ≡ at + 4 = omega arith in
       rw (z, e, ← f) (ap (◌∷◌ 4) (sym (bytes_be4 bytes (at + 1) ∙ rw (a, b, c))))
 
-  head-bytes : get_or log 0 0 ≡ command_number (Cmd.Head (head_in log 0))
+  bytes_of_head : get_or log 0 0 ≡ command_number (Cmd.Head (head_in log 0))
       → list_to (λ i. get_or log (0 + i) 0) (command_size (Cmd.Head (head_in log 0))) ≡ command_bytes (Cmd.Head (head_in log 0))
   unfolding list_to head_in
-  head-bytes own = go (carries (head_in log 0)) refl
+  bytes_of_head own = go (carries (head_in log 0)) refl
     where
       go : (t : Bool) → carries (head_in log 0) ≡ t
           → list_to (λ i. get_or log (0 + i) 0) (command_size (Cmd.Head (head_in log 0))) ≡ command_bytes (Cmd.Head (head_in log 0))
@@ -89,8 +89,8 @@ module _ {log : List ℕ} (bytes : Bytes log) where
   rest_bytes : {h : Head} {at k : ℕ} {cs : List Command} → AcceptedFrom log h at k cs → drop at log ≡ flat_map command_bytes cs
   unfolding flat_map
   rest_bytes {h} {at} (last e t f n) =
-      drop_front log at 5 0 t.room ∙ ap₂ ◌++◌ (end-bytes at (head_blocks h) t.byte n) (rw f (drop-length log))
-  rest_bytes {at} (block l t o u rest) = drop_front log at (command_size (block_in log at)) 0 t.room ∙ ap₂ ◌++◌ (block-bytes at t.byte) (rest_bytes rest)
+      drop_front log at 5 0 t.room ∙ ap₂ ◌++◌ (bytes_of_end at (head_blocks h) t.byte n) (rw f (drop-length log))
+  rest_bytes {at} (block l t o u rest) = drop_front log at (command_size (block_in log at)) 0 t.room ∙ ap₂ ◌++◌ (bytes_of_block at t.byte) (rest_bytes rest)
   rest_bytes {at} (still l t rest) = drop_front log at 1 0 t.room ∙ ap₂ ◌++◌ (still_bytes at t.byte) (rest_bytes rest)
 
 pub sound : (log : List ℕ) → Bytes log → command_number (last_of (walk log)) ≡ 34 → log ≡ flat_map command_bytes (walk log)
@@ -100,5 +100,5 @@ sound log bytes e =
     let size = command_size (Cmd.Head (head_in log 0)) in
     let z : 0 + size ≡ size = omega arith in
     rw z at (drop_front log 0 size 0 a.begins.room)
-    ∙ ap₂ ◌++◌ (head-bytes bytes a.begins.byte ∙ ap (λ (h : Head). command_bytes (Cmd.Head h)) (sym a.is)) (rw a.is at (rest_bytes bytes a.rest))
+    ∙ ap₂ ◌++◌ (bytes_of_head bytes a.begins.byte ∙ ap (λ (h : Head). command_bytes (Cmd.Head h)) (sym a.is)) (rw a.is at (rest_bytes bytes a.rest))
     ∙ ap (flat_map command_bytes) (sym a.whole)

@@ -35,9 +35,9 @@ commands_next a b c list n =
     ∙ ap (◌∷◌ (block_command (a ∷ b ∷ c ∷ list) 0)) (list_to_ext _ (block_command list) n (λ i l. command_next a b c list i))
 
 -- a block's command x before those of a list
-one-more : (x : Command) (a b c : ℤ) (list : List ℤ) (n : ℕ) (cs end : List Command) → block_command (a ∷ b ∷ c ∷ list) 0 ≡ x
+one_block_more : (x : Command) (a b c : ℤ) (list : List ℤ) (n : ℕ) (cs end : List Command) → block_command (a ∷ b ∷ c ∷ list) 0 ≡ x
     → cs ≡ list_to (block_command list) n ++ end → x ∷ cs ≡ list_to (block_command (a ∷ b ∷ c ∷ list)) (suc n) ++ end
-one-more x a b c list n cs end e f = ap₂ ◌∷◌ (sym e) f ∙ ap (λ (l : List Command). l ++ end) (sym (commands_next a b c list n))
+one_block_more x a b c list n cs end e f = ap₂ ◌∷◌ (sym e) f ∙ ap (λ (l : List Command). l ++ end) (sym (commands_next a b c list n))
 
 rest_commands : {log : List ℕ} {h : Head} {at k : ℕ} {cs : List Command} → AcceptedFrom log h at k cs → (n : ℕ) → n + k ≡ head_blocks h
     → cs ≡ list_to (block_command (flat_map block_values cs)) n ++ (Cmd.End (head_blocks h) ∷ Cmd.Refused 34 0 ∷ [])
@@ -46,12 +46,12 @@ rest_commands (last e t f m) zero p = refl
 rest_commands (last e t f m) (suc n) p = absurd (omega arith)
 rest_commands (block l t o u rest) zero p = absurd (omega arith)
 rest_commands {log} {at} (block {cs = cs} l t o u rest) (suc n) p =
-    one-more (block_in log at) (dy_in log at) (dx_in log at) (pos (distortion_in log at)) (flat_map block_values cs) n cs _
+    one_block_more (block_in log at) (dy_in log at) (dx_in log at) (pos (distortion_in log at)) (flat_map block_values cs) n cs _
     (rw u)
     (rest_commands rest n (omega arith))
 rest_commands (still l t rest) zero p = absurd (omega arith)
 rest_commands (still {cs = cs} l t rest) (suc n) p =
-    one-more Cmd.Still (pos 0) (pos 0) (pos 0) (flat_map block_values cs) n cs _ refl (rest_commands rest n (omega arith))
+    one_block_more Cmd.Still (pos 0) (pos 0) (pos 0) (flat_map block_values cs) n cs _ refl (rest_commands rest n (omega arith))
 
 pub whole : (log : List ℕ) → command_number (last_of (walk log)) ≡ 34
     → walk log ≡ log_commands (log_head log) (flat_map block_values (walk log)) ++ (Cmd.Refused 34 0 ∷ [])

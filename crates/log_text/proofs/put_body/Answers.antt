@@ -6,7 +6,7 @@ use lib.ListN.{length}
 use mathlib.Core.Bool.{false}
 use Rattle.put.specs.Put.{rest_all}
 use Rattle.log_command.specs.Commands.{command_size, is_refused}
-use Rattle.log_text.proofs.Blocks.{Printing, printing_first, printing_more, printing_last, block-on}
+use Rattle.log_text.proofs.Blocks.{Printing, printing_first, printing_more, printing_last, block_goes_on}
 use Rattle.log_text.proofs.Stills.{printing_stills}
 use Rattle.log_text.proofs.put_body.Goals as goal
 use Rattle.log_text.proofs.put_body.Goals.{After-body_command-command, After-command_size-next, Else-is_refused}
@@ -22,7 +22,7 @@ on : (e : Else-is_refused) →
 on e =
     let a = e.requires in
     let t = rw e.head_blocks-all.ensures.0 at e.loop-k-test.true in
-    block-on e.loop-k.invariant a.4 t a.0 _ e.body_command-command.ensures (sym e.is_refused.ensures ∙ e.if-is_refused.false)
+    block_goes_on e.loop-k.invariant a.4 t a.0 _ e.body_command-command.ensures (sym e.is_refused.ensures ∙ e.if-is_refused.false)
 
 -- behind its line
 behind : (c : After-command_size-next) →
