@@ -2,7 +2,6 @@
 use Prim.Native.Nat.{ℕ}
 use mathlib.Core.Path.{◌≡◌, sym, ap, subst, ◌∙◌}
 use mathlib.Core.List.{List}
-use borrow.Author.Rules.{rules}
 use lib.Dec.{T}
 use lib.IntN.{ℤ}
 use Rattle.refusals.specs.declared.Request.{Request}
@@ -15,8 +14,8 @@ use Rattle.track_rules.specs.Rules.{may_step}
 use Rattle.track.specs.declared.Track.{Track}
 use Rattle.track.specs.declared.Stepped.{Stepped}
 use Rattle.track.specs.Track.{step_refusal, step_refusal_is, unmoved, step_result, arrived, landed, track_step, step_refused, step_landed}
-use Rattle.track.proofs.Track.step.Statement.{statement}
-use Rattle.track.proofs.Track.step.Tie as tie
+use Rattle.track.proofs.Track.step.Goals as goal
+use Rattle.track.proofs.Track.step.Goals.{Else-refusal-ne0}
 
 -- no 32
 may-step : (t : Track) (older newer : ℕ) (q : Request) (list table : ℕ) → step_refusal t older newer q list table ≡ 0 → T (may_step t.steps t.recent)
@@ -41,52 +40,20 @@ module _ (t : Track) (older newer : List ℕ) (q : Request) (list : List ℤ) (t
       ap (λ (u : Stepped). step_result u filled sums) e ∙ ap (landed t) f ∙ sym (step_landed t older newer q list table z)
 
 -- past the chain
-zero_is : (e : tie.Else1) →
-    let a = e.before.before.before.before.before.args in
+zero_is : (e : Else-refusal-ne0) →
+    let a = e.args in
     step_refusal_is a.self a.older.now a.newer.now a.q a.list.now a.table.now ≡ 0
-zero_is e = sym e.before.step-refusal.ensures ∙ e.if1.false
+zero_is e = sym e.step_refusal-refusal.ensures ∙ e.if-refusal-ne0.false
 
-step-refusal-requires : tie.Need-step-refusal-requires
-step-refusal-requires c κs = search rules
+pub returns-then-refusal-ne0 : goal.returns-then-refusal-ne0
+returns-then-refusal-ne0 c =
+    stops _ _ _ _ _ _ _ _ c.step_refusal-refusal.ensures c.if-refusal-ne0.true c.unmoved.ensures
 
-unmoved-requires : tie.Need-unmoved-requires
-unmoved-requires c κs = search rules
+pub arrive-requires : goal.arrive-requires
+arrive-requires c =
+    let z = zero_is (goal.at.arrive-requires c).Else-refusal-ne0 in
+    (may-step _ _ _ _ _ _ z, subst Reads (sym c.field-answer.ensures) (reading_within _ _ _ _ _))
 
-returns : tie.Need-returns
+pub returns : goal.returns
 returns c =
-    let i = c.before in
-    stops _ _ _ _ _ _ _ _ i.before.step-refusal.ensures i.if1.true c.unmoved.ensures
-
-field-requires : tie.Need-field-requires
-field-requires c κs = search rules
-
-arrive-requires : tie.Need-arrive-requires
-arrive-requires c κs =
-    let f = c.before.before.before in
-    let z = zero_is f.before.before.before in
-    (may-step _ _ _ _ _ _ z, subst Reads (sym f.field.ensures) (reading_within _ _ _ _ _))
-
-same_length : tie.Need-same-length
-same_length c = search rules
-
-same-length-2 : tie.Need-same-length-2
-same-length-2 c = search rules
-
-returns-2 : tie.Need-returns-2
-returns-2 c =
-    let f = c.before.before.before.before in
-    let i = f.before.before.before in
-    arrives _ _ _ _ _ _ _ _ _ _ (zero_is i) f.field.ensures c.arrive.ensures
-
-pub step_spec : {M : Type 1} → statement M
-step_spec =
-    tie.close
-    (tie.spec
-    step-refusal-requires
-    unmoved-requires
-    returns
-    field-requires
-    arrive-requires
-    same_length
-    same-length-2
-    returns-2)
+    arrives _ _ _ _ _ _ _ _ _ _ (zero_is (goal.at.returns c).Else-refusal-ne0) c.field-answer.ensures c.arrive.ensures
