@@ -41,7 +41,8 @@ mem_in {k} (j ∷ js) m =
     (λ (e : k ≡ j).
     let s = ap (λ (i : ℕ). same? (preferred k) (preferred i)) (sym e) ∙ same_self (preferred k) in
     ap (λ (b : Bool). b || is_in (preferred k) (vectors_at js)) s)
-    (λ i. rw (mem_in js i) (or_true (same? (preferred k) (preferred j))))
+    (λ i.
+    ap (λ (b : Bool). same? (preferred k) (preferred j) || b) (mem_in {k = k} js i) ∙ or_true (same? (preferred k) (preferred j)))
     (Memᴰ.cases_cons m)
 
 in_mem : (v : Vector) (ks : List ℕ) → T (is_in v (vectors_at ks)) → (k : ℕ) × (k ∈ ks) × (preferred k ≡ v)
