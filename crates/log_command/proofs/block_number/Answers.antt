@@ -1,6 +1,5 @@
 -- `block_number`: by the distortion.
 use mathlib.Core.Path.{sym, ◌∙◌}
-use borrow.Author.Rules.{rules}
 use Rattle.log_command.proofs.block_number.Goals as goal
 
 pub returns-then-is_long : goal.returns-then-is_long

@@ -1,5 +1,4 @@
 -- `command_number`: by the command's case; a head and a block have functions of their own.
-use borrow.Author.Rules.{rules}
 use Rattle.log_command.proofs.command_number.Goals as goal
 
 pub returns-in-Head : goal.returns-in-Head

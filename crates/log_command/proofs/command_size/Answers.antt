@@ -1,6 +1,5 @@
 -- `command_size`: by the command's case; the laws of sizes say how many bytes a head and a block are.
 use mathlib.Core.Path.{ap, sym, ◌∙◌}
-use borrow.Author.Rules.{rules}
 use Rattle.log_command.specs.Commands.{size_by, head_size, block_size}
 use Rattle.log_command.proofs.command_size.Goals as goal
 

@@ -1,6 +1,5 @@
 -- `four`: two pairs of bytes.
 use native.Mathlib.Omega.{arith}
-use borrow.Author.Rules.{rules}
 use Rattle.log_command.specs.Numbers.{be4}
 use Rattle.log_command.proofs.four.Goals as goal
 

@@ -1,5 +1,4 @@
 -- `head_in`: the operands one by one.
-use borrow.Author.Rules.{rules}
 use Rattle.log_command.specs.Operands.{head_in}
 use Rattle.log_command.proofs.head_in.Goals as goal
 

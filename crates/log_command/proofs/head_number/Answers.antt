@@ -1,6 +1,5 @@
 -- `head_number`: by whether the head carries its measure.
 use mathlib.Core.Path.{sym, ◌∙◌}
-use borrow.Author.Rules.{rules}
 use Rattle.log_command.proofs.head_number.Goals as goal
 
 pub returns-then-carries : goal.returns-then-carries

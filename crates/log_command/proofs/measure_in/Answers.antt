@@ -1,6 +1,5 @@
 -- `measure_in`: by the command byte.
 use native.Mathlib.Omega.{arith}
-use borrow.Author.Rules.{rules}
 use borrow.Author.Tests.{eq-eqb, ne_eqb}
 use Rattle.log_command.proofs.measure_in.Goals as goal
 

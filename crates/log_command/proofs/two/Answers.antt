@@ -1,7 +1,6 @@
 -- `two`: the definition's sum.
 use native.Mathlib.Omega.{arith}
 use Rattle.log_command.specs.Numbers.{be2}
-use borrow.Author.Rules.{rules}
 use Rattle.log_command.proofs.two.Goals as goal
 
 pub returns : goal.returns

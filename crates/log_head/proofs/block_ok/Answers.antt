@@ -1,6 +1,5 @@
 -- `block_ok`: the candidate's test, then the distortion's.
 use mathlib.Core.Path.{◌≡◌}
-use borrow.Author.Rules.{rules}
 use Rattle.base.specs.Tests.{told}
 use Rattle.log_head.specs.Heads.{entry_ok, candidate_ok, headed, setting_in}
 use mir.Facts.{to_z-of_z}

@@ -1,5 +1,4 @@
 -- `candidate_ok`: the block's place, then the candidate's test.
-use borrow.Author.Rules.{rules}
 use mir.Facts.{to_z-of_z}
 use Rattle.log_head.proofs.candidate_ok.Goals as goal
 

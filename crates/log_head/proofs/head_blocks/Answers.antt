@@ -1,6 +1,5 @@
 -- `head_blocks`: the setting of an accepted head fits.
 use mathlib.Core.Path.{refl}
-use borrow.Author.Rules.{rules}
 use Rattle.frame.specs.Grid.{blocks_few}
 use Rattle.log_head.specs.Heads.{setting_in, headed}
 use Rattle.log_head.proofs.head_blocks.Goals as goal

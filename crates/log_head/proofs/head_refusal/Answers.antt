@@ -1,6 +1,5 @@
 -- `head_refusal`: the tests in the chain's order; what each return passed rewrites the chain down to its number.
 use mathlib.Core.Path.{◌≡◌, ap, ◌∙◌}
-use borrow.Author.Rules.{rules}
 use mathlib.Core.Bool.{true}
 use Rattle.base.specs.Tests.{told}
 use Rattle.measures.specs.Measures.{measure_ok}

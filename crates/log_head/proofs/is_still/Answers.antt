@@ -1,7 +1,6 @@
 -- `is_still`: the three tests in order.
 use Prim.Native.Nat.{ℕ}
 use mathlib.Core.Path.{◌≡◌, ap, sym, ◌∙◌}
-use borrow.Author.Rules.{rules}
 use borrow.Author.Tests.{ne_eqb, eq-eqb}
 use mir.Facts.{to_z-of_z}
 use Rattle.log_head.specs.Heads.{is_still, zero_is}

@@ -2,7 +2,6 @@
 use Prim.Native.Nat.{◌*◌, ◌≤◌}
 use native.Mathlib.Nat.{mul-le-mul, mul_assoc}
 use native.Mathlib.Omega.{arith}
-use borrow.Author.Rules.{rules}
 use Rattle.log_head.specs.Heads.{headed}
 use Rattle.frame.specs.Pictures.{largest_n}
 use Rattle.log_head.proofs.largest_in.Goals as goal

@@ -1,13 +1,10 @@
 -- `first_wrong`: what is left, searched from here, answers for the whole.
-use Prim.Native.Nat.{◌-◌, ◌≤◌, ◌<◌}
-use mathlib.Core.Path.{◌≡◌, refl, sym, ◌∙◌}
+use Prim.Native.Nat.{◌≤◌, ◌<◌}
+use mathlib.Core.Path.{refl, sym, ◌∙◌}
 use native.Mathlib.Omega.{arith}
-use borrow.Author.Rules.{rules}
 use native.Mathlib.Nat.{sub-zero}
 use Rattle.base.specs.Tests.{told}
-use Rattle.log_head.specs.Heads.{head_blocks}
-use Rattle.base.specs.FirstWrong.{first_wrong, wrong_more, wrong_here, wrong_last}
-use Rattle.log_list.specs.Listed.{listed_ok}
+use Rattle.base.specs.FirstWrong.{wrong_more, wrong_here, wrong_last}
 use Rattle.log_list.proofs.first_wrong.Goals as goal
 
 pub head_blocks-n-requires : goal.head_blocks-n-requires

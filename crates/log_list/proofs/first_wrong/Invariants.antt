@@ -1,12 +1,8 @@
 -- `first_wrong`: what is left, searched from here, answers for the whole.
-use Prim.Native.Nat.{◌-◌, ◌≤◌, ◌<◌}
-use mathlib.Core.Path.{◌≡◌, refl, sym, ◌∙◌}
-use native.Mathlib.Omega.{arith}
-use borrow.Author.Rules.{rules}
-use native.Mathlib.Nat.{sub-zero}
-use Rattle.base.specs.Tests.{passed, failed}
+use Prim.Native.Nat.{◌-◌, ◌≤◌}
+use mathlib.Core.Path.{◌≡◌}
 use Rattle.log_head.specs.Heads.{head_blocks}
-use Rattle.base.specs.FirstWrong.{first_wrong, wrong_more, wrong_here, wrong_last}
+use Rattle.base.specs.FirstWrong.{first_wrong}
 use Rattle.log_list.specs.Listed.{listed_ok}
 use Rattle.log_list.proofs.first_wrong.Given as goal
 

@@ -1,7 +1,6 @@
 -- `list_refusal`: the head's refusal, then the list's length. An accepted head has at most 1,048,576 blocks, so the product does not wrap.
 use mathlib.Core.Path.{sym, ◌∙◌}
 use native.Mathlib.Omega.{arith}
-use borrow.Author.Rules.{rules}
 use borrow.Author.Tests.{lt-leb, le-leb}
 use Rattle.refusals.specs.Refusals.{first_refusal_none, first_refusal_some}
 use Rattle.log_list.specs.Listed.{list_refusal}

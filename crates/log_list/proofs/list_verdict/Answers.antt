@@ -1,6 +1,5 @@
 -- `list_verdict`: 1 3 4 51 5 10, then the first block that 16 turns away.
 use mathlib.Core.Path.{sym, ◌∙◌}
-use borrow.Author.Rules.{rules}
 use borrow.Author.Tests.{lt-ltb, le-ltb, eq-eqb, ne_eqb}
 use lib.ListN.{length}
 use Rattle.log_list.specs.Listed.{list_verdict, Writable}

@@ -1,6 +1,5 @@
 -- `listed_ok`: the rule for the block's three numbers.
 use mathlib.Core.Path.{◌≡◌}
-use borrow.Author.Rules.{rules}
 use Rattle.log_list.specs.Listed.{value_of}
 use mir.Val.{to_z, of_z}
 use mir.Syntax.{w32}
