@@ -15,7 +15,7 @@
 use Prim.Native.Nat.{ℕ, zero, suc, ◌+◌, ◌*◌, ◌/◌, ◌%◌, ◌≤◌, ◌<◌}
 use Rattle.std.proofs.Math.Path.{◌≡◌, refl, ap₂}
 use Rattle.std.proofs.Common.{sym, ap, ◌∙◌, add-suc, add-mul, mul-le-mul, mul-le-mul_right, add-one}
-use Rattle.std.specs.Prelude.{Bool, List, T, eqb, length, get_or}
+use Rattle.std.specs.Prelude.{Bool, List, T, eqb, length, get_or, Option, Some, None}
 use Rattle.std.proofs.Math.Bool.{true, false, cond}
 use Rattle.std.proofs.Math.Nat.{add-zero}
 use native.Mathlib.Omega.{arith}
@@ -30,8 +30,6 @@ use Rattle.frame.specs.declared.Setting.{Setting}
 use Rattle.frame.specs.Pictures.{Pair, pel, largest_n}
 use Rattle.frame.specs.Candidates.{older_row, older_column}
 use Rattle.refusals.specs.Refusals.{block_size_ok, block_size, Placed}
-use Rattle.distortion.specs.declared.Capped.{Capped}
-use Rattle.distortion.specs.declared.Capped.TheVariants.{Within, Over}
 
 abbrev pub Block : Type 0
 Block = ℕ → ℕ → ℕ
@@ -45,8 +43,8 @@ distortion_by μ n a b = sum_over n n (λ i j. μ.diff (a i j) (b i j))
 unfoldable pub partial_by : Measure → ℕ → Block → Block → ℕ → ℕ
 partial_by μ n a b m = sum_over m n (λ i j. μ.diff (a i j) (b i j))
 
-unfoldable pub capped : ℕ → ℕ → Capped
-capped ceiling d = cond (leb d ceiling) (Within d) Over
+unfoldable pub capped : ℕ → ℕ → Option ℕ
+capped ceiling d = cond (leb d ceiling) (Some d) None
 
 abbrev pub newer_block : Pair → ℕ → ℕ → Block
 newer_block p y x = block_at p.newer p.setting.width y x
@@ -223,27 +221,27 @@ sum_up_to_ext ceiling f g (suc n) h = rw (sum_up_to_ext ceiling f g n h, h n)
 
 -- what an answer under a ceiling says
 module _ (ceiling d : ℕ) where
-  pub capped_within : d ≤ ceiling → capped ceiling d ≡ Within d
+  pub capped_within : d ≤ ceiling → capped ceiling d ≡ Some d
   unfolding capped
   capped_within h = rw (le-leb d ceiling h)
 
-  pub capped_over : ceiling < d → capped ceiling d ≡ Over
+  pub capped_over : ceiling < d → capped ceiling d ≡ None
   unfolding capped
   capped_over h = rw (lt-leb d ceiling h)
 
-  pub within_says : (e : ℕ) → capped ceiling d ≡ Within e → (d ≤ ceiling) × (e ≡ d)
+  pub within_says : (e : ℕ) → capped ceiling d ≡ Some e → (d ≤ ceiling) × (e ≡ d)
   unfolding capped
   within_says e = go (leb d ceiling) refl
     where
-      go : (t : Bool) → leb d ceiling ≡ t → cond t (Within d) Over ≡ Within e → (d ≤ ceiling) × (e ≡ d)
+      go : (t : Bool) → leb d ceiling ≡ t → cond t (Some d) None ≡ Some e → (d ≤ ceiling) × (e ≡ d)
       go true q h = (leb-true d ceiling q, (let z : e ≡ d = cc in z))
       go false q h = let z : ◌≡◌ {A = ℕ} 0 1 = cc in absurd (omega arith)
 
-  pub over_says : capped ceiling d ≡ Over → ceiling < d
+  pub over_says : capped ceiling d ≡ None → ceiling < d
   unfolding capped
   over_says = go (leb d ceiling) refl
     where
-      go : (t : Bool) → leb d ceiling ≡ t → cond t (Within d) Over ≡ Over → ceiling < d
+      go : (t : Bool) → leb d ceiling ≡ t → cond t (Some d) None ≡ None → ceiling < d
       go true q h = let z : ◌≡◌ {A = ℕ} 0 1 = cc in absurd (omega arith)
       go false q h = leb-false d ceiling q
 

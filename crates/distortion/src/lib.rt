@@ -8,13 +8,6 @@ ghost use Rattle.distortion.specs.Blocks.{block_at, distortion_by, capped, rows_
 
 use frame::Setting;
 
-// The distortion of two blocks where it is at most the ceiling, else only that it is over.
-#[derive(Clone, Copy)]
-pub enum Capped {
-    Within(u32),
-    Over,
-}
-
 // Four rows of n pels, the first at places a and b: the newer ones begin `across` pels apart, the older ones `width` pels. p and q are the places of
 // the pel at row i and column j.
 pub fn four_rows(
@@ -154,14 +147,14 @@ pub fn distortion_from(
     rows_by_halves(there, here, measures::SQUARES, width, ceiling)
 }
 
-// What a sum as far as a ceiling goes tells of the distortion.
-pub fn cap(sum: u32, ceiling: u32) -> Capped
+// What a sum as far as a ceiling goes tells of the distortion: what it is where it is at most the ceiling, else only that it is over.
+pub fn cap(sum: u32, ceiling: u32) -> Option<u32>
     ensures { result ≡ capped ceiling sum }
 {
     if sum > ceiling {
-        return Capped::Over;
+        return None;
     }
-    Capped::Within(sum)
+    Some(sum)
 }
 
 // The distortion of the newer block at row y, column x against the older block at row r, column c, as far as the ceiling goes.
@@ -194,7 +187,7 @@ pub fn block_up_to(
     r: usize,
     c: usize,
     ceiling: u32,
-) -> Capped
+) -> Option<u32>
     requires { Comparable older.now newer.now s y x r c }
     ensures { result ≡ capped ceiling (distortion_by (measure_of s.measure) s.n (block_at newer.now s.width y x) (block_at older.now s.width r c)) }
 {

@@ -5,8 +5,8 @@
 --   Candidate, candidate    a candidate, as a relation and as a test
 --   older_at                 where the older block of a candidate stands; part_at: the same of a row or a column alone
 -- The block stands at any row y and column x, on the grid or off it.
-use Rattle.std.specs.Prelude.{ℕ, ◌+◌, ◌-◌, ◌≤◌, ◌<◌, Bool, ◌&&◌, ℤ, pos, negsuc, nat_abs, ◌+ℤ◌, ◌≤ℤ◌}
-use Rattle.std.proofs.Math.Path.{◌≡◌, refl}
+use Rattle.std.specs.Prelude.{ℕ, ◌+◌, ◌-◌, ◌≤◌, ◌<◌, Bool, ◌&&◌, ℤ, pos, negsuc, nat_abs, ◌+ℤ◌, ◌≤ℤ◌, Option, Some, None, is_some, unwrap_or}
+use Rattle.std.proofs.Math.Path.{◌≡◌, refl, ap, sym}
 use Rattle.std.proofs.Math.Bool.{true, false, cond}
 use Rattle.std.proofs.Math.Nat.{le_trans}
 use Rattle.std.proofs.Common.{arith}
@@ -18,10 +18,6 @@ use Rattle.signed.specs.Int.{up, dn, added}
 use Rattle.order.specs.declared.Vector.{Vector}
 use Rattle.order.specs.Vectors.{vec, Within, in_window, within_yes, within_true}
 use Rattle.frame.specs.declared.Setting.{Setting}
-use Rattle.frame.specs.declared.Older.{Older}
-use Rattle.frame.specs.declared.Older.TheVariants.{At as Older-as-At, Outside as Older-as-Outside}
-use Rattle.signed.specs.declared.Shifted.{Shifted}
-use Rattle.signed.specs.declared.Shifted.TheVariants.{At, Outside}
 use Rattle.signed.specs.Values.{at_place, shifted_by}
 
 abbrev pub older_row : ℕ → Vector → ℕ
@@ -51,8 +47,8 @@ block_inside s r c = inside r s.n s.height && inside c s.n s.width
 unfoldable pub candidate : Setting → ℕ → ℕ → ℕ → Vector → Bool
 candidate s w y x v = in_window w v && block_inside s (pos y +ℤ v.dy) (pos x +ℤ v.dx)
 
-unfoldable pub older_at : Setting → ℕ → ℕ → ℕ → Vector → Older
-older_at s w y x v = cond (candidate s w y x v) (Older-as-At (older_row y v) (older_column x v)) Older-as-Outside
+unfoldable pub older_at : Setting → ℕ → ℕ → ℕ → Vector → Option (ℕ × ℕ)
+older_at s w y x v = cond (candidate s w y x v) (Some (older_row y v, older_column x v)) None
 
 -- ---- the relation and the test say the same
 
@@ -146,13 +142,13 @@ still_candidate s w y x hy hx =
 -- ---- a row or a column alone
 
 -- at + d, where d lies in -w..w and n pels from there on lie in a side of so many
-unfoldable pub part_at : ℕ → ℤ → ℕ → ℕ → ℕ → Shifted
-part_at at d w n side = cond (leb (nat_abs d) w && inside (pos at +ℤ d) n side) (At (up (pos at +ℤ d))) Outside
+unfoldable pub part_at : ℕ → ℤ → ℕ → ℕ → ℕ → Option ℕ
+part_at at d w n side = cond (leb (nat_abs d) w && inside (pos at +ℤ d) n side) (Some (up (pos at +ℤ d))) None
 
-abbrev pub joined : Shifted → Shifted → Older
-joined (At r) (At c) = Older-as-At r c
-joined (At r) Outside = Older-as-Outside
-joined Outside c = Older-as-Outside
+abbrev pub joined : Option ℕ → Option ℕ → Option (ℕ × ℕ)
+joined (Some r) (Some c) = Some (r, c)
+joined (Some r) None = None
+joined None c = None
 
 -- a candidate is one by its row and by its column
 pub older_parts : (s : Setting) (w y x : ℕ) (v : Vector) → older_at s w y x v
@@ -161,8 +157,8 @@ unfolding older_at candidate part_at
 older_parts s w y x v =
     go (leb (nat_abs v.dy) w) (leb (nat_abs v.dx) w) (inside (pos y +ℤ v.dy) s.n s.height) (inside (pos x +ℤ v.dx) s.n s.width)
   where
-    go : (a b c d : Bool) → cond ((a && b) && (c && d)) (Older-as-At (older_row y v) (older_column x v)) Older-as-Outside
-        ≡ joined (cond (a && c) (At (older_row y v)) Outside) (cond (b && d) (At (older_column x v)) Outside)
+    go : (a b c d : Bool) → cond {A = Option (ℕ × ℕ)} ((a && b) && (c && d)) (Some (older_row y v, older_column x v)) None
+        ≡ joined (cond (a && c) (Some (older_row y v)) None) (cond (b && d) (Some (older_column x v)) None)
     go false b c d = refl
     go true false true d = refl
     go true false false d = refl
@@ -171,15 +167,15 @@ older_parts s w y x v =
     go true true true true = refl
 
 module _ (at : ℕ) (d : ℤ) (w n side : ℕ) where
-  pub part_far : leb (nat_abs d) w ≡ false → part_at at d w n side ≡ Outside
+  pub part_far : leb (nat_abs d) w ≡ false → part_at at d w n side ≡ None
   unfolding part_at
   part_far e = rw e refl
 
-  pub part_wide : leb (nat_abs d) w ≡ true → side < n → part_at at d w n side ≡ Outside
+  pub part_wide : leb (nat_abs d) w ≡ true → side < n → part_at at d w n side ≡ None
   unfolding part_at
   part_wide e h = rw e (none (pos at +ℤ d))
     where
-      none : (z : ℤ) → cond (inside z n side) (At (up z)) Outside ≡ Outside
+      none : (z : ℤ) → cond (inside z n side) (Some (up z)) None ≡ None
       none (pos a) = rw (lt-leb (a + n) side (omega arith)) refl
       none (negsuc a) = refl
 
@@ -192,25 +188,33 @@ module _ (at : ℕ) (d : ℤ) (w n side : ℕ) where
           iff_test (leb (a + n) side) (leb a (side - n)) (λ t. le→leb a (side - n) (omega (arith, leb→le (a + n) side t)))
           (λ t. le→leb (a + n) side (omega (arith, leb→le a (side - n) t)))
 
-      same : (z : ℤ) → cond (inside z n side) (At (up z)) Outside ≡ at_place z (side - n)
+      same : (z : ℤ) → cond (inside z n side) (Some (up z)) None ≡ at_place z (side - n)
       same (pos a) = rw (fits a) refl
       same (negsuc a) = refl
 
 -- ---- what an answer says
 
 module _ (s : Setting) (w y x : ℕ) (v : Vector) where
-  pub older_is : (r c : ℕ) → older_at s w y x v ≡ Older-as-At r c → T (candidate s w y x v) × (r ≡ older_row y v) × (c ≡ older_column x v)
+  pub older_is : (r c : ℕ) → older_at s w y x v ≡ Some (r, c) → T (candidate s w y x v) × (r ≡ older_row y v) × (c ≡ older_column x v)
   unfolding older_at
   older_is r c = go (candidate s w y x v)
     where
-      go : (b : Bool) → cond b (Older-as-At (older_row y v) (older_column x v)) Older-as-Outside ≡ Older-as-At r c → T b × (r ≡ older_row y v) × (c ≡ older_column x v)
-      go true e = (tt, (let q : r ≡ older_row y v = cc in q), (let q : c ≡ older_column x v = cc in q))
+      go : (b : Bool) → cond {A = Option (ℕ × ℕ)} b (Some (older_row y v, older_column x v)) None ≡ Some (r, c) → T b × (r ≡ older_row y v) × (c ≡ older_column x v)
+      go true e = (tt, sym (ap (λ o. (unwrap_or {T = ℕ × ℕ} o (0, 0)).0) e), sym (ap (λ o. (unwrap_or {T = ℕ × ℕ} o (0, 0)).1) e))
       go false e = let z : ◌≡◌ {A = ℕ} 0 1 = cc in absurd (omega arith)
 
-  pub older_no : older_at s w y x v ≡ Older-as-Outside → candidate s w y x v ≡ false
+  pub older_no : older_at s w y x v ≡ None → candidate s w y x v ≡ false
   unfolding older_at
   older_no = go (candidate s w y x v)
     where
-      go : (b : Bool) → cond b (Older-as-At (older_row y v) (older_column x v)) Older-as-Outside ≡ Older-as-Outside → b ≡ false
+      go : (b : Bool) → cond {A = Option (ℕ × ℕ)} b (Some (older_row y v, older_column x v)) None ≡ None → b ≡ false
       go true e = let z : ◌≡◌ {A = ℕ} 0 1 = cc in absurd (omega arith)
       go false e = refl
+
+  pub older_some : is_some (older_at s w y x v) ≡ candidate s w y x v
+  unfolding older_at
+  older_some = go (candidate s w y x v)
+    where
+      go : (b : Bool) → is_some (cond {A = Option (ℕ × ℕ)} b (Some (older_row y v, older_column x v)) None) ≡ b
+      go true = refl
+      go false = refl

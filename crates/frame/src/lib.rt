@@ -8,8 +8,6 @@ ghost use Rattle.frame.specs.Pictures.{setting, largest_distortion, Fitting};
 ghost use Rattle.frame.specs.Grid.{blocks, block_row, block_column};
 ghost use Rattle.frame.specs.Candidates.{candidate, older_at, part_at};
 
-use signed::Shifted;
-
 // The largest N.
 pub const LARGEST_N: usize = 32;
 
@@ -92,46 +90,31 @@ pub fn block_column(s: Setting, k: usize) -> usize
 
 // ---- candidates
 
-// Where the older block of a vector stands: its row and column, where the vector is a candidate.
-#[derive(Clone, Copy)]
-pub enum Older {
-    At(usize, usize),
-    Outside,
-}
-
 // at + d, where d lies in -w ..= w and n pels from there on lie in a side of so many.
-fn part_at(at: usize, d: i32, w: usize, n: usize, side: usize) -> Shifted
+fn part_at(at: usize, d: i32, w: usize, n: usize, side: usize) -> Option<usize>
     ensures { result ≡ part_at at d w n side }
 {
     if !signed::within(d, w) {
-        return Shifted::Outside;
+        return None;
     }
     if side < n {
-        return Shifted::Outside;
+        return None;
     }
     signed::shift(at, d, side - n)
 }
 
-// The older block that (dy, dx) compares with the newer block at row y, column x, where (dy, dx) is a candidate for window w.
-pub fn older_at(s: Setting, w: usize, y: usize, x: usize, dy: i32, dx: i32) -> Older
+// Row and column of the older block that (dy, dx) compares with the newer block at row y, column x, where (dy, dx) is a candidate for window w.
+pub fn older_at(s: Setting, w: usize, y: usize, x: usize, dy: i32, dx: i32) -> Option<(usize, usize)>
     ensures { result ≡ older_at s w y x (vec dy dx) }
 {
-    let Shifted::At(row) = part_at(y, dy, w, s.n, s.height) else {
-        return Older::Outside;
-    };
-    let Shifted::At(column) = part_at(x, dx, w, s.n, s.width) else {
-        return Older::Outside;
-    };
-    Older::At(row, column)
+    let row = part_at(y, dy, w, s.n, s.height)?;
+    let column = part_at(x, dx, w, s.n, s.width)?;
+    Some((row, column))
 }
 
 // (dy, dx) is a candidate for window w of the block at row y, column x.
 pub fn is_candidate(s: Setting, w: usize, y: usize, x: usize, dy: i32, dx: i32) -> bool
     ensures { result ≡ candidate s w y x (vec dy dx) }
 {
-    let at = older_at(s, w, y, x, dy, dx);
-    match at {
-        Older::At(_, _) => true,
-        Older::Outside => false,
-    }
+    older_at(s, w, y, x, dy, dx).is_some()
 }

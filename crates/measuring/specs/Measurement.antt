@@ -5,10 +5,8 @@
 --   FirstPassing   the same as a relation, without a computation: `rows-first` of proofs/Passing.antt
 --   with_rows       the rows that come with either
 --   measurement    the answer for two N × N blocks by a measure
-use Rattle.std.specs.Prelude.{ℕ, zero, suc, ◌≤◌, ◌<◌, cond, leb}
+use Rattle.std.specs.Prelude.{ℕ, zero, suc, ◌≤◌, ◌<◌, cond, leb, Option, Some, None}
 use Rattle.measures.specs.Measures.{Measure}
-use Rattle.distortion.specs.declared.Capped.{Capped}
-use Rattle.distortion.specs.declared.Capped.TheVariants as Capped-as
 use Rattle.distortion.specs.Blocks.{Block, distortion_by, partial_by, capped}
 use Rattle.measuring.specs.declared.Measurement.{Measurement}
 use Rattle.measuring.specs.declared.Measurement.TheVariants.{Within, Over}
@@ -24,9 +22,9 @@ pub record FirstPassing (ceiling : ℕ) (sum : ℕ → ℕ) (n r : ℕ) : Type 0
   pub before : (m : ℕ) → m < r → sum m ≤ ceiling
   pub passes : r < n → ceiling < sum r
 
-unfoldable pub with_rows : ℕ → Capped → Measurement
-with_rows rows (Capped-as.Within d) = Within d rows
-with_rows rows Capped-as.Over = Over rows
+unfoldable pub with_rows : ℕ → Option ℕ → Measurement
+with_rows rows (Some d) = Within d rows
+with_rows rows None = Over rows
 
 unfoldable pub measurement : Measure → ℕ → ℕ → Block → Block → Measurement
 measurement μ ceiling n a b = with_rows (rows_measured ceiling (partial_by μ n a b) n) (capped ceiling (distortion_by μ n a b))

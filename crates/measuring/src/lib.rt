@@ -10,8 +10,7 @@ ghost use Rattle.distortion.specs.Blocks.{block_at, row_from, rows_from, BlockRo
 ghost use Rattle.measuring.specs.Measurement.{rows_measured, measurement};
 ghost use Rattle.measuring.specs.Measured.{answer_of, measure_vector, refused_by};
 
-use distortion::Capped;
-use frame::{Older, Setting};
+use frame::Setting;
 
 // The distortion and the rows measured where it is at most the ceiling, else that it is over, and the rows.
 #[derive(Clone, Copy)]
@@ -82,7 +81,7 @@ fn measure_block(
     requires { Comparable older.now newer.now s y x r c }
     ensures { result ≡ measurement (measure_of s.measure) ceiling s.n (block_at newer.now s.width y x) (block_at older.now s.width r c) }
 {
-    let Capped::Within(d) = distortion::block_up_to(older, newer, s, y, x, r, c, ceiling) else {
+    let Some(d) = distortion::block_up_to(older, newer, s, y, x, r, c, ceiling) else {
         let width = s.width;
         let rows = rows_measured(older, newer, s, y * width + x, r * width + c, ceiling);
         return Measurement::Over(rows as u32);
@@ -145,7 +144,7 @@ pub fn measure(
     if !refusals::place_ok(s, y, x) {
         return refused(7);
     }
-    let Older::At(r, c) = frame::older_at(s, 16, y, x, dy, dx) else {
+    let Some((r, c)) = frame::older_at(s, 16, y, x, dy, dx) else {
         return refused(8);
     };
     answer_of(measure_block(older, newer, s, y, x, r, c, ceiling))

@@ -13,7 +13,7 @@ use lib.IntN.{ℤ, pos, negsuc, neg_ℤ, nat_abs, ◌+ℤ◌, ◌*ℤ◌, pos-*�
 use lib.ListN.{length, get_or, drop, drop_of_length-le}
 use lib.Seq.{drop-cons}
 use Rattle.base.specs.Tests.{and_left, and_right, true_T}
-use Rattle.signed.specs.declared.Shifted.TheVariants.{At, Outside}
+use Rattle.std.specs.Prelude.{Some, None}
 use Rattle.signed.specs.Int.{up, dn, parts, eq_z, eq_z_is}
 use Rattle.signed.specs.Values.{bias, unbias, bias_unbias, unbias_is, shifted_by, point_is, point_out}
 use Rattle.order.specs.declared.Vector.{Vector}
@@ -132,16 +132,16 @@ part_same y a =
     (λ q. omega (arith, unbias_is 16 y, unbias_is 16 a)) (λ q. omega (arith, unbias_is 16 y, unbias_is 16 a)))
 
 module _ (c : ℕ) (d : ℤ) (h : c ≤ 32) where
-  pub moved_at : (y : ℕ) → shifted_by c d 32 ≡ At y → unbias 16 y ≡ unbias 16 c +ℤ d
+  pub moved_at : (y : ℕ) → shifted_by c d 32 ≡ Some y → unbias 16 y ≡ unbias 16 c +ℤ d
   moved_at y e = let k = at_bias c h in point_is 16 (unbias 16 c) d k.0 y (ap (λ n. shifted_by n d 32) k.1 ∙ e)
 
-  pub moved_out : shifted_by c d 32 ≡ Outside → 16 < nat_abs (unbias 16 c +ℤ d)
+  pub moved_out : shifted_by c d 32 ≡ None → 16 < nat_abs (unbias 16 c +ℤ d)
   moved_out e = let k = at_bias c h in point_out 16 (unbias 16 c) d k.0 (ap (λ n. shifted_by n d 32) k.1 ∙ e)
 
-  pub from_at : (y a : ℕ) → shifted_by c d 32 ≡ At a → eqb y a ≡ eq_z (unbias 16 y) (unbias 16 c +ℤ d)
+  pub from_at : (y a : ℕ) → shifted_by c d 32 ≡ Some a → eqb y a ≡ eq_z (unbias 16 y) (unbias 16 c +ℤ d)
   from_at y a e = rw (← (moved_at a e)) (part_same y a)
 
-  pub from_out : (y : ℕ) → y ≤ 32 → shifted_by c d 32 ≡ Outside → false ≡ eq_z (unbias 16 y) (unbias 16 c +ℤ d)
+  pub from_out : (y : ℕ) → y ≤ 32 → shifted_by c d 32 ≡ None → false ≡ eq_z (unbias 16 y) (unbias 16 c +ℤ d)
   from_out y l e =
       rw (eq_z_is (unbias 16 y) (unbias 16 c +ℤ d))
       (sym (ne_eqb (up (unbias 16 y) + dn (unbias 16 c +ℤ d)) (up (unbias 16 c +ℤ d) + dn (unbias 16 y))

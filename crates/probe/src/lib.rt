@@ -12,7 +12,6 @@ ghost use Rattle.probe.specs.BestSoFar.{point, seen_of, one_more, pairs, probe_n
 
 use frame::SearchBlock;
 use search::{MeasuredCandidate, SearchResult};
-use signed::Shifted;
 
 // The best vector seen by now, its parts kept as dy + 16 and dx + 16, with its distortion and the number measured.
 #[derive(Clone, Copy)]
@@ -102,7 +101,7 @@ fn is_from(y: usize, c: usize, d: i32) -> bool
     requires { (y ≤ 32) × (c ≤ 32) }
     ensures { result ≡ eq_z (unbias 16 y) (unbias 16 c +ℤ d) }
 {
-    let Shifted::At(a) = signed::shift(c, d, 32) else {
+    let Some(a) = signed::shift(c, d, 32) else {
         return false;
     };
     y == a
@@ -152,10 +151,10 @@ fn probe_new(
     ensures { Holds result (probe_new (target_of older.now newer.now b) (around (point oy ox) (pairs before.now)) (seen_of s)
         (plus (point cy cx) (vec dy dx))) (s.count + 1) }
 {
-    let Shifted::At(y) = signed::shift(cy, dy, 32) else {
+    let Some(y) = signed::shift(cy, dy, 32) else {
         return s;
     };
-    let Shifted::At(x) = signed::shift(cx, dx, 32) else {
+    let Some(x) = signed::shift(cx, dx, 32) else {
         return s;
     };
     if is_in(y, x, oy, ox, before) {

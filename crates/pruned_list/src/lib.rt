@@ -12,7 +12,6 @@ ghost use Rattle.reach.specs.Keys.{order_code, code_of};
 ghost use Rattle.pruned_rule.specs.Spots.{spots, vector_on};
 ghost use Rattle.pruned_list.specs.Listed.{keys_of, spot_of, renewed, nearest_key, KeptWithin, SpotIn, SpotsIn, distortion_to, measured_key, least_measured};
 
-use distortion::Capped;
 use frame::{Region, SearchBlock};
 
 // The keys of one row with distance 0, from place `at` on.
@@ -105,7 +104,7 @@ pub fn keep_within(keys: &mut [u64], count: usize, limit: u64) -> usize
 // ---- measuring
 
 // The distortion of the candidate on a spot, as far as the ceiling goes.
-fn measured(older: &[u8], newer: &[u8], b: SearchBlock, spot: usize, ceiling: u32) -> Capped
+fn measured(older: &[u8], newer: &[u8], b: SearchBlock, spot: usize, ceiling: u32) -> Option<u32>
     requires { Ready older.now newer.now b × SpotIn b spot }
     ensures { result ≡ capped ceiling (distortion_to older.now newer.now b (vector_on spot)) }
 {
@@ -119,7 +118,7 @@ pub fn lowered(older: &[u8], newer: &[u8], b: SearchBlock, spot: usize, e: u32) 
     requires { Ready older.now newer.now b × SpotIn b spot }
     ensures { result ≡ min e (distortion_to older.now newer.now b (vector_on spot)) }
 {
-    let Capped::Within(d) = measured(older, newer, b, spot, e) else {
+    let Some(d) = measured(older, newer, b, spot, e) else {
         return e;
     };
     d
@@ -131,7 +130,7 @@ fn lesser_measured(older: &[u8], newer: &[u8], b: SearchBlock, key: u64, best: u
     ensures { result ≡ min best (measured_key (distortion_to older.now newer.now b) key) }
 {
     let ceiling = (best / 262144) as u32;
-    let Capped::Within(d) = measured(older, newer, b, spot_of(key), ceiling) else {
+    let Some(d) = measured(older, newer, b, spot_of(key), ceiling) else {
         return best;
     };
     let k = renewed(key, d as u64);

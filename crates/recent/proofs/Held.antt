@@ -20,7 +20,7 @@ use lib.Seq.{take-suc, take_all, take-suc-set, length-take-le, drop-cons, drop-a
 use Rattle.base.specs.Tests.{and_left, and_right, and_both, T_true, true_T, T_false, iff_test, all_below, check_below, all-below}
 use Rattle.base.specs.Sum.{sum_to, sum_to_bound, sum_to_term, sum_each, sum_each_none, sum_each_more}
 use Rattle.base.specs.Lists.{list_to, length_list_to, get_d_list_to, fill_to, fill_zero}
-use Rattle.signed.specs.declared.Shifted.TheVariants.{At, Outside}
+use Rattle.std.specs.Prelude.{Some, None}
 use Rattle.signed.specs.Int.{up, dn, same, eq_z, eq_z_self, eq_yes, parts, added, less}
 use Rattle.signed.specs.Values.{shifted_by, shifted_is, shifted_no, bias_is}
 use Rattle.recent.specs.declared.Recent.{Recent}
@@ -101,7 +101,7 @@ module _ (places : List ℤ) (long : length places ≡ most_held) where
 
   -- the test holds where the totals are one
   module _ (held : ℕ) (sum : ℤ) (few : held ≤ most_held) where
-    pub sum_out : shifted_by (16 * held) sum (32 * most_held) ≡ Outside → parts_ok places held sum ≡ false
+    pub sum_out : shifted_by (16 * held) sum (32 * most_held) ≡ None → parts_ok places held sum ≡ false
     sum_out e =
         T_false _ (λ t.
         let k = kept_yes places held sum t in
@@ -109,7 +109,7 @@ module _ (places : List ℤ) (long : length places ≡ most_held) where
         ⊎_elim (λ l. omega (arith, c, ap up k.sum_is, ap dn k.sum_is)) (λ l. omega (arith, c, ap up k.sum_is, ap dn k.sum_is))
         (shifted_no (16 * held) sum (32 * most_held) e))
 
-    pub sum_at : (t : ℕ) → shifted_by (16 * held) sum (32 * most_held) ≡ At t → eqb t (counted_to places held) ≡ parts_ok places held sum
+    pub sum_at : (t : ℕ) → shifted_by (16 * held) sum (32 * most_held) ≡ Some t → eqb t (counted_to places held) ≡ parts_ok places held sum
     sum_at t e =
         let i = shifted_is (16 * held) sum (32 * most_held) t e in
         iff_test (eqb t (counted_to places held)) (parts_ok places held sum)

@@ -7,8 +7,6 @@ ghost use Rattle.order.specs.Vectors.{vec, Within};
 ghost use Rattle.recent.specs.Recent.{most_held, no_travels, sum_held, parts_ok, places_more, recent_ok, held_more, recent_more};
 ghost use Rattle.recent.specs.Counting.{counted};
 
-use signed::Shifted;
-
 // How many travels a track holds at most.
 pub const MOST: usize = 64;
 
@@ -60,7 +58,7 @@ fn parts_ok(places: &[i32; MOST], held: usize, sum: i32) -> bool
         total += counted(z);
         k += 1;
     }
-    let Shifted::At(t) = signed::shift(16 * held, sum, 32 * MOST) else {
+    let Some(t) = signed::shift(16 * held, sum, 32 * MOST) else {
         return false;
     };
     t == total as usize

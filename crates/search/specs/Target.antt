@@ -3,7 +3,7 @@
 --   Past               a row or a column of a candidate's older block, at or behind some other
 --   Target             the block as a search sees it: `target`
 --   measure_candidate   the distortion of a vector under a ceiling, where it is a candidate; of_candidate: where it is one
-use Rattle.std.specs.Prelude.{ℕ, ◌+◌, ◌≤◌, ◌<◌, List, Bool, T, ℤ, pos, nat_abs, ◌+ℤ◌, length}
+use Rattle.std.specs.Prelude.{ℕ, ◌+◌, ◌≤◌, ◌<◌, List, Bool, T, ℤ, pos, nat_abs, ◌+ℤ◌, length, Option, Some, None}
 use Rattle.std.proofs.Math.Path.{◌≡◌, refl}
 use Rattle.std.proofs.Math.Bool.{true, false, cond}
 use Rattle.std.proofs.Common.{add-zero, arith}
@@ -15,8 +15,6 @@ use Rattle.order.specs.Vectors.{vec}
 use Rattle.frame.specs.Pictures.{Pair, pair_of}
 use Rattle.frame.specs.Candidates.{candidate, candidate_older}
 use Rattle.refusals.specs.Refusals.{Placed}
-use Rattle.distortion.specs.declared.Capped.{Capped}
-use Rattle.distortion.specs.declared.Capped.TheVariants.{Within, Over}
 use Rattle.distortion.specs.Blocks.{block_at, newer_block, measure_in, distortion_by, capped, distortion}
 use Rattle.frame.specs.declared.SearchBlock.{SearchBlock}
 use Rattle.search.specs.declared.MeasuredCandidate.{MeasuredCandidate}
@@ -44,9 +42,9 @@ target p w y x = record { candidate = candidate p.setting w y x; cost = distorti
 abbrev pub target_of : List ℕ → List ℕ → SearchBlock → Target
 target_of older newer b = target (pair_of older newer b.setting) b.w b.y b.x
 
-unfoldable pub of_candidate : Capped → MeasuredCandidate
-of_candidate (Within d) = Distortion d
-of_candidate Over = OverCeiling
+unfoldable pub of_candidate : Option ℕ → MeasuredCandidate
+of_candidate (Some d) = Distortion d
+of_candidate None = OverCeiling
 
 unfoldable pub measure_candidate : Target → ℕ → Vector → MeasuredCandidate
 measure_candidate t ceiling v = cond (t.candidate v) (of_candidate (capped ceiling (t.cost v))) NotCandidate
@@ -57,7 +55,7 @@ module _ (t : Target) (ceiling : ℕ) (v : Vector) where
   unfolding measure_candidate of_candidate capped
   measure_candidate_none = go (t.candidate v) (leb (t.cost v) ceiling)
     where
-      go : (c l : Bool) → cond c (of_candidate (cond l (Within (t.cost v)) Over)) NotCandidate ≡ NotCandidate → c ≡ false
+      go : (c l : Bool) → cond c (of_candidate (cond l (Some (t.cost v)) None)) NotCandidate ≡ NotCandidate → c ≡ false
       go true true e = let z : ◌≡◌ {A = ℕ} 0 1 = cc in absurd (omega arith)
       go true false e = let z : ◌≡◌ {A = ℕ} 0 1 = cc in absurd (omega arith)
       go false l e = refl
@@ -66,7 +64,7 @@ module _ (t : Target) (ceiling : ℕ) (v : Vector) where
   unfolding measure_candidate of_candidate capped
   measure_candidate_some d = go (t.candidate v) (leb (t.cost v) ceiling)
     where
-      go : (c l : Bool) → cond c (of_candidate (cond l (Within (t.cost v)) Over)) NotCandidate ≡ Distortion d → (c ≡ true) × (d ≡ t.cost v)
+      go : (c l : Bool) → cond c (of_candidate (cond l (Some (t.cost v)) None)) NotCandidate ≡ Distortion d → (c ≡ true) × (d ≡ t.cost v)
       go true true e = (refl, (let q : d ≡ t.cost v = cc in q))
       go true false e = let z : ◌≡◌ {A = ℕ} 0 1 = cc in absurd (omega arith)
       go false l e = let z : ◌≡◌ {A = ℕ} 0 1 = cc in absurd (omega arith)
@@ -75,7 +73,7 @@ module _ (t : Target) (ceiling : ℕ) (v : Vector) where
   unfolding measure_candidate of_candidate capped
   measure_candidate_over = go (t.candidate v) (leb (t.cost v) ceiling) refl
     where
-      go : (c l : Bool) → leb (t.cost v) ceiling ≡ l → cond c (of_candidate (cond l (Within (t.cost v)) Over)) NotCandidate ≡ OverCeiling
+      go : (c l : Bool) → leb (t.cost v) ceiling ≡ l → cond c (of_candidate (cond l (Some (t.cost v)) None)) NotCandidate ≡ OverCeiling
           → (c ≡ true) × (ceiling < t.cost v)
       go true true q e = let z : ◌≡◌ {A = ℕ} 0 1 = cc in absurd (omega arith)
       go true false q e = (refl, leb-false (t.cost v) ceiling q)

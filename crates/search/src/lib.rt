@@ -8,8 +8,7 @@ ghost use Rattle.order.specs.Vectors.{vec};
 ghost use Rattle.search.specs.SearchResult.{only_at_one};
 ghost use Rattle.search.specs.Target.{Ready, Past, target_of, measure_candidate};
 
-use distortion::Capped;
-use frame::{Older, SearchBlock};
+use frame::SearchBlock;
 
 // What a search answers: a vector, its distortion, six counts for m = 32, 16, 8, 4, 2, 1, and the number dropped.
 #[repr(C)]
@@ -63,10 +62,10 @@ pub fn measure_candidate(
     let s = b.setting;
     let y = b.y;
     let x = b.x;
-    let Older::At(r, c) = frame::older_at(s, b.w, y, x, dy, dx) else {
+    let Some((r, c)) = frame::older_at(s, b.w, y, x, dy, dx) else {
         return MeasuredCandidate::NotCandidate;
     };
-    let Capped::Within(d) = distortion::block_up_to(older, newer, s, y, x, r, c, ceiling) else {
+    let Some(d) = distortion::block_up_to(older, newer, s, y, x, r, c, ceiling) else {
         return MeasuredCandidate::OverCeiling;
     };
     MeasuredCandidate::Distortion(d)

@@ -5,15 +5,11 @@
 --   bias        d + b as a natural number, and back: unbias
 --   doubled     d + d
 --   signed_byte  the number whose two's complement is a byte, and back: byte_of
-use Rattle.std.specs.Prelude.{ℕ, suc, ◌+◌, ◌-◌, ◌≤◌, ◌<◌, ◌≡◌, refl, Bool, true, false, cond, ◌⊎◌, ℤ, pos, negsuc, nat_abs, ◌+ℤ◌, ◌-ℤ◌, leb, ltb}
+use Rattle.std.specs.Prelude.{ℕ, suc, ◌+◌, ◌-◌, ◌≤◌, ◌<◌, ◌≡◌, refl, Bool, true, false, cond, ◌⊎◌, ℤ, pos, negsuc, nat_abs, ◌+ℤ◌, ◌-ℤ◌, leb, ltb, Option, Some, None}
 use Rattle.std.proofs.Common.{ap, ◌∙◌, arith, le-leb, leb-true, leb-false, lt-ltb, le-ltb}
 use Rattle.std.proofs.Math.Logic.{inl, inr, ⊎_elim}
 use Rattle.std.proofs.Math.Decide.{dec_lt}
 use Rattle.std.proofs.lemmas.Bool.{lt-leb}
-use Rattle.signed.specs.declared.Shifted.{Shifted}
-use Rattle.signed.specs.declared.Shifted.TheVariants.{At, Outside}
-use Rattle.signed.specs.declared.Moved.{Moved}
-use Rattle.signed.specs.declared.Moved.TheVariants.{To, Out}
 use Rattle.signed.specs.Int.{up, dn, same, sum, added, less}
 
 -- |a - b|: one of the two differences is 0
@@ -24,26 +20,26 @@ pub abs_diff_is : (a b : ℕ) → nat_abs (pos a -ℤ pos b) ≡ abs_diff a b
 abs_diff_is a b = omega (arith, less (pos a) (pos b))
 
 -- z, where it lies in 0 ..= last
-abbrev pub at_place : ℤ → ℕ → Shifted
-at_place (pos n) last = cond (leb n last) (At n) Outside
-at_place (negsuc n) last = Outside
+abbrev pub at_place : ℤ → ℕ → Option ℕ
+at_place (pos n) last = cond (leb n last) (Some n) None
+at_place (negsuc n) last = None
 
-unfoldable pub shifted_by : ℕ → ℤ → ℕ → Shifted
+unfoldable pub shifted_by : ℕ → ℤ → ℕ → Option ℕ
 shifted_by at d last = at_place (pos at +ℤ d) last
 
-at_place_at : (z : ℤ) (last n : ℕ) → up z ≡ n + dn z → n ≤ last → at_place z last ≡ At n
-at_place_at (pos m) last n e h = rw (le-leb m last (omega arith)) (ap At (omega arith))
+at_place_at : (z : ℤ) (last n : ℕ) → up z ≡ n + dn z → n ≤ last → at_place z last ≡ Some n
+at_place_at (pos m) last n e h = rw (le-leb m last (omega arith)) (ap Some (omega arith))
 at_place_at (negsuc m) last n e h = absurd (omega arith)
 
-at_place_below : (z : ℤ) (last : ℕ) → up z < dn z → at_place z last ≡ Outside
+at_place_below : (z : ℤ) (last : ℕ) → up z < dn z → at_place z last ≡ None
 at_place_below (pos m) last h = absurd (omega arith)
 at_place_below (negsuc m) last h = refl
 
-at_place_above : (z : ℤ) (last : ℕ) → last + dn z < up z → at_place z last ≡ Outside
+at_place_above : (z : ℤ) (last : ℕ) → last + dn z < up z → at_place z last ≡ None
 at_place_above (pos m) last h = rw (lt-leb m last (omega arith)) refl
 at_place_above (negsuc m) last h = refl
 
-at_place_is : (z : ℤ) (last n : ℕ) → at_place z last ≡ At n → (up z ≡ n + dn z) × (n ≤ last)
+at_place_is : (z : ℤ) (last n : ℕ) → at_place z last ≡ Some n → (up z ≡ n + dn z) × (n ≤ last)
 at_place_is (pos m) last n e = go (leb m last) refl
   where
     go : (t : Bool) → leb m last ≡ t → (m ≡ n + 0) × (n ≤ last)
@@ -51,7 +47,7 @@ at_place_is (pos m) last n e = go (leb m last) refl
     go false q = let z : ◌≡◌ {A = ℕ} 0 1 = cc in absurd (omega arith)
 at_place_is (negsuc m) last n e = let z : ◌≡◌ {A = ℕ} 0 1 = cc in absurd (omega arith)
 
-at_place_no : (z : ℤ) (last : ℕ) → at_place z last ≡ Outside → (up z < dn z) ⊎ (last + dn z < up z)
+at_place_no : (z : ℤ) (last : ℕ) → at_place z last ≡ None → (up z < dn z) ⊎ (last + dn z < up z)
 at_place_no (pos m) last e = go (leb m last) refl
   where
     go : (t : Bool) → leb m last ≡ t → (m < 0) ⊎ (last + 0 < m)
@@ -61,38 +57,38 @@ at_place_no (negsuc m) last e = inl (omega arith)
 
 module _ (at : ℕ) (d : ℤ) (last : ℕ) where
   -- read back: what each answer says
-  pub shifted_is : (n : ℕ) → shifted_by at d last ≡ At n → (at + up d ≡ n + dn d) × (n ≤ last)
+  pub shifted_is : (n : ℕ) → shifted_by at d last ≡ Some n → (at + up d ≡ n + dn d) × (n ≤ last)
   unfolding shifted_by
   shifted_is n e = omega (arith, at_place_is (pos at +ℤ d) last n e, added (pos at) d)
 
-  pub shifted_no : shifted_by at d last ≡ Outside → (at + up d < dn d) ⊎ (last + dn d < at + up d)
+  pub shifted_no : shifted_by at d last ≡ None → (at + up d < dn d) ⊎ (last + dn d < at + up d)
   unfolding shifted_by
   shifted_no e =
       ⊎_elim (λ h. inl (omega (arith, added (pos at) d))) (λ h. inr (omega (arith, added (pos at) d)))
       (at_place_no (pos at +ℤ d) last e)
 
   -- and what gives it
-  pub shifted_at : (n : ℕ) → at + up d ≡ n + dn d → n ≤ last → shifted_by at d last ≡ At n
+  pub shifted_at : (n : ℕ) → at + up d ≡ n + dn d → n ≤ last → shifted_by at d last ≡ Some n
   unfolding shifted_by
   shifted_at n e h = at_place_at (pos at +ℤ d) last n (omega (arith, added (pos at) d)) h
 
-  pub shifted_below : at + up d < dn d → shifted_by at d last ≡ Outside
+  pub shifted_below : at + up d < dn d → shifted_by at d last ≡ None
   unfolding shifted_by
   shifted_below h = at_place_below (pos at +ℤ d) last (omega (arith, added (pos at) d))
 
-  pub shifted_above : last + dn d < at + up d → shifted_by at d last ≡ Outside
+  pub shifted_above : last + dn d < at + up d → shifted_by at d last ≡ None
   unfolding shifted_by
   shifted_above h = at_place_above (pos at +ℤ d) last (omega (arith, added (pos at) d))
 
 -- the sum, where it is at most 1,000,000 from 0
-unfoldable pub moved_by : ℤ → ℤ → Moved
-moved_by y t = cond (leb (nat_abs (y +ℤ t)) 1000000) (To (y +ℤ t)) Out
+unfoldable pub moved_by : ℤ → ℤ → Option ℤ
+moved_by y t = cond (leb (nat_abs (y +ℤ t)) 1000000) (Some (y +ℤ t)) None
 
-pub moved_to : (y t : ℤ) → nat_abs (y +ℤ t) ≤ 1000000 → moved_by y t ≡ To (y +ℤ t)
+pub moved_to : (y t : ℤ) → nat_abs (y +ℤ t) ≤ 1000000 → moved_by y t ≡ Some (y +ℤ t)
 unfolding moved_by
 moved_to y t h = rw (le-leb (nat_abs (y +ℤ t)) 1000000 h)
 
-pub moved_out : (y t : ℤ) → 1000000 < nat_abs (y +ℤ t) → moved_by y t ≡ Out
+pub moved_out : (y t : ℤ) → 1000000 < nat_abs (y +ℤ t) → moved_by y t ≡ None
 unfolding moved_by
 moved_out y t h = rw (lt-leb (nat_abs (y +ℤ t)) 1000000 h)
 
@@ -152,12 +148,12 @@ unbias_is b u = omega (arith, less (pos u) (pos b))
 
 -- A vector's part d, kept as d + b: one more part e is added by `shift`, with 2 b as the last place.
 module _ (b : ℕ) (d e : ℤ) (h : nat_abs d ≤ b) where
-  pub point_is : (p : ℕ) → shifted_by (bias b d) e (b + b) ≡ At p → unbias b p ≡ d +ℤ e
+  pub point_is : (p : ℕ) → shifted_by (bias b d) e (b + b) ≡ Some p → unbias b p ≡ d +ℤ e
   point_is p q =
       same (unbias b p) (d +ℤ e)
       (omega (arith, shifted_is (bias b d) e (b + b) p q, bias_is b d h, unbias_is b p, sum d e))
 
-  pub point_out : shifted_by (bias b d) e (b + b) ≡ Outside → b < nat_abs (d +ℤ e)
+  pub point_out : shifted_by (bias b d) e (b + b) ≡ None → b < nat_abs (d +ℤ e)
   point_out q =
       ⊎_elim (λ k. omega (arith, bias_is b d h, added d e)) (λ k. omega (arith, bias_is b d h, added d e))
       (shifted_no (bias b d) e (b + b) q)

@@ -69,34 +69,27 @@ pub fn exchanged(sum: i32, more: i32, less: i32) -> i32
     sum + more - less
 }
 
-// A coordinate moved by an offset.
-#[derive(Clone, Copy)]
-pub enum Shifted {
-    At(usize),
-    Outside,
-}
-
 // at + d, where that lies in 0 ..= last.
-pub fn shift(at: usize, d: i32, last: usize) -> Shifted
+pub fn shift(at: usize, d: i32, last: usize) -> Option<usize>
     ensures { result ≡ shifted_by at d last }
 {
     let m = magnitude(d) as usize;
     if d < 0 {
         if at < m {
-            return Shifted::Outside;
+            return None;
         }
         if last < at - m {
-            return Shifted::Outside;
+            return None;
         }
-        return Shifted::At(at - m);
+        return Some(at - m);
     }
     if last < at {
-        return Shifted::Outside;
+        return None;
     }
     if last - at < m {
-        return Shifted::Outside;
+        return None;
     }
-    Shifted::At(at + m)
+    Some(at + m)
 }
 
 // d + 16, as an unsigned number.
@@ -123,25 +116,18 @@ pub fn half_part(d: i32, u: usize) -> i32
     d + d + ((u as i32) - 1)
 }
 
-// A track's place after a travel.
-#[derive(Clone, Copy)]
-pub enum Moved {
-    To(i32),
-    Out,
-}
-
 // y - d, that is y moved by the reverse of d, where that lies in -1,000,000 ..= 1,000,000.
-pub fn minus_travel(y: i32, d: i32) -> Moved
+pub fn minus_travel(y: i32, d: i32) -> Option<i32>
     ensures { result ≡ moved_by y (neg_ℤ d) }
 {
     let s = (y as i64) - (d as i64);
     if s < -1000000 {
-        return Moved::Out;
+        return None;
     }
     if 1000000 < s {
-        return Moved::Out;
+        return None;
     }
-    Moved::To(s as i32)
+    Some(s as i32)
 }
 
 // The number whose two's complement is the byte b.

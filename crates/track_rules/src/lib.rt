@@ -6,7 +6,6 @@ ghost use Rattle.std.specs.Prelude.{◌≡◌};
 ghost use Rattle.track_rules.specs.Rules.{home_refusal, state_refusal, refused_arrival, arrive};
 
 use recent::Recent;
-use signed::Moved;
 
 // The place after a travel, or 52 or 33 and zeros.
 #[derive(Clone, Copy)]
@@ -62,10 +61,10 @@ pub fn arrive(y: i32, x: i32, dy: i32, dx: i32, voters: u32) -> Arrival
     if voters == 0 {
         return refused_arrival(52); // no block votes
     }
-    let Moved::To(row) = signed::minus_travel(y, dy) else {
+    let Some(row) = signed::minus_travel(y, dy) else {
         return refused_arrival(33); // y would leave its range
     };
-    let Moved::To(column) = signed::minus_travel(x, dx) else {
+    let Some(column) = signed::minus_travel(x, dx) else {
         return refused_arrival(33); // x would leave its range
     };
     Arrival {

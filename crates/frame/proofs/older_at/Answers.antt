@@ -1,5 +1,5 @@
 -- `older_at`: a candidate is one by its row and by its column.
-use mathlib.Core.Path.{◌≡◌}
+use mathlib.Core.Path.{◌≡◌, sym, ◌∙◌}
 use mir.Facts.{to_z-of_z}
 use Rattle.frame.specs.Candidates.{part_at, older_parts}
 use Rattle.frame.proofs.older_at.Goals as goal
@@ -14,13 +14,13 @@ across : (c : After-part_at-2) →
     c.part_at-2.result ≡ part_at a.x a.dx a.w a.s.n a.s.width
 across c = rw (to_z-of_z c.ranges.dx) at c.part_at-2.ensures
 
-pub returns-in_default : goal.returns-in_default
-returns-in_default c = rw (older_parts, ← (down (goal.at.returns-in_default c).After-part_at), c.in_default.is)
+pub returns-in_err-row : goal.returns-in_err-row
+returns-in_err-row c = c.from_residual.ensures ∙ sym (rw (older_parts, ← (down (goal.at.returns-in_err-row c).After-part_at), c.in_err-row.was))
 
-pub returns-in_default-part_at : goal.returns-in_default-part_at
-returns-in_default-part_at c =
-    rw (older_parts, ← (down (goal.at.returns-in_default-part_at c).After-part_at), c.in-At.is, ← (across (goal.at.returns-in_default-part_at c).After-part_at-2), c.in_default-part_at.is)
+pub returns-in_err-column : goal.returns-in_err-column
+returns-in_err-column c =
+    c.from_residual-in_err-column.ensures ∙ sym (rw (older_parts, ← (down (goal.at.returns-in_err-column c).After-part_at), c.in_ok-row.was, ← (across (goal.at.returns-in_err-column c).After-part_at-2), c.in_err-column.was))
 
 pub returns : goal.returns
 returns c =
-    rw (older_parts, ← (down (goal.at.returns c).After-part_at), c.in-At.is, ← (across (goal.at.returns c).After-part_at-2), c.in-At-part_at.is)
+    rw (older_parts, ← (down (goal.at.returns c).After-part_at), c.in_ok-row.was, ← (across (goal.at.returns c).After-part_at-2), c.in_ok-column.was)

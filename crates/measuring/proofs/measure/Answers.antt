@@ -12,7 +12,7 @@ use Rattle.frame.specs.Candidates.{candidate, older_at, older_row, older_column,
 use Rattle.refusals.specs.Refusals.{place_ok, pair_refusal, placed}
 use Rattle.measuring.specs.Measured.{measure_at, refused_by, measured_refused, measured_unmeasured, measured_elsewhere, measured_outside, measured_at}
 use Rattle.measuring.proofs.measure.Goals as goal
-use Rattle.measuring.proofs.measure.Goals.{After-older_at, Else-not-measure_ok, Else-not-place_ok, Else-refusal-ne0, In-At}
+use Rattle.measuring.proofs.measure.Goals.{After-older_at, Else-not-measure_ok, Else-not-place_ok, Else-refusal-ne0, In-Some}
 
 -- 1 2 3 do not apply,
 pair-zero : (e : Else-refusal-ne0) →
@@ -34,11 +34,11 @@ found : (o : After-older_at) →
 found o =
     rw (to_z-of_z o.ranges.dy, to_z-of_z o.ranges.dx) at o.older_at.ensures
 
-at-candidate : (k : In-At) →
+at-candidate : (k : In-Some) →
     T (candidate k.args.s 16 k.args.y k.args.x (vec k.args.dy k.args.dx))
-    × (k.in-At.r ≡ older_row k.args.y (vec k.args.dy k.args.dx))
-    × (k.in-At.c ≡ older_column k.args.x (vec k.args.dy k.args.dx))
-at-candidate k = older_is _ 16 _ _ _ _ _ (sym (let found : k.older_at.result ≡ older_at k.args.s 16 k.args.y k.args.x (vec k.args.dy k.args.dx) = rw (to_z-of_z k.ranges.dy, to_z-of_z k.ranges.dx) at k.older_at.ensures in found) ∙ k.in-At.is)
+    × (k.in-Some.r ≡ older_row k.args.y (vec k.args.dy k.args.dx))
+    × (k.in-Some.c ≡ older_column k.args.x (vec k.args.dy k.args.dx))
+at-candidate k = older_is _ 16 _ _ _ _ _ (sym (let found : k.older_at.result ≡ older_at k.args.s 16 k.args.y k.args.x (vec k.args.dy k.args.dx) = rw (to_z-of_z k.ranges.dy, to_z-of_z k.ranges.dx) at k.older_at.ensures in found) ∙ k.in-Some.is)
 
 pub returns-then-refusal-ne0 : goal.returns-then-refusal-ne0
 returns-then-refusal-ne0 c =
@@ -75,7 +75,7 @@ measure_block-requires c =
 pub returns : goal.returns
 unfolding measure_at
 returns c =
-    let h = at-candidate (goal.at.returns c).In-At in
+    let h = at-candidate (goal.at.returns c).In-Some in
     rw (c.answer_of.ensures, c.measure_block.ensures, h.1, h.2)
     (sym (measured_at (pair_of c.args.older.now c.args.newer.now c.args.s) c.args.y c.args.x (vec c.args.dy c.args.dx) c.args.ceiling (pair-zero (goal.at.returns c).Else-refusal-ne0) (measure-passed (goal.at.returns c).Else-not-measure_ok)
     (place-passed (goal.at.returns c).Else-not-place_ok) (T_true _ h.0)))

@@ -48,5 +48,5 @@ overflow_cast-result-2 c =
 
 pub returns : goal.returns
 returns c =
-    let w = within_says _ _ _ (sym c.block_up_to.ensures ∙ c.in-Within.is) in
+    let w = within_says _ _ _ (sym c.block_up_to.ensures ∙ c.in-Some.is) in
     ap (λ d. Within d c.args.s.n) w.1 ∙ sym (measurement_within _ _ _ _ _ w.0)

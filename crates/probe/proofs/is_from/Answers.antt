@@ -17,4 +17,4 @@ returns-in_default c =
 pub returns : goal.returns
 returns c =
     let a = c.args in
-    from_at a.c a.d c.requires.1 a.y _ (sym (shifted (goal.at.returns c).After-shift) ∙ c.in-At.is)
+    from_at a.c a.d c.requires.1 a.y _ (sym (shifted (goal.at.returns c).After-shift) ∙ c.in-Some.is)

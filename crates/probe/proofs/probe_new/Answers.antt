@@ -10,7 +10,7 @@ use Rattle.probe.specs.Probe.{plus, around}
 use Rattle.probe.specs.BestSoFar.{point, seen_of, pairs, probe_new, Holds}
 use Rattle.probe.proofs.Looks.{holds_same, moved_at, moved_out, far_down, far_across, new_in, new_out, holds_by}
 use Rattle.probe.proofs.probe_new.Goals as goal
-use Rattle.probe.proofs.probe_new.Goals.{After-shift, After-shift-2, In-At-shift}
+use Rattle.probe.proofs.probe_new.Goals.{After-shift, After-shift-2, In-Some-shift}
 
 -- the two parts
 row : (c : After-shift) → let a = c.args in c.shift.result ≡ shifted_by a.cy a.dy 32
@@ -20,16 +20,16 @@ column : (c : After-shift-2) → let a = c.args in c.shift-2.result ≡ shifted_
 column c = rw (to_z-of_z c.ranges.dx) at c.shift-2.ensures
 
 -- both parts lie in window 16, and are the point
-placed : (c : In-At-shift) →
+placed : (c : In-Some-shift) →
     let a = c.args in
-    let y = c.in-At.y in
-    let x = c.in-At-shift.x in
+    let y = c.in-Some.y in
+    let x = c.in-Some-shift.x in
     (y ≤ 32) × (x ≤ 32) × (point y x ≡ plus (point a.cy a.cx) (vec a.dy a.dx))
 placed c =
     let a = c.args in
     let q = c.requires in
-    let e = sym (let row : let a = c.args in c.shift.result ≡ shifted_by a.cy a.dy 32 = rw (to_z-of_z c.ranges.dy) at c.shift.ensures in row) ∙ c.in-At.is in
-    let f = sym (let column : let a = c.args in c.shift-2.result ≡ shifted_by a.cx a.dx 32 = rw (to_z-of_z c.ranges.dx) at c.shift-2.ensures in column) ∙ c.in-At-shift.is in (
+    let e = sym (let row : let a = c.args in c.shift.result ≡ shifted_by a.cy a.dy 32 = rw (to_z-of_z c.ranges.dy) at c.shift.ensures in row) ∙ c.in-Some.is in
+    let f = sym (let column : let a = c.args in c.shift-2.result ≡ shifted_by a.cx a.dx 32 = rw (to_z-of_z c.ranges.dx) at c.shift-2.ensures in column) ∙ c.in-Some-shift.is in (
       (shifted_is a.cy a.dy 32 _ e).1,
       (shifted_is a.cx a.dx 32 _ f).1,
       ap₂ vec (moved_at a.cy a.dy q.1 _ e) (moved_at a.cx a.dx q.2 _ f),
@@ -53,15 +53,15 @@ is_in-requires c = ((placed c).0, (placed c).1, omega arith, omega arith, omega 
 
 pub returns-then-is_in : goal.returns-then-is_in
 returns-then-is_in c =
-    holds_same c.requires.0 (new_in _ _ _ _ (rw (placed (goal.at.returns-then-is_in c).In-At-shift).2 at (sym c.is_in.ensures ∙ c.if-is_in.true)))
+    holds_same c.requires.0 (new_in _ _ _ _ (rw (placed (goal.at.returns-then-is_in c).In-Some-shift).2 at (sym c.is_in.ensures ∙ c.if-is_in.true)))
 
 pub probe_point-requires : goal.probe_point-requires
-probe_point-requires c = (c.requires.0, (placed (goal.at.probe_point-requires c).In-At-shift).0, (placed (goal.at.probe_point-requires c).In-At-shift).1)
+probe_point-requires c = (c.requires.0, (placed (goal.at.probe_point-requires c).In-Some-shift).0, (placed (goal.at.probe_point-requires c).In-Some-shift).1)
 
 pub returns : goal.returns
 returns c =
     let a = c.args in
     let before = around (point a.oy a.ox) (pairs a.before.now) in
     let t = target_of a.older.now a.newer.now a.b in
-    subst (λ v. Holds c.probe_point.result (probe_new t before (seen_of a.s) v) (a.s.count + 1)) (placed (goal.at.returns c).In-At-shift).2
+    subst (λ v. Holds c.probe_point.result (probe_new t before (seen_of a.s) v) (a.s.count + 1)) (placed (goal.at.returns c).In-Some-shift).2
     (holds_by c.probe_point.ensures (new_out t (seen_of a.s) _ before (sym c.is_in.ensures ∙ c.if-is_in.false)) (omega arith))

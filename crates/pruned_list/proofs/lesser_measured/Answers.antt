@@ -15,7 +15,7 @@ returns-in_default c =
 key-is : (k : After-renewed-k) → let a = k.args in
     k.renewed-k.result ≡ measured_key (distortion_to a.older.now a.newer.now a.b) a.key
 key-is k =
-    let h = within_says _ _ _ (sym (rw k.spot_of.ensures at k.measured.ensures) ∙ k.in-Within.is) in
+    let h = within_says _ _ _ (sym (rw k.spot_of.ensures at k.measured.ensures) ∙ k.in-Some.is) in
     omega (arith, k.renewed-k.ensures, h)
 
 pub returns-then-k-best : goal.returns-then-k-best

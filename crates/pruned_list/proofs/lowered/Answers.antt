@@ -8,4 +8,4 @@ pub returns-in_default : goal.returns-in_default
 returns-in_default c = let h = over_says _ _ (sym c.measured.ensures ∙ c.in_default.is) in omega (arith, h)
 
 pub returns : goal.returns
-returns c = let h = within_says _ _ _ (sym c.measured.ensures ∙ c.in-Within.is) in omega (arith, h)
+returns c = let h = within_says _ _ _ (sym c.measured.ensures ∙ c.in-Some.is) in omega (arith, h)

@@ -64,4 +64,4 @@ overflow_cast-result c =
 
 pub returns : goal.returns
 returns c =
-    rw (total-is (goal.at.returns c).After-loop-k) (sum_at _ c.requires.0 _ _ c.requires.1 _ (sym (shift_is (goal.at.returns c).After-shift) ∙ c.in-At.is))
+    rw (total-is (goal.at.returns c).After-loop-k) (sum_at _ c.requires.0 _ _ c.requires.1 _ (sym (shift_is (goal.at.returns c).After-shift) ∙ c.in-Some.is))

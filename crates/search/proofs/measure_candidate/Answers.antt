@@ -8,7 +8,7 @@ use Rattle.frame.specs.Candidates.{candidate, older_at, older_row, older_column,
 use Rattle.distortion.specs.Blocks.{distortion}
 use Rattle.search.specs.Target.{target_of, of_candidate, measure_candidate}
 use Rattle.search.proofs.measure_candidate.Goals as goal
-use Rattle.search.proofs.measure_candidate.Goals.{After-block_up_to, After-older_at, In-At}
+use Rattle.search.proofs.measure_candidate.Goals.{After-block_up_to, After-older_at, In-Some}
 
 -- what the call for the older block answers
 found : (o : After-older_at) →
@@ -16,11 +16,11 @@ found : (o : After-older_at) →
 found o =
     rw (to_z-of_z o.ranges.dy, to_z-of_z o.ranges.dx) at o.older_at.ensures
 
-at-candidate : (k : In-At) →
+at-candidate : (k : In-Some) →
     T (candidate k.args.b.setting k.args.b.w k.args.b.y k.args.b.x (vec k.args.dy k.args.dx))
-    × (k.in-At.r ≡ older_row k.args.b.y (vec k.args.dy k.args.dx))
-    × (k.in-At.c ≡ older_column k.args.b.x (vec k.args.dy k.args.dx))
-at-candidate k = older_is _ _ _ _ _ _ _ (sym (let found : k.older_at.result ≡ older_at k.args.b.setting k.args.b.w k.args.b.y k.args.b.x (vec k.args.dy k.args.dx) = rw (to_z-of_z k.ranges.dy, to_z-of_z k.ranges.dx) at k.older_at.ensures in found) ∙ k.in-At.is)
+    × (k.in-Some.r ≡ older_row k.args.b.y (vec k.args.dy k.args.dx))
+    × (k.in-Some.c ≡ older_column k.args.b.x (vec k.args.dy k.args.dx))
+at-candidate k = older_is _ _ _ _ _ _ _ (sym (let found : k.older_at.result ≡ older_at k.args.b.setting k.args.b.w k.args.b.y k.args.b.x (vec k.args.dy k.args.dx) = rw (to_z-of_z k.ranges.dy, to_z-of_z k.ranges.dx) at k.older_at.ensures in found) ∙ k.in-Some.is)
 
 pub returns-in_default : goal.returns-in_default
 unfolding measure_candidate
@@ -39,8 +39,8 @@ answer : (u : After-block_up_to) →
 unfolding measure_candidate distortion
 answer u =
     let h = (let at-candidate : T (candidate u.args.b.setting u.args.b.w u.args.b.y u.args.b.x (vec u.args.dy u.args.dx))
-    × (u.in-At.r ≡ older_row u.args.b.y (vec u.args.dy u.args.dx))
-    × (u.in-At.c ≡ older_column u.args.b.x (vec u.args.dy u.args.dx)) = older_is _ _ _ _ _ _ _ (sym (let found : u.older_at.result ≡ older_at u.args.b.setting u.args.b.w u.args.b.y u.args.b.x (vec u.args.dy u.args.dx) = rw (to_z-of_z u.ranges.dy, to_z-of_z u.ranges.dx) at u.older_at.ensures in found) ∙ u.in-At.is) in at-candidate) in
+    × (u.in-Some.r ≡ older_row u.args.b.y (vec u.args.dy u.args.dx))
+    × (u.in-Some.c ≡ older_column u.args.b.x (vec u.args.dy u.args.dx)) = older_is _ _ _ _ _ _ _ (sym (let found : u.older_at.result ≡ older_at u.args.b.setting u.args.b.w u.args.b.y u.args.b.x (vec u.args.dy u.args.dx) = rw (to_z-of_z u.ranges.dy, to_z-of_z u.ranges.dx) at u.older_at.ensures in found) ∙ u.in-Some.is) in at-candidate) in
     let yes = T_true (candidate u.args.b.setting u.args.b.w u.args.b.y u.args.b.x (vec u.args.dy u.args.dx)) h.0 in
     rw (u.block_up_to.ensures, h.1, h.2, yes)
 
@@ -50,4 +50,4 @@ returns-in_default-block_up_to c = sym (answer (goal.at.returns-in_default-block
 
 pub returns : goal.returns
 unfolding of_candidate
-returns c = sym (answer (goal.at.returns c).After-block_up_to ∙ ap of_candidate c.in-Within.is)
+returns c = sym (answer (goal.at.returns c).After-block_up_to ∙ ap of_candidate c.in-Some-block_up_to.is)

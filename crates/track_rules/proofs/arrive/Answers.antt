@@ -8,27 +8,27 @@ use borrow.Author.Tests.{ne_eqb}
 use mir.Facts.{to_z-of_z}
 use lib.Dec.{eqb}
 use lib.IntN.{ℤ, neg_ℤ, ◌+ℤ◌}
-use Rattle.signed.specs.declared.Moved.TheVariants.{To, Out}
+use Rattle.std.specs.Prelude.{Some, None}
 use Rattle.signed.specs.Values.{moved_by}
 use Rattle.track_rules.specs.Rules.{in_range, arrive}
 use mir.Syntax.{w32}
 use Rattle.track_rules.proofs.arrive.Goals as goal
-use Rattle.track_rules.proofs.arrive.Goals.{After-minus_travel, After-minus_travel-2, Else-voters-eq0, In-To}
+use Rattle.track_rules.proofs.arrive.Goals.{After-minus_travel, After-minus_travel-2, Else-voters-eq0, In-Some}
 
 -- what each answer of `minus_travel` says
-moved-no : (b : Bool) (z : ℤ) → cond b (To z) Out ≡ Out → b ≡ false
+moved-no : (b : Bool) (z : ℤ) → cond b (Some z) None ≡ None → b ≡ false
 moved-no true z e = let n : ◌≡◌ {A = ℕ} 0 1 = cc in absurd (omega arith)
 moved-no false z e = refl
 
-moved-yes : (b : Bool) (z u : ℤ) → cond b (To z) Out ≡ To u → (b ≡ true) × (u ≡ z)
+moved-yes : (b : Bool) (z u : ℤ) → cond b (Some z) None ≡ Some u → (b ≡ true) × (u ≡ z)
 moved-yes true z u e = (refl, cc)
 moved-yes false z u e = let n : ◌≡◌ {A = ℕ} 0 1 = cc in absurd (omega arith)
 
-out : (y t : ℤ) → moved_by y t ≡ Out → in_range (y +ℤ t) ≡ false
+out : (y t : ℤ) → moved_by y t ≡ None → in_range (y +ℤ t) ≡ false
 unfolding moved_by
 out y t e = moved-no (in_range (y +ℤ t)) (y +ℤ t) e
 
-to : (y t u : ℤ) → moved_by y t ≡ To u → (in_range (y +ℤ t) ≡ true) × (u ≡ y +ℤ t)
+to : (y t u : ℤ) → moved_by y t ≡ Some u → (in_range (y +ℤ t) ≡ true) × (u ≡ y +ℤ t)
 unfolding moved_by
 to y t u e = moved-yes (in_range (y +ℤ t)) (y +ℤ t) u e
 
@@ -46,10 +46,10 @@ column c =
     c.minus_travel-2.ensures ∙ ap₂ (λ (p q : ℤ). moved_by p (neg_ℤ q)) (to_z-of_z c.ranges.x) (to_z-of_z c.ranges.dx)
 
 -- y stays in its range
-row-to : (c : In-To) →
+row-to : (c : In-Some) →
     let a = c.args in
-    (in_range (a.y +ℤ neg_ℤ a.dy) ≡ true) × (c.in-To.row ≡ a.y +ℤ neg_ℤ a.dy)
-row-to c = to _ _ _ (sym (let row : let a = c.args in c.minus_travel.result ≡ moved_by a.y (neg_ℤ a.dy) = c.minus_travel.ensures ∙ ap₂ (λ (p q : ℤ). moved_by p (neg_ℤ q)) (to_z-of_z c.ranges.y) (to_z-of_z c.ranges.dy) in row) ∙ c.in-To.is)
+    (in_range (a.y +ℤ neg_ℤ a.dy) ≡ true) × (c.in-Some.row ≡ a.y +ℤ neg_ℤ a.dy)
+row-to c = to _ _ _ (sym (let row : let a = c.args in c.minus_travel.result ≡ moved_by a.y (neg_ℤ a.dy) = c.minus_travel.ensures ∙ ap₂ (λ (p q : ℤ). moved_by p (neg_ℤ q)) (to_z-of_z c.ranges.y) (to_z-of_z c.ranges.dy) in row) ∙ c.in-Some.is)
 
 pub returns-then-voters-eq0 : goal.returns-then-voters-eq0
 unfolding arrive
@@ -63,18 +63,18 @@ returns-in_default c =
 pub returns-in_default-minus_travel : goal.returns-in_default-minus_travel
 unfolding arrive
 returns-in_default-minus_travel c =
-    rw (some (goal.at.returns-in_default-minus_travel c).Else-voters-eq0, (row-to (goal.at.returns-in_default-minus_travel c).In-To).0, out _ _ (sym (column (goal.at.returns-in_default-minus_travel c).After-minus_travel-2) ∙ c.in_default-minus_travel.is)) c.refused_arrival-in_default-minus_travel.ensures
+    rw (some (goal.at.returns-in_default-minus_travel c).Else-voters-eq0, (row-to (goal.at.returns-in_default-minus_travel c).In-Some).0, out _ _ (sym (column (goal.at.returns-in_default-minus_travel c).After-minus_travel-2) ∙ c.in_default-minus_travel.is)) c.refused_arrival-in_default-minus_travel.ensures
 
 pub returns : goal.returns
 unfolding arrive
 returns c =
-    let m = to _ _ _ (sym (column (goal.at.returns c).After-minus_travel-2) ∙ c.in-To-minus_travel.is) in
+    let m = to _ _ _ (sym (column (goal.at.returns c).After-minus_travel-2) ∙ c.in-Some-minus_travel.is) in
     rw (
       some (goal.at.returns c).Else-voters-eq0,
-      (row-to (goal.at.returns c).In-To).0,
+      (row-to (goal.at.returns c).In-Some).0,
       m.0,
-      to_z-of_z {w = w32} {z = c.in-To.row} (search rules),
-      to_z-of_z {w = w32} {z = c.in-To-minus_travel.column} (search rules),
-      (row-to (goal.at.returns c).In-To).1,
+      to_z-of_z {w = w32} {z = c.in-Some.row} (search rules),
+      to_z-of_z {w = w32} {z = c.in-Some-minus_travel.column} (search rules),
+      (row-to (goal.at.returns c).In-Some).1,
       m.1,
     )
