@@ -26,18 +26,14 @@ pub fn four_rows(
     let mut sum: u32 = 0;
     let mut p = a;
     let mut q = b;
-    let mut i: usize = 0;
-    while i < 4 {
-        let mut j = 0;
-        while j < n {
+    for _i in 0..4usize {
+        for _j in 0..n {
             sum += measures::pel_difference(measure, newer[p], older[q]);
             p += 1;
             q += 1;
-            j += 1;
         }
         p = p + across - n;
         q = q + width - n;
-        i += 1;
     }
     sum
 }
@@ -58,14 +54,12 @@ fn rows_by_four(
     let down = 4 * width;
     let mut sum: u32 = 0;
     let mut p: usize = 0;
-    let mut g = 0;
-    while g < groups {
+    for _g in 0..groups {
         if ceiling < sum {
             return sum;
         }
         sum += four_rows(older, newer, measure, width, width, p, p, n);
         p += down;
-        g += 1;
     }
     sum
 }
@@ -80,8 +74,7 @@ fn rows_by_halves(older: &[u8], newer: &[u8], measure: u32, width: usize, ceilin
     let mut total: u32 = 0;
     let mut p: usize = 0;
     let mut q: usize = 16;
-    let mut g: usize = 0;
-    while g < 16 {
+    for _g in 0..16usize {
         if ceiling < total {
             return total;
         }
@@ -89,7 +82,6 @@ fn rows_by_halves(older: &[u8], newer: &[u8], measure: u32, width: usize, ceilin
         let below = p + down;
         p = q;
         q = below;
-        g += 1;
     }
     total
 }

@@ -35,10 +35,8 @@ fn row(older: &[u8], newer: &[u8], measure: u32, a: usize, b: usize, n: usize) -
     ensures { (result ≡ row_from (measure_of measure) older.now newer.now a b n) × (result ≤ n * (measure_of measure).most) }
 {
     let mut sum: u32 = 0;
-    let mut j: usize = 0;
-    while j < n {
+    for j in 0..n {
         sum += measures::pel_difference(measure, newer[a + j], older[b + j]);
-        j += 1;
     }
     sum
 }
@@ -53,17 +51,15 @@ fn rows_measured(older: &[u8], newer: &[u8], s: Setting, a: usize, b: usize, cei
     let mut sum: u32 = 0;
     let mut p = a;
     let mut q = b;
-    let mut rows: usize = 0;
-    while rows < n {
+    for rows in 0..n {
         if ceiling < sum {
             return rows;
         }
         sum += row(older, newer, s.measure, p, q, n);
         p += width;
         q += width;
-        rows += 1;
     }
-    rows
+    n
 }
 
 // The newer block at row y, column x against the older block at row r, column c, under the ceiling. The searches' kernel tells whether it is over; which

@@ -68,10 +68,8 @@ pub fn codes_of(weight: u64) -> [u64; SIDE]
     ensures { result ≡ list_to (code_of weight) 33 }
 {
     let mut codes = [0u64; SIDE];
-    let mut i: usize = 0;
-    while i < SIDE {
+    for i in 0..SIDE {
         codes[i] = code_of(weight, i);
-        i += 1;
     }
     codes
 }

@@ -12,7 +12,7 @@ use Rattle.distortion.proofs.four_rows.Goals.{At-loop-j, In-loop-j}
 
 -- no row begins below the last
 inside : (l : At-loop-j) → let a = l.args in
-    (l.loop-i.i * a.across ≤ 3 * a.across) × (l.loop-i.i * a.width ≤ 3 * a.width)
+    (l.loop-i._i * a.across ≤ 3 * a.across) × (l.loop-i._i * a.width ≤ 3 * a.width)
 inside l =
     let a = l.args in
     (mul-le-mul_right a.across (omega arith), mul-le-mul_right a.width (omega arith))
@@ -20,7 +20,7 @@ inside l =
 -- the sum with a pel more fits
 fits : (d : In-loop-j) → let a = d.args in
     let m = (measure_of a.measure).most in
-    (d.loop-i.i * (a.n * m) ≤ 3 * (64 * 65025)) × (d.loop-j.j * m ≤ 64 * 65025) × (m ≤ 65025)
+    (d.loop-i._i * (a.n * m) ≤ 3 * (64 * 65025)) × (d.loop-j._j * m ≤ 64 * 65025) × (m ≤ 65025)
 fits d =
     let m = most_small d.args.measure in
     (mul-le-mul {n₂ = 3} (omega arith) (mul-le-mul d.requires.2 m), mul-le-mul {n₂ = 64} (omega arith) m, m)
@@ -50,12 +50,6 @@ overflow_add-p c = omega (arith, inside (goal.at.overflow_add-p c).At-loop-j)
 pub overflow_add-q : goal.overflow_add-q
 overflow_add-q c = omega (arith, inside (goal.at.overflow_add-q c).At-loop-j)
 
-pub overflow_add-j : goal.overflow_add-j
-overflow_add-j c = omega arith
-
-pub loop-j-smaller : goal.loop-j-smaller
-loop-j-smaller c = omega arith
-
 pub loop-j-preserved : goal.loop-j-preserved
 loop-j-preserved c =
     let v = c.loop-j.invariant in
@@ -74,22 +68,16 @@ overflow_add-q-in-loop-i c = omega (arith, inside (goal.at.overflow_add-q-in-loo
 pub overflow_sub-q : goal.overflow_sub-q
 overflow_sub-q c = omega arith
 
-pub overflow_add-i : goal.overflow_add-i
-overflow_add-i c = omega arith
-
-pub loop-i-smaller : goal.loop-i-smaller
-loop-i-smaller c = omega arith
-
 pub loop-i-preserved : goal.loop-i-preserved
 loop-i-preserved c =
     let a = c.args in
-    let i = c.loop-i.i in
-    let e : c.loop-j.j ≡ a.n = omega arith in
+    let i = c.loop-i._i in
+    let e : c.loop-j._j ≡ a.n = omega arith in
     let over = summed_row _ _ _ _ _ _ _ _ i _ (rw e at c.loop-j.invariant.4) in
     (omega (arith, row_next i a.across), omega (arith, row_next i a.width), omega arith, over)
 
 pub returns : goal.returns
 returns c =
     let l = c.loop-i in
-    let e : l.i ≡ 4 = omega arith in
+    let e : l._i ≡ 4 = omega arith in
     summed_all _ _ _ _ _ _ _ _ _ _ (rw e at l.invariant.3)

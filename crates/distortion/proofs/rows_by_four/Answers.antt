@@ -11,22 +11,22 @@ use Rattle.distortion.proofs.rows_by_four.Goals.{In-loop-g}
 
 -- a turn's rows end above the last
 turn : (i : In-loop-g) → let a = i.args in
-    let g = i.loop-g.g in
+    let g = i.loop-g._g in
     (4 * (g + 1) * a.width ≡ 4 * g * a.width + 4 * a.width) × (4 * (g + 1) * a.width ≤ 4 * a.groups * a.width)
 turn i =
     let a = i.args in
-    let g = i.loop-g.g in
+    let g = i.loop-g._g in
     let e : 4 * (g + 1) ≡ 4 * g + 4 = omega arith in
     (rw e (add-mul (4 * g) 4 a.width), mul-le-mul_right a.width (omega arith))
 
 -- the sum with a turn's rows more, and that it fits
 more : (i : In-loop-g) → let a = i.args in
-    let g = i.loop-g.g in
+    let g = i.loop-g._g in
     let four = 4 * (a.n * (measure_of a.measure).most) in
     ((g + 1) * four ≡ g * four + four) × ((g + 1) * four ≤ 16 * 16646400)
 more i =
     let a = i.args in
-    let g = i.loop-g.g in
+    let g = i.loop-g._g in
     let r = i.requires in
     let line = mul-le-mul r.thin (most_small a.measure) in
     (row_next g (4 * (a.n * (measure_of a.measure).most)), mul-le-mul {n₂ = 16} {m₂ = 16646400} (omega (arith, r.few)) (omega (arith, line)))
@@ -44,8 +44,8 @@ pub returns-then-ceiling-sum : goal.returns-then-ceiling-sum
 returns-then-ceiling-sum c =
     let l = c.loop-g in
     let a = c.args in
-    let all : a.groups ≡ l.g + (a.groups - l.g) = omega arith in
-    let stopped = sum_up_to_passed a.ceiling _ l.g (a.groups - l.g) (rw l.invariant.3 at c.if-ceiling-sum.true) in
+    let all : a.groups ≡ l._g + (a.groups - l._g) = omega arith in
+    let stopped = sum_up_to_passed a.ceiling _ l._g (a.groups - l._g) (rw l.invariant.3 at c.if-ceiling-sum.true) in
     l.invariant.3 ∙ sym (rw (← all) at stopped)
 
 pub four_rows-sum-requires : goal.four_rows-sum-requires
@@ -57,22 +57,16 @@ overflow_add-sum c = omega (arith, more (goal.at.overflow_add-sum c).In-loop-g)
 pub overflow_add-p : goal.overflow_add-p
 overflow_add-p c = omega (arith, turn (goal.at.overflow_add-p c).In-loop-g, c.requires.in_newer)
 
-pub overflow_add-g : goal.overflow_add-g
-overflow_add-g c = omega arith
-
-pub loop-g-smaller : goal.loop-g-smaller
-loop-g-smaller c = omega arith
-
 pub loop-g-preserved : goal.loop-g-preserved
 loop-g-preserved c =
     let l = c.loop-g in
     let a = c.args in
-    let four = rw (l.invariant.1, ← zero-add (4 * l.g * a.width)) at c.four_rows-sum.ensures.0 in
-    let next = sum_up_to_more a.ceiling _ l.g (rw l.invariant.3 at c.if-ceiling-sum.false) in
+    let four = rw (l.invariant.1, ← zero-add (4 * l._g * a.width)) at c.four_rows-sum.ensures.0 in
+    let next = sum_up_to_more a.ceiling _ l._g (rw l.invariant.3 at c.if-ceiling-sum.false) in
     (omega arith, omega (arith, turn (goal.at.loop-g-preserved c).In-loop-g), omega (arith, more (goal.at.loop-g-preserved c).In-loop-g), ap₂ ◌+◌ l.invariant.3 four ∙ sym next)
 
 pub returns : goal.returns
 returns c =
     let l = c.loop-g in
-    let e : l.g ≡ c.args.groups = omega arith in
+    let e : l._g ≡ c.args.groups = omega arith in
     rw (← e) l.invariant.3

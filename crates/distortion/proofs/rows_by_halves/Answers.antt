@@ -19,14 +19,14 @@ pub returns-then-ceiling-total : goal.returns-then-ceiling-total
 returns-then-ceiling-total c =
     let l = c.loop-g in
     let a = c.args in
-    let all : 16 ≡ l.g + (16 - l.g) = omega arith in
-    let stopped = sum_up_to_passed a.ceiling _ l.g (16 - l.g) (rw l.invariant.4 at c.if-ceiling-total.true) in
+    let all : 16 ≡ l._g + (16 - l._g) = omega arith in
+    let stopped = sum_up_to_passed a.ceiling _ l._g (16 - l._g) (rw l.invariant.4 at c.if-ceiling-total.true) in
     l.invariant.4 ∙ sym (rw (← all) at stopped)
 
 pub four_rows-total-requires : goal.four_rows-total-requires
 four_rows-total-requires c =
     let l = c.loop-g in
-    omega (arith, half-inside c.args.width l.g (omega arith), c.requires)
+    omega (arith, half-inside c.args.width l._g (omega arith), c.requires)
 
 pub overflow_add-total : goal.overflow_add-total
 overflow_add-total c =
@@ -37,30 +37,24 @@ overflow_add-total c =
 pub overflow_add-below : goal.overflow_add-below
 overflow_add-below c =
     let l = c.loop-g in
-    omega (arith, half-inside c.args.width l.g (omega arith), c.requires.wide)
-
-pub overflow_add-g : goal.overflow_add-g
-overflow_add-g c = omega arith
-
-pub loop-g-smaller : goal.loop-g-smaller
-loop-g-smaller c = omega arith
+    omega (arith, half-inside c.args.width l._g (omega arith), c.requires.wide)
 
 pub loop-g-preserved : goal.loop-g-preserved
 loop-g-preserved c =
     let l = c.loop-g in
     let a = c.args in
-    let four = rw (l.invariant.1, ← zero-add (half a.width l.g)) at c.four_rows-total.ensures.0 in
-    let next = sum_up_to_more a.ceiling _ l.g (rw l.invariant.4 at c.if-ceiling-total.false) in
-    let e : l.g + 1 + 1 ≡ l.g + 2 = omega arith in (
+    let four = rw (l.invariant.1, ← zero-add (half a.width l._g)) at c.four_rows-total.ensures.0 in
+    let next = sum_up_to_more a.ceiling _ l._g (rw l.invariant.4 at c.if-ceiling-total.false) in
+    let e : l._g + 1 + 1 ≡ l._g + 2 = omega arith in (
       omega arith,
       l.invariant.2,
-      rw e (omega (arith, half_below a.width l.g)),
-      omega (arith, c.four_rows-total.ensures.1, row_next l.g (4 * (16 * (measure_of a.measure).most))),
+      rw e (omega (arith, half_below a.width l._g)),
+      omega (arith, c.four_rows-total.ensures.1, row_next l._g (4 * (16 * (measure_of a.measure).most))),
       ap₂ ◌+◌ l.invariant.4 four ∙ sym next,
     )
 
 pub returns : goal.returns
 returns c =
     let l = c.loop-g in
-    let e : l.g ≡ 16 = omega arith in
+    let e : l._g ≡ 16 = omega arith in
     rw e at l.invariant.4

@@ -32,12 +32,6 @@ overflow_add-sum c =
     let few : c.loop-j.j * (measure_of c.args.measure).most ≤ 64 * 65025 = mul-le-mul {n₂ = 64} (omega arith) m in
     omega (arith, c.loop-j.invariant.2, c.pel_difference-sum.ensures.1, m, few)
 
-pub overflow_add-j : goal.overflow_add-j
-overflow_add-j c = omega arith
-
-pub loop-j-smaller : goal.loop-j-smaller
-loop-j-smaller c = omega arith
-
 pub loop-j-preserved : goal.loop-j-preserved
 loop-j-preserved c =
     let a = c.args in

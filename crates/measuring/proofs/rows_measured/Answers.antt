@@ -58,12 +58,6 @@ pub overflow_add-q : goal.overflow_add-q
 overflow_add-q c =
     omega (arith, turn (goal.at.overflow_add-q c).At-loop-rows c.loop-rows-test.true, row_next c.loop-rows.rows c.args.s.width, c.requires.in_older, c.requires.wide)
 
-pub overflow_add-rows : goal.overflow_add-rows
-overflow_add-rows c = omega arith
-
-pub loop-rows-smaller : goal.loop-rows-smaller
-loop-rows-smaller c = omega arith
-
 pub loop-rows-preserved : goal.loop-rows-preserved
 loop-rows-preserved c =
     let a = c.args in
@@ -83,4 +77,4 @@ pub returns : goal.returns
 returns c =
     let l = c.loop-rows in
     let e : l.rows ≡ c.args.s.n = omega arith in
-    (sym l.invariant.5 ∙ ap (rows_measured _ _) e, l.invariant.2)
+    (rw e at sym l.invariant.5, omega arith)

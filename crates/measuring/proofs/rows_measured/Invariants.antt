@@ -11,6 +11,3 @@ invariant-loop-rows l =
     (l.p ≡ l.a + l.rows * l.s.width) × (l.q ≡ l.b + l.rows * l.s.width) × (l.rows ≤ l.s.n) × (l.sum ≤ l.rows * (l.s.n * (measure_of l.s.measure).most))
     × (l.sum ≡ rows_from (measure_of l.s.measure) l.older l.newer l.s.width l.a l.b l.s.n l.rows)
     × (rows_measured l.ceiling (rows_from (measure_of l.s.measure) l.older l.newer l.s.width l.a l.b l.s.n) l.rows ≡ l.rows)
-
-abbrev pub decreases-loop-rows : goal.decreases-loop-rows
-decreases-loop-rows l = l.s.n - l.rows

@@ -18,12 +18,6 @@ offset_bounds-codes-i c = omega arith
 pub bounds-codes-i : goal.bounds-codes-i
 bounds-codes-i c = omega arith
 
-pub overflow_add-i : goal.overflow_add-i
-overflow_add-i c = omega arith
-
-pub loop-i-smaller : goal.loop-i-smaller
-loop-i-smaller c = omega arith
-
 pub loop-i-preserved : goal.loop-i-preserved
 loop-i-preserved c =
     let l = c.loop-i in
