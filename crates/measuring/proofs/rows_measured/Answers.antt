@@ -1,13 +1,12 @@
 -- `rows_measured`: after so many rows the sum is theirs, none before has passed the ceiling, and the next row begins so many widths on.
 use Prim.Native.Nat.{◌+◌, ◌-◌, ◌*◌, ◌≤◌, ◌<◌}
-use mathlib.Core.Path.{◌≡◌, sym, ap, ◌∙◌}
+use mathlib.Core.Path.{◌≡◌, sym}
 use native.Mathlib.Nat.{le_of_lt, zero-mul, mul-le-mul, mul-le-mul_right}
 use native.Mathlib.Omega.{arith}
 use Rattle.base.specs.Index.{row_next}
 use Rattle.base.specs.Sum.{sum_to_none, sum_to_more}
 use Rattle.measures.specs.Measures.{measure_of, most_small}
 use Rattle.distortion.specs.Blocks.{row_from, size_small}
-use Rattle.measuring.specs.Measurement.{rows_measured}
 use Rattle.measuring.proofs.Passing.{rows_none, rows_more, rows_passed}
 use Rattle.measuring.proofs.rows_measured.Goals as goal
 use Rattle.measuring.proofs.rows_measured.Goals.{At-loop-rows}
@@ -77,4 +76,4 @@ pub returns : goal.returns
 returns c =
     let l = c.loop-rows in
     let e : l.rows ≡ c.args.s.n = omega arith in
-    (rw e at sym l.invariant.5, omega arith)
+    (sym (rw e at l.invariant.5), omega arith)
