@@ -1,2 +1,3 @@
 pub mod Cross
+pub mod Numbers
 pub mod Refusals

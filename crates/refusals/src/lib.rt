@@ -6,6 +6,7 @@ ghost use Rattle.std.specs.Prelude.{◌≡◌, ◌+◌, leb};
 ghost use Rattle.refusals.specs.Cross.{cross_window, log2};
 ghost use Rattle.refusals.specs.Refusals.{side_ok, block_size_ok, block_ok, search_ok, window_ok};
 ghost use Rattle.refusals.specs.Refusals.{threshold_ok, place_ok, pair_refusal, request_refusal, setting_of};
+ghost use Rattle.refusals.specs.Numbers.{number_of, number_in};
 
 use frame::Setting;
 
@@ -20,6 +21,58 @@ pub struct Request {
     pub w: usize,
     pub t: u32,
     pub measure: u32,
+}
+
+// Why a call is turned away, by the paper's numbers: `number_of` of specs/Numbers.antt.
+#[derive(Clone, Copy, Debug, PartialEq, Eq)]
+pub enum Refusal {
+    Side,       // 1: width or height
+    Length,     // 2: of a frame
+    BlockSize,  // 3: N
+    Search,     // 4
+    Window,     // 5: w
+    Threshold,  // 6: T
+    Place,      // 7: of a block or a row view
+    Vector,     // 8: no candidate
+    Table,      // 9: too short
+    List,       // 10: too short
+    Homing,     // 11: the place
+    ViewSide,   // 12: of a row view
+    Entry,      // 16: a block in a list
+    Buffer,     // 19: shorter than the log
+    NotHomed,   // 31
+    NoStep,     // 32: the steps have ended, or the travels held are at fault
+    OutOfRange, // 33: the new place
+    Measure,    // 51
+    NoVoter,    // 52
+}
+
+impl From<Refusal> for u32 {
+    ghost from_gives = { λ r n. n ≡ number_of r };
+
+    fn from(r: Refusal) -> u32 {
+        match r {
+            Refusal::Side => 1,
+            Refusal::Length => 2,
+            Refusal::BlockSize => 3,
+            Refusal::Search => 4,
+            Refusal::Window => 5,
+            Refusal::Threshold => 6,
+            Refusal::Place => 7,
+            Refusal::Vector => 8,
+            Refusal::Table => 9,
+            Refusal::List => 10,
+            Refusal::Homing => 11,
+            Refusal::ViewSide => 12,
+            Refusal::Entry => 16,
+            Refusal::Buffer => 19,
+            Refusal::NotHomed => 31,
+            Refusal::NoStep => 32,
+            Refusal::OutOfRange => 33,
+            Refusal::Measure => 51,
+            Refusal::NoVoter => 52,
+        }
+    }
 }
 
 // The setting of a request.
@@ -143,52 +196,49 @@ pub fn place_ok(s: Setting, y: usize, x: usize) -> bool
     lies_in(x, s.n, s.width)
 }
 
-// The first of 1 2 3 that applies to frames of these lengths, or 0.
-pub fn pair_refusal(older: usize, newer: usize, s: Setting) -> u32
-    ensures { result ≡ pair_refusal older newer s }
+// The first of 1 2 3 that applies to frames of these lengths, if one does.
+pub fn pair_refusal(older: usize, newer: usize, s: Setting) -> Result<(), Refusal>
+    ensures { number_in result ≡ pair_refusal older newer s }
 {
     if !side_ok(s.width) {
-        return 1;
+        return Err(Refusal::Side);
     }
     if !side_ok(s.height) {
-        return 1;
+        return Err(Refusal::Side);
     }
     let whole = s.height * s.width;
     if older != whole {
-        return 2;
+        return Err(Refusal::Length);
     }
     if newer != whole {
-        return 2;
+        return Err(Refusal::Length);
     }
     if !block_ok(s) {
-        return 3;
+        return Err(Refusal::BlockSize);
     }
-    0
+    Ok(())
 }
 
-// The first of 1 2 3 4 51 5 6 that applies to a request, or 0.
-pub fn request_refusal(older: usize, newer: usize, q: Request) -> u32
-    ensures { result ≡ request_refusal older newer q }
+// The first of 1 2 3 4 51 5 6 that applies to a request, if one does.
+pub fn request_refusal(older: usize, newer: usize, q: Request) -> Result<(), Refusal>
+    ensures { number_in result ≡ request_refusal older newer q }
 {
-    let refusal = pair_refusal(older, newer, setting_of(q));
-    if refusal != 0 {
-        return refusal;
-    }
+    pair_refusal(older, newer, setting_of(q))?;
     let search = search_ok(q.search);
     let measure = measures::measure_ok(q.measure);
     let window = window_ok(q.search, q.w);
     let threshold = threshold_ok(q.search, q.measure, q.t);
     if !search {
-        return 4;
+        return Err(Refusal::Search);
     }
     if !measure {
-        return 51;
+        return Err(Refusal::Measure);
     }
     if !window {
-        return 5;
+        return Err(Refusal::Window);
     }
     if !threshold {
-        return 6;
+        return Err(Refusal::Threshold);
     }
-    0
+    Ok(())
 }

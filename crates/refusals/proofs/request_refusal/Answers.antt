@@ -2,21 +2,19 @@
 use mathlib.Core.Path.{◌≡◌, ap, sym, ◌∙◌}
 use Rattle.base.specs.Tests.{told}
 use Rattle.measures.specs.Measures.{measure_ok}
-use Rattle.refusals.specs.Refusals.{unless, search_ok, window_ok, threshold_ok, pair_refusal, request_refusal, setting_of, first_refusal_some, first_refusal_none}
+use Rattle.refusals.specs.Refusals.{unless, search_ok, window_ok, threshold_ok, pair_refusal, request_refusal, first_refusal_some, first_refusal_none}
 use Rattle.refusals.proofs.request_refusal.Goals as goal
-use Rattle.refusals.proofs.request_refusal.Goals.{After-pair_refusal-refusal, After-threshold_ok-threshold, Else-refusal-ne0}
+use Rattle.refusals.specs.Numbers.{number_some, handed_on}
+use Rattle.refusals.proofs.request_refusal.Goals.{After-threshold_ok-threshold, In_ok-pair_refusal}
 
--- what the pair's chain gave, and past it the rest of the chain
-gave : (d : After-pair_refusal-refusal) → let a = d.args in d.pair_refusal-refusal.result ≡ pair_refusal a.older a.newer (setting_of a.q)
-gave d = d.pair_refusal-refusal.ensures ∙ ap (pair_refusal _ _) d.setting_of.ensures
-
-rest : (d : Else-refusal-ne0) →
+-- past the pair's chain, the rest of the chain
+rest : (d : In_ok-pair_refusal) →
     let a = d.args in
     request_refusal a.older a.newer a.q
     ≡ unless (search_ok a.q.search) 4
     (unless (measure_ok a.q.measure) 51 (unless (window_ok a.q.search a.q.w) 5 (unless (threshold_ok a.q.search a.q.measure a.q.t) 6 0)))
 unfolding request_refusal
-rest d = rw (← (gave d.before)) (first_refusal_none _ _ d.if-refusal-ne0.false)
+rest d = first_refusal_none _ _ (sym (d.in_ok-pair_refusal.ensures ∙ ap (pair_refusal _ _) d.setting_of.ensures))
 
 -- the same at the last of the four tests, and what the first two of them gave
 past : (t : After-threshold_ok-threshold) →
@@ -34,9 +32,11 @@ measured : (t : After-threshold_ok-threshold) →
     t.measure_ok-measure.result ≡ measure_ok t.args.q.measure
 measured t = t.measure_ok-measure.ensures
 
-pub returns-then-refusal-ne0 : goal.returns-then-refusal-ne0
+pub returns-in_err-pair_refusal : goal.returns-in_err-pair_refusal
 unfolding request_refusal
-returns-then-refusal-ne0 c = rw (← (gave (goal.at.returns-then-refusal-ne0 c).After-pair_refusal-refusal)) (sym (first_refusal_some _ _ c.if-refusal-ne0.true))
+returns-in_err-pair_refusal c =
+    let e = c.in_err-pair_refusal.ensures ∙ ap (pair_refusal _ _) c.setting_of.ensures in
+    handed_on _ _ c.from_residual.ensures.1 (e ∙ sym (first_refusal_some _ _ (λ z. number_some _ (e ∙ z))))
 
 pub returns-then-not-search : goal.returns-then-not-search
 returns-then-not-search c =
