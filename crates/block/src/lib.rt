@@ -3,32 +3,30 @@
 #![tactic(auto)]
 
 ghost use Rattle.std.specs.Prelude.{◌≡◌};
+ghost use Rattle.refusals.specs.Numbers.{number_of, number_in};
 ghost use Rattle.search.specs.SearchResult.{refused_search};
 ghost use Rattle.block.specs.Block.{search_refusal, search_block};
 
 use frame::SearchBlock;
-use refusals::Request;
+use refusals::{Refusal, Request};
 use search::SearchResult;
 
-// The first of 1 2 3 4 51 5 6 7 that applies, or 0.
-pub fn search_refusal(older: usize, newer: usize, q: Request, y: usize, x: usize) -> u32
-    ensures { result ≡ search_refusal older newer q y x }
+// The first of 1 2 3 4 51 5 6 7 that applies, if one does.
+pub fn search_refusal(older: usize, newer: usize, q: Request, y: usize, x: usize) -> Result<(), Refusal>
+    ensures { number_in result ≡ search_refusal older newer q y x }
 {
-    let refusal = refusals::request_refusal(older, newer, q);
-    if refusal != 0 {
-        return refusal;
-    }
+    refusals::request_refusal(older, newer, q)?;
     if !refusals::place_ok(refusals::setting_of(q), y, x) {
-        return 7;
+        return Err(Refusal::Place);
     }
-    0
+    Ok(())
 }
 
-fn refused_search(refusal: u32) -> SearchResult
-    ensures { result ≡ refused_search refusal }
+fn refused_search(refusal: Refusal) -> SearchResult
+    ensures { result ≡ refused_search (number_of refusal) }
 {
     SearchResult {
-        refusal,
+        refusal: refusal.into(),
         dy: 0,
         dx: 0,
         distortion: 0,
@@ -41,8 +39,7 @@ fn refused_search(refusal: u32) -> SearchResult
 pub fn search_block(older: &[u8], newer: &[u8], q: Request, y: usize, x: usize) -> SearchResult
     ensures { result ≡ search_block older.now newer.now q y x }
 {
-    let refusal = search_refusal(older.len(), newer.len(), q, y, x);
-    if refusal != 0 {
+    if let Err(refusal) = search_refusal(older.len(), newer.len(), q, y, x) {
         return refused_search(refusal);
     }
     let b = SearchBlock {

@@ -3,25 +3,23 @@
 #![tactic(auto)]
 
 ghost use Rattle.std.specs.Prelude.{◌≡◌};
+ghost use Rattle.refusals.specs.Numbers.{number_in};
 ghost use Rattle.field_rules.specs.Rules.{field_refusal};
 
-use refusals::Request;
+use refusals::{Refusal, Request};
 
-// The first of 1 2 3 4 51 5 6 9 10 that applies, or 0; list and table by their lengths.
-pub fn field_refusal(older: usize, newer: usize, q: Request, list: usize, table: usize) -> u32
-    ensures { result ≡ field_refusal older newer q list table }
+// The first of 1 2 3 4 51 5 6 9 10 that applies, if one does; list and table by their lengths.
+pub fn field_refusal(older: usize, newer: usize, q: Request, list: usize, table: usize) -> Result<(), Refusal>
+    ensures { number_in result ≡ field_refusal older newer q list table }
 {
-    let refusal = refusals::request_refusal(older, newer, q);
-    if refusal != 0 {
-        return refusal;
-    }
+    refusals::request_refusal(older, newer, q)?;
     if q.search == 2 {
         if table < (q.height + 1) * (q.width + 1) {
-            return 9;
+            return Err(Refusal::Table);
         }
     }
     if list < 3 * frame::block_count(refusals::setting_of(q)) {
-        return 10;
+        return Err(Refusal::List);
     }
-    0
+    Ok(())
 }

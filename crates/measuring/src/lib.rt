@@ -6,11 +6,13 @@ ghost use Rattle.std.specs.Prelude.{◌≡◌, ◌+◌, ◌*◌, ◌≤◌, leng
 ghost use Rattle.order.specs.Vectors.{vec};
 ghost use Rattle.measures.specs.Measures.{measure_of};
 ghost use Rattle.frame.specs.Pictures.{pair_of};
+ghost use Rattle.refusals.specs.Numbers.{number_of};
 ghost use Rattle.distortion.specs.Blocks.{block_at, row_from, rows_from, BlockRows, Comparable};
 ghost use Rattle.measuring.specs.Measurement.{rows_measured, measurement};
 ghost use Rattle.measuring.specs.Measured.{answer_of, measure_vector, refused_by};
 
 use frame::Setting;
+use refusals::Refusal;
 
 // The distortion and the rows measured where it is at most the ceiling, else that it is over, and the rows.
 #[derive(Clone, Copy)]
@@ -86,11 +88,11 @@ fn measure_block(
 }
 
 // A refused answer: the number, and zeros.
-fn refused(refusal: u32) -> Measured
-    ensures { result ≡ refused_by refusal }
+fn refused(refusal: Refusal) -> Measured
+    ensures { result ≡ refused_by (number_of refusal) }
 {
     Measured {
-        refusal,
+        refusal: refusal.into(),
         distortion: 0,
         over: 0,
         rows: 0,
@@ -130,18 +132,17 @@ pub fn measure(
 ) -> Measured
     ensures { result ≡ measure_vector (pair_of older.now newer.now s) y x (vec dy dx) ceiling }
 {
-    let refusal = refusals::pair_refusal(older.len(), newer.len(), s);
-    if refusal != 0 {
+    if let Err(refusal) = refusals::pair_refusal(older.len(), newer.len(), s) {
         return refused(refusal);
     }
     if !measures::measure_ok(s.measure) {
-        return refused(51);
+        return refused(Refusal::Measure);
     }
     if !refusals::place_ok(s, y, x) {
-        return refused(7);
+        return refused(Refusal::Place);
     }
     let Some((r, c)) = frame::older_at(s, 16, y, x, dy, dx) else {
-        return refused(8);
+        return refused(Refusal::Vector);
     };
     answer_of(measure_block(older, newer, s, y, x, r, c, ceiling))
 }

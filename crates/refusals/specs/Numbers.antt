@@ -2,7 +2,8 @@
 --   number_of   the number of a refusal
 --   number_in   what a test that may refuse tells: its refusal's number, or 0 where it lets the call pass
 use Rattle.std.specs.Prelude.{ℕ, ◌≡◌, Result, Ok, Err, IsErrAnd}
-use Rattle.std.proofs.Common.{ap, ◌∙◌, arith}
+use Rattle.std.proofs.Common.{ap, sym, ◌∙◌, arith}
+use Rattle.refusals.specs.Refusals.{first_refusal, first_refusal_some}
 use Rattle.refusals.specs.declared.Refusal.{Refusal}
 use Rattle.refusals.specs.declared.Refusal.TheVariants.{Side, Length, BlockSize, Search, Window, Threshold, Place, Vector, Table, List, Homing, ViewSide, Entry, Buffer, NotHomed, NoStep, OutOfRange, Measure, NoVoter}
 
@@ -57,3 +58,8 @@ number_some NoStep e = omega arith
 number_some OutOfRange e = omega arith
 number_some Measure e = omega arith
 number_some NoVoter e = omega arith
+
+-- and so it does where it is the first of a chain
+pub handed_first : {A : Type 0} (r : Result A Refusal) (e : Refusal) {n : ℕ} (rest : ℕ) → IsErrAnd r (λ y. y ≡ e) → number_of e ≡ n
+    → number_in r ≡ first_refusal n rest
+handed_first r e rest i h = handed_on r e i (h ∙ sym (first_refusal_some _ rest (λ z. number_some e (h ∙ z))))

@@ -4,9 +4,11 @@
 
 ghost use Rattle.std.specs.Prelude.{◌≡◌, length};
 ghost use Rattle.frame.specs.Pictures.{pair_of};
+ghost use Rattle.refusals.specs.Numbers.{number_in};
 ghost use Rattle.view.specs.View.{view_refusal, view_place, row_view, part_start};
 
 use frame::Setting;
+use refusals::Refusal;
 
 // A row view as a place in its frame: where the part begins, and how many pels it has.
 #[repr(C)]
@@ -17,7 +19,7 @@ pub struct RowView {
     pub length: usize,
 }
 
-// The first of 1 2 3 12 7 that applies to a row view, or 0.
+// The first of 1 2 3 12 7 that applies to a row view, if one does.
 pub fn view_refusal(
     older: usize,
     newer: usize,
@@ -25,25 +27,22 @@ pub fn view_refusal(
     side: u32,
     row: usize,
     column: usize,
-) -> u32
-    ensures { result ≡ view_refusal older newer s side row column }
+) -> Result<(), Refusal>
+    ensures { number_in result ≡ view_refusal older newer s side row column }
 {
-    let refusal = refusals::pair_refusal(older, newer, s);
-    if refusal != 0 {
-        return refusal;
-    }
+    refusals::pair_refusal(older, newer, s)?;
     let rows = s.height;
     let last = s.width - s.n;
     if 1 < side {
-        return 12;
+        return Err(Refusal::ViewSide);
     }
     if rows <= row {
-        return 7; // no such row
+        return Err(Refusal::Place); // no such row
     }
     if last < column {
-        return 7; // the row ends before the N pels do
+        return Err(Refusal::Place); // the row ends before the N pels do
     }
-    0
+    Ok(())
 }
 
 // Where the pels of a row view stand in their frame.
@@ -57,10 +56,9 @@ pub fn view_place(
 ) -> RowView
     ensures { result ≡ view_place older newer s side row column }
 {
-    let refusal = view_refusal(older, newer, s, side, row, column);
-    if refusal != 0 {
+    if let Err(refusal) = view_refusal(older, newer, s, side, row, column) {
         return RowView {
-            refusal: refusal,
+            refusal: refusal.into(),
             place: 0,
             length: 0,
         };
@@ -94,7 +92,7 @@ pub fn row_view<'a>(
     &newer[at..end]
 }
 
-// The companion of the row view: the number by which it is refused, or 0.
+// The companion of the row view: why it is refused, if it is.
 pub fn row_view_refusal(
     older: &[u8],
     newer: &[u8],
@@ -102,8 +100,8 @@ pub fn row_view_refusal(
     side: u32,
     row: usize,
     column: usize,
-) -> u32
-    ensures { result ≡ view_refusal (length older.now) (length newer.now) s side row column }
+) -> Result<(), Refusal>
+    ensures { number_in result ≡ view_refusal (length older.now) (length newer.now) s side row column }
 {
     view_refusal(older.len(), newer.len(), s, side, row, column)
 }

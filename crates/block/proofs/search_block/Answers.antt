@@ -3,25 +3,26 @@ use mathlib.Core.Path.{◌≡◌, sym, ◌∙◌}
 use native.Mathlib.Omega.{arith}
 use lib.ListN.{length}
 use Rattle.refusals.specs.Refusals.{window_ok, setting_of, window_small}
+use Rattle.refusals.specs.Numbers.{number_some}
 use Rattle.frame.specs.Pictures.{pair_of}
 use Rattle.search.specs.Target.{Ready}
 use Rattle.block.specs.Block.{search_refusal, search_block, search_by, searched_full, searched_pruned}
 use Rattle.block.specs.Block.{searched_four_step, searched_cross, searchable, block_refused, block_accepted}
 use Rattle.block.proofs.search_block.Goals as goal
-use Rattle.block.proofs.search_block.Goals.{After-setting_of, Else-refusal-ne0}
+use Rattle.block.proofs.search_block.Goals.{After-setting_of, In_default}
 
 -- past the chain
-zero_is : (e : Else-refusal-ne0) →
+zero_is : (e : In_default) →
     let a = e.args in
     search_refusal (length a.older.now) (length a.newer.now) a.q a.y a.x ≡ 0
-zero_is e = sym e.search_refusal-refusal.ensures ∙ e.if-refusal-ne0.false
+zero_is e = sym e.in_default.ensures
 
 ready : (c : After-setting_of) →
     let a = c.args in
     Ready a.older.now a.newer.now (record { setting = c.setting_of.result; w = a.q.w; y = a.y; x = a.x })
 ready c =
     let s = searchable _ _ _ _ _ (let zero_is : let a = c.args in
-    search_refusal (length a.older.now) (length a.newer.now) a.q a.y a.x ≡ 0 = sym c.search_refusal-refusal.ensures ∙ c.if-refusal-ne0.false in zero_is) in
+    search_refusal (length a.older.now) (length a.newer.now) a.q a.y a.x ≡ 0 = sym c.in_default.ensures in zero_is) in
     record { placed = rw c.setting_of.ensures s.placed; window = window_small _ _ s.requested.window }
 
 accepted : (c : After-setting_of) →
@@ -29,12 +30,12 @@ accepted : (c : After-setting_of) →
     search_block a.older.now a.newer.now a.q a.y a.x
     ≡ search_by (pair_of a.older.now a.newer.now (setting_of a.q)) a.q a.y a.x
 accepted c = block_accepted _ _ _ _ _ (let zero_is : let a = c.args in
-    search_refusal (length a.older.now) (length a.newer.now) a.q a.y a.x ≡ 0 = sym c.search_refusal-refusal.ensures ∙ c.if-refusal-ne0.false in zero_is)
+    search_refusal (length a.older.now) (length a.newer.now) a.q a.y a.x ≡ 0 = sym c.in_default.ensures in zero_is)
 
-pub returns-then-refusal-ne0 : goal.returns-then-refusal-ne0
-returns-then-refusal-ne0 c =
-    let r = c.search_refusal-refusal.ensures in
-    c.refused_search.ensures ∙ rw r (sym (block_refused _ _ _ _ _ (λ e. c.if-refusal-ne0.true (r ∙ e))))
+pub returns-in-Err : goal.returns-in-Err
+returns-in-Err c =
+    let r = c.in-Err.ensures in
+    c.refused_search.ensures ∙ rw r (sym (block_refused _ _ _ _ _ (λ e. number_some c.in-Err.refusal (r ∙ e))))
 
 pub search-requires : goal.search-requires
 search-requires c = ready (goal.at.search-requires c).After-setting_of
@@ -46,7 +47,7 @@ returns-then-q-eq3 c =
 pub search-requires-then-q-eq4 : goal.search-requires-then-q-eq4
 unfolding window_ok
 search-requires-then-q-eq4 c =
-    (ready (goal.at.search-requires-then-q-eq4 c).After-setting_of, rw c.if-q-eq4.true at (searchable _ _ _ _ _ (zero_is (goal.at.search-requires-then-q-eq4 c).Else-refusal-ne0)).requested.window)
+    (ready (goal.at.search-requires-then-q-eq4 c).After-setting_of, rw c.if-q-eq4.true at (searchable _ _ _ _ _ (zero_is (goal.at.search-requires-then-q-eq4 c).In_default)).requested.window)
 
 pub returns-then-q-eq4 : goal.returns-then-q-eq4
 returns-then-q-eq4 c =
@@ -64,7 +65,7 @@ search-requires-2 c = ready (goal.at.search-requires-2 c).After-setting_of
 
 pub returns : goal.returns
 returns c =
-    let a = (searchable _ _ _ _ _ (zero_is (goal.at.returns c).Else-refusal-ne0)).requested in
+    let a = (searchable _ _ _ _ _ (zero_is (goal.at.returns c).In_default)).requested in
     let q = c.args.q in
     let one : q.search ≡ 1 = omega (
       arith,

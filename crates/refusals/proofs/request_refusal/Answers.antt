@@ -2,9 +2,9 @@
 use mathlib.Core.Path.{◌≡◌, ap, sym, ◌∙◌}
 use Rattle.base.specs.Tests.{told}
 use Rattle.measures.specs.Measures.{measure_ok}
-use Rattle.refusals.specs.Refusals.{unless, search_ok, window_ok, threshold_ok, pair_refusal, request_refusal, first_refusal_some, first_refusal_none}
+use Rattle.refusals.specs.Refusals.{unless, search_ok, window_ok, threshold_ok, pair_refusal, request_refusal, first_refusal_none}
 use Rattle.refusals.proofs.request_refusal.Goals as goal
-use Rattle.refusals.specs.Numbers.{number_some, handed_on}
+use Rattle.refusals.specs.Numbers.{handed_first}
 use Rattle.refusals.proofs.request_refusal.Goals.{After-threshold_ok-threshold, In_ok-pair_refusal}
 
 -- past the pair's chain, the rest of the chain
@@ -35,8 +35,7 @@ measured t = t.measure_ok-measure.ensures
 pub returns-in_err-pair_refusal : goal.returns-in_err-pair_refusal
 unfolding request_refusal
 returns-in_err-pair_refusal c =
-    let e = c.in_err-pair_refusal.ensures ∙ ap (pair_refusal _ _) c.setting_of.ensures in
-    handed_on _ _ c.from_residual.ensures.1 (e ∙ sym (first_refusal_some _ _ (λ z. number_some _ (e ∙ z))))
+    handed_first _ _ _ c.from_residual.ensures.1 (c.in_err-pair_refusal.ensures ∙ ap (pair_refusal _ _) c.setting_of.ensures)
 
 pub returns-then-not-search : goal.returns-then-not-search
 returns-then-not-search c =
