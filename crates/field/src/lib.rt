@@ -7,6 +7,7 @@ ghost use Rattle.order.specs.Vectors.{vector_count};
 ghost use Rattle.frame.specs.Pictures.{pair_of};
 ghost use Rattle.frame.specs.Grid.{blocks};
 ghost use Rattle.refusals.specs.Refusals.{request_refusal, setting_of};
+ghost use Rattle.refusals.specs.Numbers.{number_of};
 ghost use Rattle.pruned_sums.specs.Filling.{whole_frame};
 ghost use Rattle.voter.specs.Voter.{voting};
 ghost use Rattle.field_rules.specs.Rules.{list_size, HasRoom};
@@ -17,7 +18,7 @@ ghost use Rattle.field.specs.Filling.{Summable, BlocksFilled};
 use field_block::Total;
 use frame::Region;
 use order::Vector;
-use refusals::Request;
+use refusals::{Refusal, Request};
 
 // What a field call answers: the reading with its votes and the voters, and the counts and the number dropped, summed over the blocks.
 #[repr(C)]
@@ -32,11 +33,11 @@ pub struct FieldAnswer {
     pub dropped: u32,
 }
 
-pub fn refused_field(refusal: u32) -> FieldAnswer
-    ensures { result ≡ refused_field refusal }
+pub fn refused_field(refusal: Refusal) -> FieldAnswer
+    ensures { result ≡ refused_field (number_of refusal) }
 {
     FieldAnswer {
-        refusal,
+        refusal: refusal.into(),
         dy: 0,
         dx: 0,
         votes: 0,
@@ -135,8 +136,9 @@ pub fn field(
     ensures { field_result result list.new table.new
         ≡ field older.now newer.now q list.old table.old }
 {
-    let refusal = field_rules::field_refusal(older.len(), newer.len(), q, list.len(), table.len());
-    if refusal != 0 {
+    if let Err(refusal) =
+        field_rules::field_refusal(older.len(), newer.len(), q, list.len(), table.len())
+    {
         return refused_field(refusal);
     }
     fill(older, newer, q, list, table)

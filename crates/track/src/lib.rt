@@ -4,12 +4,13 @@
 
 ghost use Rattle.std.specs.Prelude.{◌≡◌, T};
 ghost use Rattle.order.specs.Vectors.{vec, Within};
+ghost use Rattle.refusals.specs.Numbers.{number_of, number_in};
 ghost use Rattle.track_rules.specs.Rules.{may_step};
 ghost use Rattle.track.specs.Track.{track_new, track_home, step_refusal, unmoved, arrived, step_result, track_step};
 
 use field::FieldAnswer;
 use recent::Recent;
-use refusals::Request;
+use refusals::{Refusal, Request};
 
 // Homed or not, the place, the steps since it was homed, and the last 64 travels.
 #[repr(C)]
@@ -39,8 +40,8 @@ pub struct Stepped {
 }
 
 // A refused step: the number, zeros and the old track.
-fn unmoved(refusal: u32, t: Track) -> Stepped
-    ensures { result ≡ unmoved refusal t }
+fn unmoved(refusal: Refusal, t: Track) -> Stepped
+    ensures { result ≡ unmoved (number_of refusal) t }
 {
     Stepped {
         answer: field::refused_field(refusal),
@@ -66,10 +67,9 @@ impl Track {
     pub fn home(self, y: i32, x: i32) -> Homed
         ensures { result ≡ track_home self y x }
     {
-        let refusal = track_rules::home_refusal(y, x);
-        if refusal != 0 {
+        if let Err(refusal) = track_rules::home_refusal(y, x) {
             return Homed {
-                refusal,
+                refusal: refusal.into(),
                 track: self,
             };
         }
@@ -93,13 +93,10 @@ impl Track {
         q: Request,
         list: usize,
         table: usize,
-    ) -> u32
-        ensures { result ≡ step_refusal self older newer q list table }
+    ) -> Result<(), Refusal>
+        ensures { number_in result ≡ step_refusal self older newer q list table }
     {
-        let refusal = field_rules::field_refusal(older, newer, q, list, table);
-        if refusal != 0 {
-            return refusal;
-        }
+        field_rules::field_refusal(older, newer, q, list, table)?;
         let travels = self.recent;
         track_rules::state_refusal(self.homed, self.steps, travels)
     }
@@ -109,19 +106,22 @@ impl Track {
         requires { T (may_step self.steps self.recent) × Within 16 (vec a.dy a.dx) }
         ensures { result ≡ arrived self a }
     {
-        let place = track_rules::arrive(self.y, self.x, a.dy, a.dx, a.voters);
-        if place.refusal != 0 {
-            return unmoved(place.refusal, self);
-        }
         let travels = self.recent;
-        Stepped {
-            answer: a,
-            track: Track {
-                homed: true,
-                y: place.y,
-                x: place.x,
-                steps: self.steps + 1,
-                recent: recent::recent_more(travels, signed::negated(a.dy), signed::negated(a.dx)),
+        match track_rules::arrive(self.y, self.x, a.dy, a.dx, a.voters) {
+            Err(refusal) => unmoved(refusal, self),
+            Ok((row, column)) => Stepped {
+                answer: a,
+                track: Track {
+                    homed: true,
+                    y: row,
+                    x: column,
+                    steps: self.steps + 1,
+                    recent: recent::recent_more(
+                        travels,
+                        signed::negated(a.dy),
+                        signed::negated(a.dx),
+                    ),
+                },
             },
         }
     }
@@ -138,8 +138,9 @@ impl Track {
         ensures { step_result result list.new table.new
             ≡ track_step self older.now newer.now q list.old table.old }
     {
-        let refusal = self.step_refusal(older.len(), newer.len(), q, list.len(), table.len());
-        if refusal != 0 {
+        if let Err(refusal) =
+            self.step_refusal(older.len(), newer.len(), q, list.len(), table.len())
+        {
             return unmoved(refusal, self);
         }
         let answer = field::field(older, newer, q, list, table);

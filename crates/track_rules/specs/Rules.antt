@@ -6,11 +6,12 @@
 --   may_step       no 32: fewer than 1,000,000 steps, and none of the three faults
 --   state_refusal  31 32, of a track that is to step
 --   arrive        the place after a travel, or 52 or 33
-use Rattle.std.specs.Prelude.{ℕ, Bool, cond, not, ◌&&◌, leb, eqb, ℤ, pos, nat_abs, neg_ℤ, ◌+ℤ◌}
+use Rattle.std.specs.Prelude.{ℕ, Bool, cond, not, ◌&&◌, leb, eqb, ℤ, pos, nat_abs, neg_ℤ, ◌+ℤ◌, Result, Ok, Err}
 use Rattle.refusals.specs.Refusals.{unless}
 use Rattle.recent.specs.declared.Recent.{Recent}
 use Rattle.recent.specs.Recent.{recent_ok}
-use Rattle.track_rules.specs.declared.Arrival.{Arrival}
+use Rattle.refusals.specs.declared.Refusal.{Refusal}
+use Rattle.refusals.specs.Numbers.{number_of}
 
 abbrev pub in_range : ℤ → Bool
 in_range z = leb (nat_abs z) 1000000
@@ -30,8 +31,19 @@ state_refusal homed steps recent = unless homed 31 (unless (may_step steps recen
 abbrev pub arrival_refusal : ℕ → ℤ → ℤ → ℕ
 arrival_refusal voters y x = unless (not (eqb voters 0)) 52 (unless (in_range y && in_range x) 33 0)
 
+-- the place after a travel, or 52 or 33 and zeros
+pub record Arrival : Type 0 where
+  pub refusal : ℕ
+  pub y : ℤ
+  pub x : ℤ
+
 abbrev pub refused_arrival : ℕ → Arrival
 refused_arrival refusal = record { refusal = refusal; y = pos 0; x = pos 0 }
+
+-- the same of what the code answers
+abbrev pub arrival_of : Result (ℤ × ℤ) Refusal → Arrival
+arrival_of (Ok place) = record { refusal = 0; y = place.0; x = place.1 }
+arrival_of (Err r) = refused_arrival (number_of r)
 
 unfoldable pub arrive : (y x dy dx : ℤ) (voters : ℕ) → Arrival
 arrive y x dy dx voters =

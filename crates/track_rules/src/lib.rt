@@ -3,73 +3,49 @@
 #![tactic(auto)]
 
 ghost use Rattle.std.specs.Prelude.{◌≡◌};
-ghost use Rattle.track_rules.specs.Rules.{home_refusal, state_refusal, refused_arrival, arrive};
+ghost use Rattle.refusals.specs.Numbers.{number_in};
+ghost use Rattle.track_rules.specs.Rules.{home_refusal, state_refusal, arrival_of, arrive};
 
 use recent::Recent;
+use refusals::Refusal;
 
-// The place after a travel, or 52 or 33 and zeros.
-#[derive(Clone, Copy)]
-pub struct Arrival {
-    pub refusal: u32,
-    pub y: i32,
-    pub x: i32,
-}
-
-// 11 where (y, x) is no homing place, else 0.
-pub fn home_refusal(y: i32, x: i32) -> u32
-    ensures { result ≡ home_refusal y x }
+// 11 where (y, x) is no homing place.
+pub fn home_refusal(y: i32, x: i32) -> Result<(), Refusal>
+    ensures { number_in result ≡ home_refusal y x }
 {
     if !signed::within(y, 1000000) {
-        return 11;
+        return Err(Refusal::Homing);
     }
     if !signed::within(x, 1000000) {
-        return 11;
+        return Err(Refusal::Homing);
     }
-    0
+    Ok(())
 }
 
-// 31 or 32 where a track in this state may not step, else 0.
-pub fn state_refusal(homed: bool, steps: u32, travels: Recent) -> u32
-    ensures { result ≡ state_refusal homed steps travels }
+// 31 or 32 where a track in this state may not step.
+pub fn state_refusal(homed: bool, steps: u32, travels: Recent) -> Result<(), Refusal>
+    ensures { number_in result ≡ state_refusal homed steps travels }
 {
     if !homed {
-        return 31;
+        return Err(Refusal::NotHomed);
     }
     if 1000000 <= steps {
-        return 32; // the steps have ended
+        return Err(Refusal::NoStep); // the steps have ended
     }
     if !recent::recent_ok(travels) {
-        return 32; // a fault in the travels held
+        return Err(Refusal::NoStep); // a fault in the travels held
     }
-    0
+    Ok(())
 }
 
-fn refused_arrival(refusal: u32) -> Arrival
-    ensures { result ≡ refused_arrival refusal }
-{
-    Arrival {
-        refusal,
-        y: 0,
-        x: 0,
-    }
-}
-
-// The reverse of the reading (dy, dx) of so many voters, added to the place (y, x).
-pub fn arrive(y: i32, x: i32, dy: i32, dx: i32, voters: u32) -> Arrival
-    ensures { result ≡ arrive y x dy dx voters }
+// The reverse of the reading (dy, dx) of so many voters, added to the place (y, x); or 52, or 33 where a part would leave its range.
+pub fn arrive(y: i32, x: i32, dy: i32, dx: i32, voters: u32) -> Result<(i32, i32), Refusal>
+    ensures { arrival_of result ≡ arrive y x dy dx voters }
 {
     if voters == 0 {
-        return refused_arrival(52); // no block votes
+        return Err(Refusal::NoVoter);
     }
-    let Some(row) = signed::minus_travel(y, dy) else {
-        return refused_arrival(33); // y would leave its range
-    };
-    let Some(column) = signed::minus_travel(x, dx) else {
-        return refused_arrival(33); // x would leave its range
-    };
-    Arrival {
-        refusal: 0,
-        y: row,
-        x: column,
-    }
+    let row = signed::minus_travel(y, dy).ok_or(Refusal::OutOfRange)?;
+    let column = signed::minus_travel(x, dx).ok_or(Refusal::OutOfRange)?;
+    Ok((row, column))
 }

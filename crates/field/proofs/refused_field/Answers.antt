@@ -2,4 +2,4 @@
 use Rattle.field.proofs.refused_field.Goals as goal
 
 pub returns : goal.returns
-returns c = rw c.only_at_one.ensures
+returns c = rw (c.into.ensures, c.only_at_one.ensures)

@@ -1,5 +1,5 @@
 -- `view_place`: where the chain is 0, the N pels end inside the frame, so the place is small.
-use mathlib.Core.Path.{sym, ◌∙◌}
+use mathlib.Core.Path.{sym}
 use native.Mathlib.Omega.{arith}
 use borrow.Author.Tests.{ne_eqb}
 use Rattle.frame.specs.Pictures.{pels_few}

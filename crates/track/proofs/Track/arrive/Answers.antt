@@ -1,9 +1,9 @@
 -- `arrive`: the place after the travel, and that travel held; or 52 or 33 and the old track.
 use Prim.Native.Nat.{◌+◌, ◌<◌}
-use mathlib.Core.Path.{◌≡◌, ap, ◌∙◌}
+use mathlib.Core.Path.{◌≡◌, refl, ap, ◌∙◌}
 use mathlib.Core.Bool.{true, not}
 use native.Mathlib.Omega.{arith}
-use borrow.Author.Rules.{sfits_of}
+use borrow.Author.Rules.{rules, sfits_of}
 use borrow.Author.Tests.{ne_eqb, not-true, leb-false}
 use lib.Dec.{T, leb}
 use lib.IntN.{neg_ℤ}
@@ -13,13 +13,13 @@ use mir.Facts.{to_z-of_z}
 use Rattle.base.specs.Tests.{and_left, and_right, T_true}
 use Rattle.order.specs.Vectors.{turned_within}
 use Rattle.recent.specs.Recent.{recent_ok, recent_more}
-use Rattle.track_rules.specs.declared.Arrival.{Arrival}
 use Rattle.field.specs.declared.FieldAnswer.{FieldAnswer}
 use Rattle.track.specs.declared.Track.{Track}
-use Rattle.track_rules.specs.Rules.{may_step, arrival_refusal, arrive}
+use Rattle.refusals.specs.Numbers.{number_of, number_some}
+use Rattle.track_rules.specs.Rules.{may_step, arrival_refusal, Arrival, refused_arrival, arrive}
 use Rattle.track.specs.Track.{moved_to, unmoved, travel_of, arrived}
 use Rattle.track.proofs.Track.arrive.Goals as goal
-use Rattle.track.proofs.Track.arrive.Goals.{After-arrive-place, After-negated, After-negated-2, After-recent_more, After-struct_told-5-1, After-struct_told-6-1}
+use Rattle.track.proofs.Track.arrive.Goals.{In-Err, In-Ok, After-negated, After-negated-in-Ok, After-recent_more}
 
 -- the rules' answer, as the track's
 module _ (t : Track) (a : FieldAnswer) (r : Arrival) (e : r ≡ arrive t.y t.x a.dy a.dx a.voters) where
@@ -47,8 +47,19 @@ may-step t h =
     let b = recent_ok t.recent in
     (leb-false 1000000 t.steps (not-true (leb 1000000 t.steps) (T_true a (and_left a b h))), and_right a b h)
 
--- the parts come back from their bits unchanged
-place_is : (c : After-arrive-place) → let a = c.args in c.arrive-place.result ≡ arrive a.self.y a.self.x a.a.dy a.a.dx a.a.voters
+-- the rules' answer, of parts that come back from their bits unchanged
+refused_is : (c : In-Err) → let a = c.args in refused_arrival (number_of c.in-Err.refusal) ≡ arrive a.self.y a.self.x a.a.dy a.a.dx a.a.voters
+refused_is c =
+    rw (
+      to_z-of_z {z = c.args.self.y} (sfits_of {w = w32} c.struct_told-1.given.1.0.1),
+      to_z-of_z {z = c.args.self.x} (sfits_of {w = w32} c.struct_told-2-1.given.1.1.0.1),
+      to_z-of_z {z = c.args.a.dy} (sfits_of {w = w32} c.struct_told-3-1.given.1.0.1),
+      to_z-of_z {z = c.args.a.dx} (sfits_of {w = w32} c.struct_told-4-1.given.1.1.0.1),
+    )
+    at c.in-Err.ensures
+
+place_is : (c : In-Ok) → let a = c.args in
+    record { refusal = 0; y = c.in-Ok.row; x = c.in-Ok.column } ≡ arrive a.self.y a.self.x a.a.dy a.a.dx a.a.voters
 place_is c =
     rw (
       to_z-of_z {z = c.args.self.y} (sfits_of {w = w32} c.struct_told-1.given.1.0.1),
@@ -56,35 +67,28 @@ place_is c =
       to_z-of_z {z = c.args.a.dy} (sfits_of {w = w32} c.struct_told-3-1.given.1.0.1),
       to_z-of_z {z = c.args.a.dx} (sfits_of {w = w32} c.struct_told-4-1.given.1.1.0.1),
     )
-    at c.arrive-place.ensures
+    at c.in-Ok.ensures
 
-pub returns-then-place-ne0 : goal.returns-then-place-ne0
-returns-then-place-ne0 c =
-    c.unmoved.ensures ∙ arrived-no _ _ _ (place_is (goal.at.returns-then-place-ne0 c).After-arrive-place) c.if-place-ne0.true
+pub returns-in-Err : goal.returns-in-Err
+returns-in-Err c =
+    c.unmoved.ensures ∙ arrived-no _ _ _ (refused_is (goal.at.returns-in-Err c).In-Err) (number_some c.in-Err.refusal)
 
 pub overflow_add-result : goal.overflow_add-result
 overflow_add-result c =
     omega (arith, (may-step c.args.self c.requires.0).0)
 
--- a part of the reading comes back from its bits unchanged
-down_is : (c : After-struct_told-5-1) → let a = c.args.a in to_z w32 (of_z w32 a.dy) ≡ a.dy
-down_is c = to_z-of_z (sfits_of {w = w32} c.struct_told-5-1.given.1.0.1)
+-- a part of the travel comes back from its bits unchanged: it is that of the reading, which does too, turned
+dy-is : (c : After-negated) → to_z w32 (of_z w32 c.negated.result) ≡ neg_ℤ c.args.a.dy
+dy-is c = to_z-of_z (sfits_of {w = w32} c.negated.type_inv) ∙ c.negated.ensures ∙ ap neg_ℤ (to_z-of_z (sfits_of {w = w32} c.struct_told-in-Ok-1.given.1.0.1))
 
-across-is : (c : After-struct_told-6-1) → let a = c.args.a in to_z w32 (of_z w32 a.dx) ≡ a.dx
-across-is c = to_z-of_z (sfits_of {w = w32} c.struct_told-6-1.given.1.1.0.1)
+dx-is : (c : After-negated-in-Ok) → to_z w32 (of_z w32 c.negated-in-Ok.result) ≡ neg_ℤ c.args.a.dx
+dx-is c = to_z-of_z (sfits_of {w = w32} c.negated-in-Ok.type_inv) ∙ c.negated-in-Ok.ensures ∙ ap neg_ℤ (to_z-of_z (sfits_of {w = w32} c.struct_told-in-Ok-2-1.given.1.1.0.1))
 
 pub negated-requires : goal.negated-requires
-negated-requires c = rw (down_is c) (omega (arith, c.requires.1.down))
+negated-requires c = rw (to_z-of_z (sfits_of {w = w32} c.struct_told-in-Ok-1.given.1.0.1)) (omega (arith, c.requires.1.down))
 
-pub negated-requires-2 : goal.negated-requires-2
-negated-requires-2 c = rw (across-is c) (omega (arith, c.requires.1.across))
-
--- and so does a part of the travel, which is that one turned
-dy-is : (c : After-negated) → to_z w32 (of_z w32 c.negated.result) ≡ neg_ℤ c.args.a.dy
-dy-is c = to_z-of_z (sfits_of {w = w32} c.negated.type_inv) ∙ c.negated.ensures ∙ ap neg_ℤ (let down_is : let a = c.args.a in to_z w32 (of_z w32 a.dy) ≡ a.dy = to_z-of_z (sfits_of {w = w32} c.struct_told-5-1.given.1.0.1) in down_is)
-
-dx-is : (c : After-negated-2) → to_z w32 (of_z w32 c.negated-2.result) ≡ neg_ℤ c.args.a.dx
-dx-is c = to_z-of_z (sfits_of {w = w32} c.negated-2.type_inv) ∙ c.negated-2.ensures ∙ ap neg_ℤ (let across-is : let a = c.args.a in to_z w32 (of_z w32 a.dx) ≡ a.dx = to_z-of_z (sfits_of {w = w32} c.struct_told-6-1.given.1.1.0.1) in across-is)
+pub negated-requires-in-Ok : goal.negated-requires-in-Ok
+negated-requires-in-Ok c = rw (to_z-of_z (sfits_of {w = w32} c.struct_told-in-Ok-2-1.given.1.1.0.1)) (omega (arith, c.requires.1.across))
 
 pub recent_more-requires : goal.recent_more-requires
 recent_more-requires c =
@@ -93,13 +97,18 @@ recent_more-requires c =
 recent-is : (c : After-recent_more) →
     let a = c.args in
     c.recent_more.result ≡ recent_more a.self.recent (travel_of a.a)
-recent-is c = rw ((let dy-is : to_z w32 (of_z w32 c.negated.result) ≡ neg_ℤ c.args.a.dy = to_z-of_z (sfits_of {w = w32} c.negated.type_inv) ∙ c.negated.ensures ∙ ap neg_ℤ (let down_is : let a = c.args.a in to_z w32 (of_z w32 a.dy) ≡ a.dy = to_z-of_z (sfits_of {w = w32} c.struct_told-5-1.given.1.0.1) in down_is) in dy-is), (let dx-is : to_z w32 (of_z w32 c.negated-2.result) ≡ neg_ℤ c.args.a.dx = to_z-of_z (sfits_of {w = w32} c.negated-2.type_inv) ∙ c.negated-2.ensures ∙ ap neg_ℤ (let across-is : let a = c.args.a in to_z w32 (of_z w32 a.dx) ≡ a.dx = to_z-of_z (sfits_of {w = w32} c.struct_told-6-1.given.1.1.0.1) in across-is) in dx-is)) at c.recent_more.ensures
-
-pub returns : goal.returns
-returns c =
+recent-is c =
     rw (
-      to_z-of_z {z = c.arrive-place.result.y} (sfits_of {w = w32} c.struct_told-7-1.given.1.0.1),
-      to_z-of_z {z = c.arrive-place.result.x} (sfits_of {w = w32} c.struct_told-7-1.given.1.1.0.1),
-      recent-is (goal.at.returns c).After-recent_more,
+      to_z-of_z (sfits_of {w = w32} c.negated.type_inv) ∙ c.negated.ensures ∙ ap neg_ℤ (to_z-of_z {z = c.args.a.dy} (sfits_of {w = w32} c.struct_told-in-Ok-1.given.1.0.1)),
+      to_z-of_z (sfits_of {w = w32} c.negated-in-Ok.type_inv) ∙ c.negated-in-Ok.ensures ∙ ap neg_ℤ (to_z-of_z {z = c.args.a.dx} (sfits_of {w = w32} c.struct_told-in-Ok-2-1.given.1.1.0.1)),
     )
-    (arrived-yes _ _ _ (place_is (goal.at.returns c).After-arrive-place) c.if-place-ne0.false)
+    at c.recent_more.ensures
+
+pub returns-in-Ok : goal.returns-in-Ok
+returns-in-Ok c =
+    rw (
+      to_z-of_z {w = w32} {z = c.in-Ok.row} (search rules),
+      to_z-of_z {w = w32} {z = c.in-Ok.column} (search rules),
+      recent-is (goal.at.returns-in-Ok c).After-recent_more,
+    )
+    (arrived-yes _ _ _ (place_is (goal.at.returns-in-Ok c).In-Ok) refl)

@@ -5,6 +5,7 @@ use mathlib.Core.List.{List}
 use lib.Dec.{T}
 use lib.IntN.{ℤ}
 use Rattle.refusals.specs.declared.Request.{Request}
+use Rattle.refusals.specs.Numbers.{number_some}
 use Rattle.refusals.specs.Refusals.{unless_zero, first_refusal_zero}
 use Rattle.field.specs.declared.FieldAnswer.{FieldAnswer}
 use Rattle.field_rules.specs.Rules.{field_refusal}
@@ -15,7 +16,7 @@ use Rattle.track.specs.declared.Track.{Track}
 use Rattle.track.specs.declared.Stepped.{Stepped}
 use Rattle.track.specs.Track.{step_refusal, step_refusal_is, unmoved, step_result, arrived, landed, track_step, step_refused, step_landed}
 use Rattle.track.proofs.Track.step.Goals as goal
-use Rattle.track.proofs.Track.step.Goals.{Else-refusal-ne0}
+use Rattle.track.proofs.Track.step.Goals.{In_default}
 
 -- no 32
 may-step : (t : Track) (older newer : ℕ) (q : Request) (list table : ℕ) → step_refusal t older newer q list table ≡ 0 → T (may_step t.steps t.recent)
@@ -40,20 +41,19 @@ module _ (t : Track) (older newer : List ℕ) (q : Request) (list : List ℤ) (t
       ap (λ (u : Stepped). step_result u filled sums) e ∙ ap (landed t) f ∙ sym (step_landed t older newer q list table z)
 
 -- past the chain
-zero_is : (e : Else-refusal-ne0) →
+zero_is : (e : In_default) →
     let a = e.args in
     step_refusal_is a.self a.older.now a.newer.now a.q a.list.now a.table.now ≡ 0
-zero_is e = sym e.step_refusal-refusal.ensures ∙ e.if-refusal-ne0.false
+zero_is e = sym e.in_default.ensures
 
-pub returns-then-refusal-ne0 : goal.returns-then-refusal-ne0
-returns-then-refusal-ne0 c =
-    stops _ _ _ _ _ _ _ _ c.step_refusal-refusal.ensures c.if-refusal-ne0.true c.unmoved.ensures
+pub returns-in-Err : goal.returns-in-Err
+returns-in-Err c = stops _ _ _ _ _ _ _ _ c.in-Err.ensures (number_some c.in-Err.refusal) c.unmoved.ensures
 
 pub arrive-requires : goal.arrive-requires
 arrive-requires c =
-    let z = zero_is (goal.at.arrive-requires c).Else-refusal-ne0 in
+    let z = zero_is (goal.at.arrive-requires c).In_default in
     (may-step _ _ _ _ _ _ z, subst Reads (sym c.field-answer.ensures) (reading_within _ _ _ _ _))
 
 pub returns : goal.returns
 returns c =
-    arrives _ _ _ _ _ _ _ _ _ _ (zero_is (goal.at.returns c).Else-refusal-ne0) c.field-answer.ensures c.arrive.ensures
+    arrives _ _ _ _ _ _ _ _ _ _ (zero_is (goal.at.returns c).In_default) c.field-answer.ensures c.arrive.ensures
