@@ -66,10 +66,8 @@ fn value_row(
         × (length frame.now ≤ 1048576) }
     ensures { half.new ≡ fill_to half.old at (λ j. value_from frame.now width down across (from + j)) n }
 {
-    let mut j: usize = 0;
-    while j < n {
+    for j in 0..n {
         half[at + j] = value(frame, width, down, across, from + j);
-        j += 1;
     }
 }
 
@@ -80,12 +78,10 @@ pub fn half_block(frame: &[u8], s: Setting, p: usize, q: usize, half: &mut [u8])
 {
     let mut from = p / 2 * s.width + q / 2;
     let mut at: usize = 0;
-    let mut i: usize = 0;
-    while i < s.n {
+    for _i in 0..s.n {
         value_row(frame, s.width, p % 2 == 1, q % 2 == 1, from, s.n, half, at);
         from += s.width;
         at += ROW;
-        i += 1;
     }
 }
 

@@ -26,14 +26,13 @@ overflow_add-from c = omega (arith, first (goal.at.overflow_add-from c).Start, f
 
 pub loop-i-init : goal.loop-i-init
 loop-i-init c =
-    (omega arith, omega (arith, zero-mul c.args.s.width), omega arith, stored_none _ _ _ _ _, c.requires.1)
+    (omega (arith, zero-mul c.args.s.width), omega arith, stored_none _ _ _ _ _, c.requires.1)
 
 pub value_row-requires : goal.value_row-requires
 value_row-requires c =
-    let i = c.loop-i.i in
-    let h = c.loop-i-test.true in (
-      omega (arith, half_room _ _ _ _ c.requires.0 i h),
-      omega (arith, c.requires.0.small, h),
+    let i = c.loop-i.i in (
+      omega (arith, half_room _ _ _ _ c.requires.0 i (omega arith)),
+      omega (arith, c.requires.0.small),
       omega arith,
       c.requires.0.fitting.wide,
       few (goal.at.value_row-requires c).Start,
@@ -41,33 +40,26 @@ value_row-requires c =
 
 pub overflow_add-from-in-loop-i : goal.overflow_add-from-in-loop-i
 overflow_add-from-in-loop-i c =
-    omega (arith, half_room _ _ _ _ c.requires.0 c.loop-i.i c.loop-i-test.true, few (goal.at.overflow_add-from-in-loop-i c).Start, c.requires.0.fitting.wide)
+    omega (arith, half_room _ _ _ _ c.requires.0 c.loop-i.i (omega arith), few (goal.at.overflow_add-from-in-loop-i c).Start, c.requires.0.fitting.wide)
 
 pub overflow_add-at : goal.overflow_add-at
-overflow_add-at c = omega (arith, c.requires.0.small, c.loop-i-test.true)
-
-pub overflow_add-i : goal.overflow_add-i
-overflow_add-i c = omega (arith, c.requires.0.small, c.loop-i-test.true)
-
-pub loop-i-smaller : goal.loop-i-smaller
-loop-i-smaller c = omega (arith, c.loop-i-test.true)
+overflow_add-at c = omega (arith, c.requires.0.small)
 
 pub loop-i-preserved : goal.loop-i-preserved
 loop-i-preserved c =
     let l = c.loop-i in
     let a = c.args in (
-      omega (arith, c.loop-i-test.true),
       omega (arith, row_next l.i a.s.width),
       omega arith,
       c.value_row.ensures
-          ∙ rw (l.invariant.1, l.invariant.2, l.invariant.3) (half_more a.frame.now a.s.width a.p a.q a.s.n a.half.now l.i),
-      c.value_row.auto.half ∙ l.invariant.4,
+          ∙ rw (l.invariant.0, l.invariant.1, l.invariant.2) (half_more a.frame.now a.s.width a.p a.q a.s.n a.half.now l.i),
+      c.value_row.auto.half ∙ l.invariant.3,
     )
 
 pub shape_of-half : goal.shape_of-half
-shape_of-half c = omega (arith, c.loop-i.invariant.4, c.requires.1)
+shape_of-half c = omega (arith, c.loop-i.invariant.3, c.requires.1)
 
 pub returns : goal.returns
 returns c =
-    let e : c.loop-i.i ≡ c.args.s.n = omega (arith, c.loop-i-test.false) in
-    rw e at c.loop-i.invariant.3
+    let e : c.loop-i.i ≡ c.args.s.n = omega arith in
+    rw e at c.loop-i.invariant.2
