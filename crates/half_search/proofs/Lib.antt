@@ -1,3 +1,4 @@
 pub mod Best
 pub mod Leading
 pub mod Answer
+mod Neighbours

@@ -2,12 +2,12 @@
 
 #![tactic(auto)]
 
-ghost use Rattle.std.specs.Prelude.{◌≡◌, ◌≤◌, ◌<◌};
+ghost use Rattle.std.specs.Prelude.{◌≡◌, ◌≤◌};
 ghost use Rattle.signed.specs.Values.{unbias};
 ghost use Rattle.frame.specs.Pictures.{pair_of};
 ghost use Rattle.half_pel.specs.HalfPel.{half_inside};
-ghost use Rattle.half_search.specs.Half.{neighbour_count, neighbour, refined, search_half};
-ghost use Rattle.half_search.specs.Steps.{offset_of, Trying, try_at, Refining};
+ghost use Rattle.half_search.specs.Half.{refined, search_half};
+ghost use Rattle.half_search.specs.Steps.{Trying, try_at, Refining};
 
 use frame::Setting;
 use refusals::Request;
@@ -38,29 +38,17 @@ pub struct Winner {
 }
 
 // The neighbours' offsets, each part with 1 added: the centre, then the eight in preference order.
-const NEIGHBOURS: [[usize; 2]; 9] = [
-    [1, 1],
-    [0, 1],
-    [1, 0],
-    [1, 2],
-    [2, 1],
-    [0, 0],
-    [0, 2],
-    [2, 0],
-    [2, 2],
+const NEIGHBOURS: [Offset; 9] = [
+    Offset { down: 1, across: 1 },
+    Offset { down: 0, across: 1 },
+    Offset { down: 1, across: 0 },
+    Offset { down: 1, across: 2 },
+    Offset { down: 2, across: 1 },
+    Offset { down: 0, across: 0 },
+    Offset { down: 0, across: 2 },
+    Offset { down: 2, across: 0 },
+    Offset { down: 2, across: 2 },
 ];
-
-// The offset at place k of the neighbours.
-fn neighbour(k: usize) -> Offset
-    requires { k < neighbour_count }
-    ensures { (offset_of result ≡ neighbour k) × (result.down ≤ 2) × (result.across ≤ 2) }
-{
-    let offsets = NEIGHBOURS;
-    Offset {
-        down: offsets[k][0],
-        across: offsets[k][1],
-    }
-}
 
 // n pels from a half-pel place on, which is kept with 1 added, have all that they need in a side of so many.
 fn inside(place: usize, n: usize, side: usize) -> bool
@@ -120,9 +108,8 @@ fn refine(
         place: 0,
         least: found.distortion,
     };
-    let mut k: usize = 1;
-    while k < 9 {
-        let o = neighbour(k);
+    for k in 1..9 {
+        let o = NEIGHBOURS[k];
         best = try_at(
             older,
             &block,
@@ -132,9 +119,8 @@ fn refine(
             k,
             best,
         );
-        k += 1;
     }
-    let o = neighbour(best.place);
+    let o = NEIGHBOURS[best.place];
     HalfResult {
         found,
         dy: signed::half_part(found.dy, o.down),
