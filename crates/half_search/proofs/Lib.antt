@@ -1,4 +1,3 @@
 pub mod Best
 pub mod Leading
 pub mod Answer
-mod Neighbours

@@ -2,12 +2,12 @@
 
 #![tactic(auto)]
 
-ghost use Rattle.std.specs.Prelude.{◌≡◌, ◌≤◌};
+ghost use Rattle.std.specs.Prelude.{◌≡◌, ◌≤◌, ◌<◌};
 ghost use Rattle.signed.specs.Values.{unbias};
 ghost use Rattle.frame.specs.Pictures.{pair_of};
 ghost use Rattle.half_pel.specs.HalfPel.{half_inside};
-ghost use Rattle.half_search.specs.Half.{refined, search_half};
-ghost use Rattle.half_search.specs.Steps.{Trying, try_at, Refining};
+ghost use Rattle.half_search.specs.Half.{neighbour_count, neighbour, refined, search_half};
+ghost use Rattle.half_search.specs.Steps.{offset_of, Trying, try_at, Refining};
 
 use frame::Setting;
 use refusals::Request;
@@ -49,6 +49,14 @@ const NEIGHBOURS: [Offset; 9] = [
     Offset { down: 2, across: 0 },
     Offset { down: 2, across: 2 },
 ];
+
+// The offset at place k of the neighbours.
+fn neighbour(k: usize) -> Offset
+    requires { k < neighbour_count }
+    ensures { (offset_of result ≡ neighbour k) × (result.down ≤ 2) × (result.across ≤ 2) }
+{
+    NEIGHBOURS[k]
+}
 
 // n pels from a half-pel place on, which is kept with 1 added, have all that they need in a side of so many.
 fn inside(place: usize, n: usize, side: usize) -> bool
@@ -109,7 +117,7 @@ fn refine(
         least: found.distortion,
     };
     for k in 1..9 {
-        let o = NEIGHBOURS[k];
+        let o = neighbour(k);
         best = try_at(
             older,
             &block,
@@ -120,7 +128,7 @@ fn refine(
             best,
         );
     }
-    let o = NEIGHBOURS[best.place];
+    let o = neighbour(best.place);
     HalfResult {
         found,
         dy: signed::half_part(found.dy, o.down),

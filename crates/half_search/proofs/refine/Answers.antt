@@ -1,5 +1,5 @@
 -- `refine`: the centre is the search's vector, and each turn of the loop tries one neighbour more.
-use Prim.Native.Nat.{ℕ, ◌+◌, ◌*◌, ◌≤◌, ◌<◌}
+use Prim.Native.Nat.{ℕ, ◌+◌, ◌*◌, ◌≤◌}
 use mathlib.Core.Path.{◌≡◌, refl, sym, ap, ◌∙◌}
 use mathlib.Core.List.{List}
 use native.Mathlib.Omega.{arith}
@@ -16,11 +16,10 @@ use Rattle.half_search.specs.Half.{neighbour_count, counts, costs}
 use Rattle.half_pel.proofs.Values.{half_long}
 use Rattle.half_search.specs.Steps.{Refining, try_at}
 use Rattle.half_search.proofs.Best.{centre_distortion, centre_tried}
-use Rattle.half_search.proofs.Neighbours.{entry, entry_is}
 use Rattle.half_search.proofs.Leading.{leading_first, leading_next, leading_few, try_is, refined_is, past_of}
 use mir.Syntax.{w32}
 use Rattle.half_search.proofs.refine.Goals as goal
-use Rattle.half_search.proofs.refine.Goals.{After-past-column, After-loop-k}
+use Rattle.half_search.proofs.refine.Goals.{After-past-column}
 
 refining : (c : After-past-column) → let a = c.args in Refining a.older.now a.newer.now a.s a.y a.x a.found
 refining c = c.requires
@@ -82,21 +81,24 @@ loop-k-init c =
     let p = pair_of a.older.now a.newer.now a.s in
     leading_first _ _ _ (centre_tried p 16 _ _ _ own.chosen) (own.reported ∙ sym (centre_distortion p _ _ _))
 
+pub neighbour-o-requires : goal.neighbour-o-requires
+neighbour-o-requires c = omega arith
+
 pub overflow_mul-row : goal.overflow_mul-row
 overflow_mul-row c = omega (arith, c.past-row.ensures.1)
 
 pub overflow_add-row : goal.overflow_add-row
-overflow_add-row c = omega (arith, c.past-row.ensures.1, entry_is c.loop-k.k (omega arith))
+overflow_add-row c = omega (arith, c.past-row.ensures.1, c.neighbour-o.ensures.1)
 
 pub overflow_mul-column : goal.overflow_mul-column
 overflow_mul-column c = omega (arith, c.past-column.ensures.1)
 
 pub overflow_add-column : goal.overflow_add-column
-overflow_add-column c = omega (arith, c.past-column.ensures.1, entry_is c.loop-k.k (omega arith))
+overflow_add-column c = omega (arith, c.past-column.ensures.1, c.neighbour-o.ensures.2)
 
 pub try_at-best-requires : goal.try_at-best-requires
 try_at-best-requires c =
-    let o = entry_is c.loop-k.k (omega arith) in
+    let o = c.neighbour-o.ensures in
     let p = (refining (goal.at.try_at-best-requires c).After-past-column).placed.paired in (
       record { whole = p.older_whole; fitting = p.fitting; allowed = p.allowed; stored = ap length c.half_block.ensures ∙ half_long _ _ _ _ _ _ refl (small (goal.at.try_at-best-requires c).After-past-column) },
       omega (arith, c.past-row.ensures.1, o.1),
@@ -109,35 +111,28 @@ loop-k-preserved c =
     let l = c.loop-k in
     let p = pair_of a.older.now a.newer.now a.s in
     let v = vector_in a.found in
-    let o = entry l.k in
+    let o = c.neighbour-o in
     let tried = c.try_at-best.ensures
-    ∙ ap (λ (block : List ℕ). try_at a.older.now block a.s (2 * c.past-row.result + o.down) (2 * c.past-column.result + o.across) l.k l.best)
+    ∙ ap (λ (block : List ℕ). try_at a.older.now block a.s (2 * c.past-row.result + o.result.down) (2 * c.past-column.result + o.result.across) l.k l.best)
     c.half_block.ensures
-    ∙ try_is a.older.now a.newer.now a.s a.y a.x v _ _ (row_is (goal.at.loop-k-preserved c).After-past-column) (column-is (goal.at.loop-k-preserved c).After-past-column) _ refl (small (goal.at.loop-k-preserved c).After-past-column) l.k o (entry_is l.k (omega arith)).0 l.best in
+    ∙ try_is a.older.now a.newer.now a.s a.y a.x v _ _ (row_is (goal.at.loop-k-preserved c).After-past-column) (column-is (goal.at.loop-k-preserved c).After-past-column) _ refl (small (goal.at.loop-k-preserved c).After-past-column) l.k o.result o.ensures.0 l.best in
     rw tried (leading_next (costs p a.y a.x v) (counts p a.y a.x v) l.k l.best l.invariant)
 
--- the winner's place is one of the nine
-place-few : (c : After-loop-k) → c.loop-k.best.place < neighbour_count
-place-few c = omega (arith, leading_few c.loop-k.invariant)
-
-pub bounds-best-best : goal.bounds-best-best
-bounds-best-best c = place-few c
-
-pub offset_bounds-best : goal.offset_bounds-best
-offset_bounds-best c = omega (arith, place-few c)
+pub neighbour-o-requires-2 : goal.neighbour-o-requires-2
+neighbour-o-requires-2 c = omega (arith, leading_few c.loop-k.invariant)
 
 pub half_part-requires : goal.half_part-requires
 half_part-requires c =
-    (rw (through c.args.found.dy (down-near (goal.at.half_part-requires c).After-past-column)) (down-near (goal.at.half_part-requires c).After-past-column), (entry_is _ (place-few (goal.at.half_part-requires c).After-loop-k)).1)
+    (rw (through c.args.found.dy (down-near (goal.at.half_part-requires c).After-past-column)) (down-near (goal.at.half_part-requires c).After-past-column), c.neighbour-o-2.ensures.1)
 
 pub half_part-requires-2 : goal.half_part-requires-2
 half_part-requires-2 c =
-    (rw (through c.args.found.dx (across-near (goal.at.half_part-requires-2 c).After-past-column)) (across-near (goal.at.half_part-requires-2 c).After-past-column), (entry_is _ (place-few (goal.at.half_part-requires-2 c).After-loop-k)).2)
+    (rw (through c.args.found.dx (across-near (goal.at.half_part-requires-2 c).After-past-column)) (across-near (goal.at.half_part-requires-2 c).After-past-column), c.neighbour-o-2.ensures.2)
 
 pub returns : goal.returns
 returns c =
     let l = c.loop-k in
     let all : l.k ≡ neighbour_count = omega arith in
-    refined_is _ _ _ _ l.best (entry l.best.place) _ _ (rw all at l.invariant) (entry_is _ (place-few (goal.at.returns c).After-loop-k)).0
+    refined_is _ _ _ _ l.best c.neighbour-o-2.result _ _ (rw all at l.invariant) c.neighbour-o-2.ensures.0
     (to_z-of_z (sfits_of {w = w32} c.half_part.type_inv) ∙ (rw (through c.args.found.dy (down-near (goal.at.returns c).After-past-column)) at c.half_part.ensures))
     (to_z-of_z (sfits_of {w = w32} c.half_part-2.type_inv) ∙ (rw (through c.args.found.dx (across-near (goal.at.returns c).After-past-column)) at c.half_part-2.ensures))
