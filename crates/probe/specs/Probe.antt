@@ -7,7 +7,7 @@
 --   fresh           the points that are not among those of a list: is_in
 --   OwnDistortion   the best is a candidate, and the distortion is its own
 --   Alike           two targets that a search cannot tell apart which looks at no point outside window n
-use Rattle.std.specs.Prelude.{ℕ, ◌+◌, ◌≡◌, Bool, false, cond, ◌&&◌, ◌||◌, List, [], ◌∷◌, T, ltb, pos, ◌+ℤ◌, ◌*ℤ◌}
+use Rattle.std.specs.Prelude.{ℕ, ◌+◌, ◌≡◌, Bool, false, cond, ◌||◌, List, [], ◌∷◌, T, ltb, pos, ◌+ℤ◌, ◌*ℤ◌}
 use Rattle.order.specs.declared.Vector.{Vector}
 use Rattle.order.specs.Vectors.{vec, Within, same?}
 use Rattle.search.specs.Target.{Target}
