@@ -35,11 +35,9 @@ fn all_passes(older: &[u8], newer: &[u8], b: SearchBlock, s: BestSoFar) -> BestS
 {
     let mut best = s;
     let mut p = (b.w / 2) as u32;
-    let mut left = refusals::log2_window(b.w) - 1;
-    while 0 < left {
+    for _pass in 1..refusals::log2_window(b.w) {
         best = pass_at(older, newer, b, best, p);
-        p = p / 2;
-        left -= 1;
+        p /= 2;
     }
     best
 }

@@ -89,15 +89,13 @@ fn fill_list(
         dropped: 0,
         voters: 0,
     };
-    let mut k: usize = 0;
-    while k < n {
+    for k in 0..n {
         let f = field_block::search_at(older, newer, q, k);
         put::put_entry(list, 3 * k, f.dy, f.dx, f.distortion);
         let v = Vector { dy: f.dy, dx: f.dx };
         let voting = voter::is_voter_at(newer, s, k);
         reading::vote(votes, v, voting);
         total = field_block::join(total, f, voting);
-        k += 1;
     }
     total
 }

@@ -17,7 +17,7 @@ use Rattle.frame.specs.Pictures.{Pair, pair_of, last_count}
 use Rattle.frame.specs.Grid.{blocks, block_row, block_column, block_down, block_across}
 use Rattle.refusals.specs.Cross.{cross_window, cross as cross-is}
 use Rattle.refusals.specs.Refusals.{setting_of, Requested, window_small, window_ok}
-use Rattle.distortion.specs.Blocks.{distortion, Bytes, distortion_most, distortion_largest}
+use Rattle.distortion.specs.Blocks.{Bytes, distortion_most, distortion_largest}
 use Rattle.search.specs.declared.SearchResult.{SearchResult}
 use Rattle.search.specs.SearchResult.{search_result, only_at_one}
 use Rattle.search.specs.Target.{target}

@@ -48,10 +48,8 @@ pub fn join(s: Total, f: SearchResult, voting: bool) -> Total
 {
     let more = f.counts;
     let mut counts = s.counts;
-    let mut i: usize = 0;
-    while i < frame::COUNTS {
-        counts[i] = counts[i] + more[i];
-        i += 1;
+    for i in 0..frame::COUNTS {
+        counts[i] += more[i];
     }
     Total {
         counts,

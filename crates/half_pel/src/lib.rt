@@ -66,10 +66,8 @@ fn value_row(
         × (length frame.now ≤ 1048576) }
     ensures { half.new ≡ fill_to half.old at (λ j. value_from frame.now width down across (from + j)) n }
 {
-    let mut j: usize = 0;
-    while j < n {
+    for j in 0..n {
         half[at + j] = value(frame, width, down, across, from + j);
-        j += 1;
     }
 }
 
@@ -78,14 +76,19 @@ pub fn half_block(frame: &[u8], s: Setting, p: usize, q: usize, half: &mut [u8])
     requires { HalfReady frame.now s p q × (length half.old ≡ 1024) }
     ensures { half.new ≡ half_rows frame.now s.width p q half.old s.n }
 {
-    let mut from = p / 2 * s.width + q / 2;
-    let mut at: usize = 0;
-    let mut i: usize = 0;
-    while i < s.n {
-        value_row(frame, s.width, p % 2 == 1, q % 2 == 1, from, s.n, half, at);
-        from += s.width;
-        at += ROW;
-        i += 1;
+    let first = p / 2 * s.width + q / 2;
+    for i in 0..s.n {
+        let from = first + i * s.width;
+        value_row(
+            frame,
+            s.width,
+            p % 2 == 1,
+            q % 2 == 1,
+            from,
+            s.n,
+            half,
+            i * ROW,
+        );
     }
 }
 

@@ -38,16 +38,16 @@ pub struct Winner {
 }
 
 // The neighbours' offsets, each part with 1 added: the centre, then the eight in preference order.
-const NEIGHBOURS: [[usize; 2]; 9] = [
-    [1, 1],
-    [0, 1],
-    [1, 0],
-    [1, 2],
-    [2, 1],
-    [0, 0],
-    [0, 2],
-    [2, 0],
-    [2, 2],
+const NEIGHBOURS: [Offset; 9] = [
+    Offset { down: 1, across: 1 },
+    Offset { down: 0, across: 1 },
+    Offset { down: 1, across: 0 },
+    Offset { down: 1, across: 2 },
+    Offset { down: 2, across: 1 },
+    Offset { down: 0, across: 0 },
+    Offset { down: 0, across: 2 },
+    Offset { down: 2, across: 0 },
+    Offset { down: 2, across: 2 },
 ];
 
 // The offset at place k of the neighbours.
@@ -55,11 +55,7 @@ fn neighbour(k: usize) -> Offset
     requires { k < neighbour_count }
     ensures { (offset_of result ≡ neighbour k) × (result.down ≤ 2) × (result.across ≤ 2) }
 {
-    let offsets = NEIGHBOURS;
-    Offset {
-        down: offsets[k][0],
-        across: offsets[k][1],
-    }
+    NEIGHBOURS[k]
 }
 
 // n pels from a half-pel place on, which is kept with 1 added, have all that they need in a side of so many.
@@ -120,8 +116,7 @@ fn refine(
         place: 0,
         least: found.distortion,
     };
-    let mut k: usize = 1;
-    while k < 9 {
+    for k in 1..9 {
         let o = neighbour(k);
         best = try_at(
             older,
@@ -132,7 +127,6 @@ fn refine(
             k,
             best,
         );
-        k += 1;
     }
     let o = neighbour(best.place);
     HalfResult {

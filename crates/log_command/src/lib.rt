@@ -43,14 +43,13 @@ pub fn size_by(number: u8) -> usize
     ensures { result ≡ size_by number }
 {
     match number {
-        0 => 0,
         1 => 8,
         2 => 5,
         3 => STILL_SIZE,
         4 => END_SIZE,
         5 => 7,
         6 => 9,
-        7..=255 => 0,
+        _ => 0,
     }
 }
 
@@ -94,14 +93,10 @@ pub fn command_number(command: Command) -> u32
 {
     match command {
         Command::Head(head) => head_number(head) as u32,
-        Command::Block {
-            dy: _,
-            dx: _,
-            distortion,
-        } => block_number(distortion) as u32,
+        Command::Block { distortion, .. } => block_number(distortion) as u32,
         Command::Still => STILL as u32,
         Command::End(_) => END as u32,
-        Command::Refused { number, place: _ } => number,
+        Command::Refused { number, .. } => number,
     }
 }
 
@@ -110,15 +105,8 @@ pub fn command_place(command: Command) -> usize
     ensures { result ≡ command_place command }
 {
     match command {
-        Command::Head(_) => 0,
-        Command::Block {
-            dy: _,
-            dx: _,
-            distortion: _,
-        } => 0,
-        Command::Still => 0,
-        Command::End(_) => 0,
-        Command::Refused { number: _, place } => place,
+        Command::Refused { place, .. } => place,
+        _ => 0,
     }
 }
 
@@ -128,17 +116,7 @@ pub fn command_head(command: Command) -> Head
 {
     match command {
         Command::Head(head) => head,
-        Command::Block {
-            dy: _,
-            dx: _,
-            distortion: _,
-        } => log_head::no_head(),
-        Command::Still => log_head::no_head(),
-        Command::End(_) => log_head::no_head(),
-        Command::Refused {
-            number: _,
-            place: _,
-        } => log_head::no_head(),
+        _ => log_head::no_head(),
     }
 }
 
@@ -148,17 +126,10 @@ pub fn command_size(command: Command) -> usize
 {
     match command {
         Command::Head(head) => size_by(head_number(head)),
-        Command::Block {
-            dy: _,
-            dx: _,
-            distortion,
-        } => size_by(block_number(distortion)),
+        Command::Block { distortion, .. } => size_by(block_number(distortion)),
         Command::Still => STILL_SIZE,
         Command::End(_) => END_SIZE,
-        Command::Refused {
-            number: _,
-            place: _,
-        } => 0,
+        Command::Refused { .. } => 0,
     }
 }
 
@@ -166,20 +137,7 @@ pub fn command_size(command: Command) -> usize
 pub fn is_refused(command: Command) -> bool
     ensures { result ≡ is_refused command }
 {
-    match command {
-        Command::Head(_) => false,
-        Command::Block {
-            dy: _,
-            dx: _,
-            distortion: _,
-        } => false,
-        Command::Still => false,
-        Command::End(_) => false,
-        Command::Refused {
-            number: _,
-            place: _,
-        } => true,
-    }
+    matches!(command, Command::Refused { .. })
 }
 
 // ---- bytes

@@ -26,10 +26,8 @@ fn put_word(out: &mut [u8], at: usize, word: &[u8]) -> usize
     ensures { (Put out.old at word.now out.new result) × (result ≤ at + 8) }
 {
     let mut k = at;
-    let mut i = 0;
-    while i < word.len() {
-        k = put::put_byte(out, k, word[i]);
-        i += 1;
+    for &b in word {
+        k = put::put_byte(out, k, b);
     }
     k
 }

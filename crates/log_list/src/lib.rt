@@ -58,14 +58,12 @@ fn first_wrong(head: Head, list: &[i32]) -> usize
     ensures { result ≡ first_wrong (listed_ok head list.now) 0 (head_blocks head) }
 {
     let n = log_head::head_blocks(head);
-    let mut k: usize = 0;
-    while k < n {
+    for k in 0..n {
         if !listed_ok(head, list, k) {
             return k;
         }
-        k += 1;
     }
-    k
+    n
 }
 
 // 1 3 4 51 5 10, then 16 with the block's number as place.

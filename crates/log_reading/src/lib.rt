@@ -50,8 +50,7 @@ fn walk_end(log: &[u8]) -> Command
         number: 34,
         place: 0,
     };
-    let mut left = log.len() + 1;
-    while left > 0 {
+    for _call in 0..log.len() + 1 {
         let s = log_cursor::step_at(log, cursor);
         let command = s.command;
         let next = s.next;
@@ -60,7 +59,6 @@ fn walk_end(log: &[u8]) -> Command
         }
         last = command;
         cursor = next;
-        left -= 1;
     }
     last
 }
@@ -96,14 +94,9 @@ fn store(list: &mut [i32], at: usize, command: Command) -> usize
     ensures { Put list.old at (block_values command) list.new result }
 {
     match command {
-        Command::Head(_) => at,
         Command::Block { dy, dx, distortion } => put::put_entry(list, at, dy, dx, distortion),
         Command::Still => put::put_entry(list, at, 0, 0, 0),
-        Command::End(_) => at,
-        Command::Refused {
-            number: _,
-            place: _,
-        } => at,
+        _ => at,
     }
 }
 
@@ -114,8 +107,7 @@ fn fill(log: &[u8], list: &mut [i32])
 {
     let mut cursor = log_cursor::start();
     let mut at: usize = 0;
-    let mut left = log.len() + 1;
-    while left > 0 {
+    for _call in 0..log.len() + 1 {
         let s = log_cursor::step_at(log, cursor);
         let command = s.command;
         let next = s.next;
@@ -124,7 +116,6 @@ fn fill(log: &[u8], list: &mut [i32])
             return;
         }
         cursor = next;
-        left -= 1;
     }
 }
 

@@ -67,10 +67,8 @@ fn log_size(head: Head, list: &[i32]) -> usize
 {
     let n = log_head::head_blocks(head);
     let mut size = log_command::size_by(log_command::head_number(head)) + log_command::END_SIZE;
-    let mut k: usize = 0;
-    while k < n {
+    for k in 0..n {
         size += block_size(list, k);
-        k += 1;
     }
     size
 }
@@ -166,10 +164,8 @@ fn put_blocks(out: &mut [u8], at: usize, head: Head, list: &[i32]) -> usize
 {
     let n = log_head::head_blocks(head);
     let mut next = at;
-    let mut k: usize = 0;
-    while k < n {
+    for k in 0..n {
         next = put_block(out, next, list, k);
-        k += 1;
     }
     next
 }

@@ -123,12 +123,10 @@ pub fn is_in(y: usize, x: usize, cy: usize, cx: usize, offsets: &[[i32; 2]]) -> 
     requires { (y ≤ 32) × (x ≤ 32) × (cy ≤ 32) × (cx ≤ 32) × (length offsets.now ≤ 9) }
     ensures { result ≡ is_in (point y x) (around (point cy cx) (pairs offsets.now)) }
 {
-    let mut i: usize = 0;
-    while i < offsets.len() {
-        if is_at(y, x, cy, cx, offsets[i][0], offsets[i][1]) {
+    for &[dy, dx] in offsets {
+        if is_at(y, x, cy, cx, dy, dx) {
             return true;
         }
-        i += 1;
     }
     false
 }
@@ -195,12 +193,10 @@ pub fn pattern_new(
     let cy = s.y;
     let cx = s.x;
     let mut best = s;
-    let mut i: usize = 0;
-    while i < offsets.len() {
-        let dy = scaled(p, offsets[i][0]);
-        let dx = scaled(p, offsets[i][1]);
-        best = probe_new(older, newer, b, best, cy, cx, dy, dx, oy, ox, before);
-        i += 1;
+    for &[dy, dx] in offsets {
+        let down = scaled(p, dy);
+        let across = scaled(p, dx);
+        best = probe_new(older, newer, b, best, cy, cx, down, across, oy, ox, before);
     }
     best
 }

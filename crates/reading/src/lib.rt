@@ -42,8 +42,7 @@ pub fn reading_of(order: &[i32; order::NUMBERS], votes: &[u32; order::VECTORS]) 
     let mut best = order::vector_at(order, 0);
     let c = code_of(best);
     let mut most = votes[c];
-    let mut k: usize = 1;
-    while k < order::VECTORS {
+    for k in 1..order::VECTORS {
         let v = order::vector_at(order, k);
         let e = code_of(v);
         let x = votes[e];
@@ -51,7 +50,6 @@ pub fn reading_of(order: &[i32; order::NUMBERS], votes: &[u32; order::VECTORS]) 
             best = v;
             most = x;
         }
-        k += 1;
     }
     Reading {
         dy: best.dy,

@@ -52,11 +52,8 @@ fn parts_ok(places: &[i32; MOST], held: usize, sum: i32) -> bool
     ensures { result ≡ parts_ok places.now held sum }
 {
     let mut total: u32 = 0;
-    let mut k: usize = 0;
-    while k < held {
-        let z = places[k];
-        total += counted(z);
-        k += 1;
+    for k in 0..held {
+        total += counted(places[k]);
     }
     let Some(t) = signed::shift(16 * held, sum, 32 * MOST) else {
         return false;
@@ -101,12 +98,7 @@ fn places_more(places: [i32; MOST], held: usize, z: i32) -> [i32; MOST]
         next[held] = z;
         return next;
     }
-    let mut k: usize = 0;
-    while k < MOST - 1 {
-        let part = places[k + 1];
-        next[k] = part;
-        k += 1;
-    }
+    next.copy_within(1..MOST, 0);
     next[MOST - 1] = z;
     next
 }

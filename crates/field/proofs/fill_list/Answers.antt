@@ -21,17 +21,17 @@ block_count-n-requires c = rw c.setting_of-s.ensures (fitting (goal.at.block_cou
 
 pub loop-k-init : goal.loop-k-init
 loop-k-init c =
-    (omega arith, c.block_count-n.ensures ∙ ap blocks c.setting_of-s.ensures, filled_first _ _ _ _ c.requires.room.1)
+    (c.block_count-n.ensures ∙ ap blocks c.setting_of-s.ensures, filled_first _ _ _ _ c.requires.room.1)
 
 pub search_at-f-requires : goal.search_at-f-requires
-search_at-f-requires c = (c.requires.fine, omega (arith, c.loop-k.invariant.1))
+search_at-f-requires c = (c.requires.fine, omega (arith, c.loop-k.invariant.0))
 
 -- a turn stores inside the list, and there are not too many
 room : (c : After-search_at-f) → let k = c.loop-k.k in
     (3 * k + 3 ≤ length c.args.list.now) × (k < 1048576)
 room c =
-    let i = c.loop-k.invariant in
-    (omega (arith, i.1, c.requires.room.0), omega (arith, i.1, blocks_few _ (let fitting : Fitting (setting_of c.args.q) = (requested _ _ _ c.requires.fine).paired.fitting in fitting)))
+    let n = c.loop-k.invariant.0 in
+    (omega (arith, n, c.requires.room.0), omega (arith, n, blocks_few _ ((requested _ _ _ c.requires.fine).paired.fitting)))
 
 -- whether block k votes
 votes : (c : After-is_voter_at-voting) → let a = c.args in
@@ -43,31 +43,30 @@ overflow_mul-k c = omega (arith, room (goal.at.overflow_mul-k c).After-search_at
 
 pub put_entry-requires : goal.put_entry-requires
 put_entry-requires c =
-    (omega (arith, room (goal.at.put_entry-requires c).After-search_at-f, c.loop-k.invariant.2.long), omega (arith, c.search_at-f.ensures.1.distortion))
+    (omega (arith, room (goal.at.put_entry-requires c).After-search_at-f, c.loop-k.invariant.1.long), omega (arith, c.search_at-f.ensures.1.distortion))
 
 pub is_voter_at-voting-requires : goal.is_voter_at-voting-requires
 is_voter_at-voting-requires c =
     let q = (requested _ _ _ c.requires.fine).paired in
     rw c.setting_of-s.ensures
-    (record { fitting = q.fitting; allowed = q.allowed; whole = q.newer_whole }, omega (arith, c.loop-k.invariant.1))
+    (record { fitting = q.fitting; allowed = q.allowed; whole = q.newer_whole }, omega (arith, c.loop-k.invariant.0))
 
 pub vote-requires : goal.vote-requires
 vote-requires c =
-    let i = c.loop-k.invariant.2 in
+    let i = c.loop-k.invariant.1 in
     let w = c.search_at-f.ensures.1.within in
     rw (through c.search_at-f.result.dy w.down, through c.search_at-f.result.dx w.across)
     (w, i.tally.long, tally_room _ _ _ _ i.tally _ w (omega (arith, room (goal.at.vote-requires c).After-search_at-f)))
 
 pub join-total-requires : goal.join-total-requires
 join-total-requires c =
-    (filled_few _ _ _ _ _ _ _ c.loop-k.invariant.2 (omega (arith, room (goal.at.join-total-requires c).After-search_at-f)), c.search_at-f.ensures.1)
+    (filled_few _ _ _ _ _ _ _ c.loop-k.invariant.1 (omega (arith, room (goal.at.join-total-requires c).After-search_at-f)), c.search_at-f.ensures.1)
 
 pub loop-k-preserved : goal.loop-k-preserved
 loop-k-preserved c =
     let l = c.loop-k.invariant in
     let w = c.search_at-f.ensures.1.within in (
-      omega arith,
-      l.1,
+      l.0,
       rw (
         c.join-total.ensures,
         c.put_entry.ensures.holds,
@@ -75,14 +74,14 @@ loop-k-preserved c =
         through c.search_at-f.result.dy w.down,
         through c.search_at-f.result.dx w.across,
       )
-          (filled_more _ _ _ _ _ _ _ l.2 _ _ c.search_at-f.ensures.0 (votes (goal.at.loop-k-preserved c).After-is_voter_at-voting) c.search_at-f.ensures.1 (room (goal.at.loop-k-preserved c).After-search_at-f).0),
+          (filled_more _ _ _ _ _ _ _ l.1 _ _ c.search_at-f.ensures.0 (votes (goal.at.loop-k-preserved c).After-is_voter_at-voting) c.search_at-f.ensures.1 (room (goal.at.loop-k-preserved c).After-search_at-f).0),
     )
 
 pub shape_of-list : goal.shape_of-list
-shape_of-list c = c.loop-k.invariant.2.long
+shape_of-list c = c.loop-k.invariant.1.long
 
 pub returns : goal.returns
 returns c =
     let l = c.loop-k in
-    let e : l.k ≡ blocks (setting_of c.args.q) = omega (arith, l.invariant.1) in
-    rw e at l.invariant.2
+    let e : l.k ≡ blocks (setting_of c.args.q) = omega (arith, l.invariant.0) in
+    rw e at l.invariant.1

@@ -1,5 +1,4 @@
 -- `fill_list`: one index over all grid blocks; each turn searches one, stores it, votes for it if it is a voter, and adds it.
-use Prim.Native.Nat.{◌-◌, ◌≤◌}
 use mathlib.Core.Path.{◌≡◌}
 use Rattle.frame.specs.Grid.{blocks}
 use Rattle.frame.specs.Pictures.{pair_of}
@@ -12,7 +11,4 @@ use Rattle.field.proofs.fill_list.Given as goal
 abbrev pub invariant-loop-k : goal.invariant-loop-k
 invariant-loop-k l =
     let p = pair_of l.older l.newer (setting_of l.q) in
-    (l.k ≤ l.n) × (l.n ≡ blocks (setting_of l.q)) × BlocksFilled (voting p) (search_at p l.q) l.k l.initial.list l.list l.votes l.total
-
-abbrev pub decreases-loop-k : goal.decreases-loop-k
-decreases-loop-k l = l.n - l.k
+    (l.n ≡ blocks (setting_of l.q)) × BlocksFilled (voting p) (search_at p l.q) l.k l.initial.list l.list l.votes l.total

@@ -18,10 +18,10 @@ kept d g i = rw (fill_zero d g i) (front_behind (list_to g i) d i i 0 (length_li
 next-is : (c : In-loop-i) →
     let l = c.loop-i in
     get_or l.counts l.i 0 ≡ get_or c.args.s.counts l.i 0
-next-is c = rw c.loop-i.invariant.1 (kept _ _ _)
+next-is c = rw c.loop-i.invariant (kept _ _ _)
 
 pub loop-i-init : goal.loop-i-init
-loop-i-init c = (omega arith, fill_none _ 0 _)
+loop-i-init c = fill_none _ 0 _
 
 pub overflow_add-counts : goal.overflow_add-counts
 overflow_add-counts c =
@@ -32,7 +32,7 @@ pub loop-i-preserved : goal.loop-i-preserved
 loop-i-preserved c =
     let l = c.loop-i in
     let h = c.requires.0.long in
-    (omega arith, rw (next-is c, l.invariant.1) (fill_front _ _ l.i (omega (arith, h))))
+    rw (next-is c, l.invariant) (fill_front _ _ l.i (omega (arith, h)))
 
 pub overflow_add-result-2 : goal.overflow_add-result-2
 overflow_add-result-2 c =
@@ -43,4 +43,4 @@ unfolding list_to
 returns c =
     let l = c.loop-i in
     let e : l.i ≡ count_number = omega arith in
-    rw (l.invariant.1, e, fill_zero, byte_one c.args.voting, drop_of_length-le c.args.s.counts {i = count_number} (omega (arith, c.requires.0.long)))
+    rw (l.invariant, e, fill_zero, byte_one c.args.voting, drop_of_length-le c.args.s.counts {i = count_number} (omega (arith, c.requires.0.long)))

@@ -7,18 +7,15 @@ use Rattle.base.specs.Lists.{fill_none, fill_more}
 use Rattle.half_pel.proofs.value_row.Goals as goal
 
 pub loop-j-init : goal.loop-j-init
-loop-j-init c = (omega arith, fill_none _ _ _, refl)
-
-pub loop-j-smaller : goal.loop-j-smaller
-loop-j-smaller c = omega arith
+loop-j-init c = (fill_none _ _ _, refl)
 
 pub loop-j-preserved : goal.loop-j-preserved
 loop-j-preserved c =
     let l = c.loop-j in
-    (omega arith, rw (l.invariant.1, c.value.ensures) (fill_more _ _ _ l.j (omega arith)), simp length-set (search rules))
+    (rw (l.invariant.0, c.value.ensures) (fill_more _ _ _ l.j (omega arith)), simp length-set (search rules))
 
 pub returns : goal.returns
 returns c =
     let l = c.loop-j in
     let e : l.j ≡ c.args.n = omega arith in
-    rw e at l.invariant.1
+    rw e at l.invariant.0

@@ -1,5 +1,5 @@
 -- `value_row`: after j turns the first j values are stored.
-use Prim.Native.Nat.{◌+◌, ◌-◌, ◌≤◌}
+use Prim.Native.Nat.{◌+◌}
 use mathlib.Core.Path.{◌≡◌}
 use lib.ListN.{length}
 use Rattle.base.specs.Lists.{fill_to}
@@ -8,7 +8,4 @@ use Rattle.half_pel.proofs.value_row.Given as goal
 
 abbrev pub invariant-loop-j : goal.invariant-loop-j
 invariant-loop-j l =
-    (l.j ≤ l.n) × (l.half ≡ fill_to l.initial.half l.at (λ i. value_from l.frame l.width l.down l.across (l.from + i)) l.j) × (length l.half ≡ length l.initial.half)
-
-abbrev pub decreases-loop-j : goal.decreases-loop-j
-decreases-loop-j l = l.n - l.j
+    (l.half ≡ fill_to l.initial.half l.at (λ i. value_from l.frame l.width l.down l.across (l.from + i)) l.j) × (length l.half ≡ length l.initial.half)

@@ -2,7 +2,7 @@
 use Prim.Native.Nat.{ℕ, ◌≤◌, ◌<◌}
 use mathlib.Core.Path.{◌≡◌}
 use mathlib.Core.Bool.{Bool, ◌&&◌}
-use mathlib.Core.List.{List, [], ◌∷◌}
+use mathlib.Core.List.{[], ◌∷◌}
 use lib.Dec.{leb, leb→le}
 use lib.ListN.{get_or}
 use Rattle.base.specs.Tests.{and_left, and_right, T_true, check_below}
@@ -13,12 +13,11 @@ use Rattle.half_search.specs.Half.{neighbour_count, neighbour}
 use Rattle.half_search.specs.Steps.{offset_of}
 use Rattle.half_search.proofs.neighbour.Goals as goal
 
-abbrev table : List (List ℕ)
-table =
-    (1 ∷ 1 ∷ []) ∷ (0 ∷ 1 ∷ []) ∷ (1 ∷ 0 ∷ []) ∷ (1 ∷ 2 ∷ []) ∷ (2 ∷ 1 ∷ []) ∷ (0 ∷ 0 ∷ []) ∷ (0 ∷ 2 ∷ []) ∷ (2 ∷ 0 ∷ []) ∷ (2 ∷ 2 ∷ []) ∷ []
+abbrev at : ℕ → ℕ → Offset
+at down across = record { down = down; across = across }
 
 abbrev entry : ℕ → Offset
-entry k = record { down = get_or (get_or table k []) 0 0; across = get_or (get_or table k []) 1 0 }
+entry k = get_or (at 1 1 ∷ at 0 1 ∷ at 1 0 ∷ at 1 2 ∷ at 2 1 ∷ at 0 0 ∷ at 0 2 ∷ at 2 0 ∷ at 2 2 ∷ []) k (at 0 0)
 
 abbrev right? : ℕ → Bool
 right? k = same? (offset_of (entry k)) (neighbour k) && (leb (entry k).down 2 && leb (entry k).across 2)

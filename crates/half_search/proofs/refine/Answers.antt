@@ -25,25 +25,25 @@ refining : (c : After-past-column) → let a = c.args in Refining a.older.now a.
 refining c = c.requires
 
 down-near : (c : After-past-column) → nat_abs c.args.found.dy ≤ 16
-down-near c = (let refining : let a = c.args in Refining a.older.now a.newer.now a.s a.y a.x a.found = c.requires in refining).own.chosen.window.down
+down-near c = (refining c).own.chosen.window.down
 
 across-near : (c : After-past-column) → nat_abs c.args.found.dx ≤ 16
-across-near c = (let refining : let a = c.args in Refining a.older.now a.newer.now a.s a.y a.x a.found = c.requires in refining).own.chosen.window.across
+across-near c = (refining c).own.chosen.window.across
 
 row_is : (c : After-past-column) → let a = c.args in c.past-row.result + dn a.found.dy ≡ a.y + up a.found.dy
 row_is c =
     let a = c.args in
-    let e = rw (through a.found.dy (let down-near : nat_abs c.args.found.dy ≤ 16 = (let refining : let a = c.args in Refining a.older.now a.newer.now a.s a.y a.x a.found = c.requires in refining).own.chosen.window.down in down-near)) at c.past-row.ensures.0 in
-    omega (arith, e, (past_of _ _ _ _ _ _ (let refining : let a = c.args in Refining a.older.now a.newer.now a.s a.y a.x a.found = c.requires in refining)).0.is)
+    let e = rw (through a.found.dy (down-near c)) at c.past-row.ensures.0 in
+    omega (arith, e, (past_of _ _ _ _ _ _ (refining c)).0.is)
 
 column-is : (c : After-past-column) → let a = c.args in c.past-column.result + dn a.found.dx ≡ a.x + up a.found.dx
 column-is c =
     let a = c.args in
-    let e = rw (through a.found.dx (let across-near : nat_abs c.args.found.dx ≤ 16 = (let refining : let a = c.args in Refining a.older.now a.newer.now a.s a.y a.x a.found = c.requires in refining).own.chosen.window.across in across-near)) at c.past-column.ensures.0 in
-    omega (arith, e, (past_of _ _ _ _ _ _ (let refining : let a = c.args in Refining a.older.now a.newer.now a.s a.y a.x a.found = c.requires in refining)).1.is)
+    let e = rw (through a.found.dx (across-near c)) at c.past-column.ensures.0 in
+    omega (arith, e, (past_of _ _ _ _ _ _ (refining c)).1.is)
 
 small : (c : After-past-column) → c.args.s.n ≤ 32
-small c = (block_size _ (let refining : let a = c.args in Refining a.older.now a.newer.now a.s a.y a.x a.found = c.requires in refining).placed.paired.allowed).most
+small c = (block_size _ (refining c).placed.paired.allowed).most
 
 pub past-row-requires : goal.past-row-requires
 past-row-requires c =
@@ -79,10 +79,10 @@ loop-k-init c =
     let own = (refining (goal.at.loop-k-init c).After-past-column).own in
     let a = c.args in
     let p = pair_of a.older.now a.newer.now a.s in
-    (omega arith, leading_first _ _ _ (centre_tried p 16 _ _ _ own.chosen) (own.reported ∙ sym (centre_distortion p _ _ _)))
+    leading_first _ _ _ (centre_tried p 16 _ _ _ own.chosen) (own.reported ∙ sym (centre_distortion p _ _ _))
 
 pub neighbour-o-requires : goal.neighbour-o-requires
-neighbour-o-requires c = c.loop-k-test.true
+neighbour-o-requires c = omega arith
 
 pub overflow_mul-row : goal.overflow_mul-row
 overflow_mul-row c = omega (arith, c.past-row.ensures.1)
@@ -105,9 +105,6 @@ try_at-best-requires c =
       omega (arith, c.past-column.ensures.1, o.2),
     )
 
-pub loop-k-smaller : goal.loop-k-smaller
-loop-k-smaller c = omega arith
-
 pub loop-k-preserved : goal.loop-k-preserved
 loop-k-preserved c =
     let a = c.args in
@@ -119,10 +116,10 @@ loop-k-preserved c =
     ∙ ap (λ (block : List ℕ). try_at a.older.now block a.s (2 * c.past-row.result + o.result.down) (2 * c.past-column.result + o.result.across) l.k l.best)
     c.half_block.ensures
     ∙ try_is a.older.now a.newer.now a.s a.y a.x v _ _ (row_is (goal.at.loop-k-preserved c).After-past-column) (column-is (goal.at.loop-k-preserved c).After-past-column) _ refl (small (goal.at.loop-k-preserved c).After-past-column) l.k o.result o.ensures.0 l.best in
-    (omega arith, rw tried (leading_next (costs p a.y a.x v) (counts p a.y a.x v) l.k l.best l.invariant.1))
+    rw tried (leading_next (costs p a.y a.x v) (counts p a.y a.x v) l.k l.best l.invariant)
 
 pub neighbour-o-requires-2 : goal.neighbour-o-requires-2
-neighbour-o-requires-2 c = let i = c.loop-k.invariant in omega (arith, i.0, leading_few i.1)
+neighbour-o-requires-2 c = omega (arith, leading_few c.loop-k.invariant)
 
 pub half_part-requires : goal.half_part-requires
 half_part-requires c =
@@ -136,6 +133,6 @@ pub returns : goal.returns
 returns c =
     let l = c.loop-k in
     let all : l.k ≡ neighbour_count = omega arith in
-    refined_is _ _ _ _ l.best c.neighbour-o-2.result _ _ (rw all at l.invariant.1) c.neighbour-o-2.ensures.0
+    refined_is _ _ _ _ l.best c.neighbour-o-2.result _ _ (rw all at l.invariant) c.neighbour-o-2.ensures.0
     (to_z-of_z (sfits_of {w = w32} c.half_part.type_inv) ∙ (rw (through c.args.found.dy (down-near (goal.at.returns c).After-past-column)) at c.half_part.ensures))
     (to_z-of_z (sfits_of {w = w32} c.half_part-2.type_inv) ∙ (rw (through c.args.found.dx (across-near (goal.at.returns c).After-past-column)) at c.half_part-2.ensures))

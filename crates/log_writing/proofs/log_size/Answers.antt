@@ -24,7 +24,7 @@ pub loop-k-init : goal.loop-k-init
 unfolding head_bytes
 loop-k-init c =
     let h = c.args.head in
-    (omega arith, omega (arith, first c, head_size h, head_few h), sized_first _ _)
+    (omega (arith, first c, head_size h, head_few h), sized_first _ _)
 
 pub block_size-size-requires : goal.block_size-size-requires
 block_size-size-requires c =
@@ -39,10 +39,10 @@ block_size-size-requires c =
 pub loop-k-preserved : goal.loop-k-preserved
 loop-k-preserved c =
     let l = c.loop-k in
-    (omega arith, omega (arith, l.invariant.1, c.block_size-size.ensures.1), sized_more _ _ _ _ _ l.invariant.2 c.block_size-size.ensures.0)
+    (omega (arith, l.invariant.0, c.block_size-size.ensures.1), sized_more _ _ _ _ _ l.invariant.1 c.block_size-size.ensures.0)
 
 pub returns : goal.returns
 returns c =
     let l = c.loop-k in
     let e : l.k ≡ head_blocks c.args.head = omega (arith, c.head_blocks-n.ensures) in
-    sized_all _ _ _ (rw (e, first (goal.at.returns c).After-size_by-size) at l.invariant.2)
+    sized_all _ _ _ (rw (e, first (goal.at.returns c).After-size_by-size) at l.invariant.1)

@@ -1,5 +1,5 @@
 -- `log_size`: the bytes of head and end, and those of each block.
-use Prim.Native.Nat.{◌+◌, ◌-◌, ◌*◌, ◌≤◌}
+use Prim.Native.Nat.{◌+◌, ◌*◌, ◌≤◌}
 use mathlib.Core.Path.{◌≡◌}
 use Rattle.base.specs.Lists.{concat_to}
 use Rattle.log_writing.specs.Parts.{block_bytes}
@@ -7,7 +7,4 @@ use lib.ListN.{length}
 use Rattle.log_writing.proofs.log_size.Given as goal
 
 abbrev pub invariant-loop-k : goal.invariant-loop-k
-invariant-loop-k l = (l.k ≤ l.n) × (l.size ≤ 14 + 7 * l.k) × (l.size ≡ l.initial.size + length (concat_to (block_bytes l.list) l.k))
-
-abbrev pub decreases-loop-k : goal.decreases-loop-k
-decreases-loop-k l = l.n - l.k
+invariant-loop-k l = (l.size ≤ 14 + 7 * l.k) × (l.size ≡ l.initial.size + length (concat_to (block_bytes l.list) l.k))

@@ -13,7 +13,7 @@ head_blocks-n-requires c = c.requires.1.listed.fine
 
 pub loop-k-init : goal.loop-k-init
 unfolding concat_to
-loop-k-init c = (omega arith, c.requires.0, refl, put_none _ _)
+loop-k-init c = (c.requires.0, refl, put_none _ _)
 
 pub put_block-next-requires : goal.put_block-next-requires
 put_block-next-requires c =
@@ -21,24 +21,23 @@ put_block-next-requires c =
     let p = c.requires.1 in
     let t : l.k < head_blocks c.args.head = omega (arith, c.head_blocks-n.ensures) in
     record {
-      inside = (omega (arith, l.invariant.1, c.head_blocks-n.ensures), omega (arith, p.listed.room), omega (arith, p.listed.few));
+      inside = (omega (arith, l.invariant.0, c.head_blocks-n.ensures), omega (arith, p.listed.room), omega (arith, p.listed.few));
       entry = entry _ p.listed.fine _ _ _ _ (p.each _ t);
     }
 
 pub loop-k-preserved : goal.loop-k-preserved
 loop-k-preserved c =
     let l = c.loop-k in (
-      omega arith,
-      omega (arith, l.invariant.1, c.put_block-next.ensures.1),
-      c.put_block-next.auto.out ∙ l.invariant.2,
-      rw (concat_to_more (block_bytes _) l.k) (put_then l.invariant.3 c.put_block-next.ensures.0),
+      omega (arith, l.invariant.0, c.put_block-next.ensures.1),
+      c.put_block-next.auto.out ∙ l.invariant.1,
+      rw (concat_to_more (block_bytes _) l.k) (put_then l.invariant.2 c.put_block-next.ensures.0),
     )
 
 pub shape_of-out : goal.shape_of-out
-shape_of-out c = c.loop-k.invariant.2
+shape_of-out c = c.loop-k.invariant.1
 
 pub returns : goal.returns
 returns c =
     let l = c.loop-k in
     let e : l.k ≡ head_blocks c.args.head = omega (arith, c.head_blocks-n.ensures) in
-    (rw e at l.invariant.3, omega (arith, l.invariant.1, c.head_blocks-n.ensures))
+    (rw e at l.invariant.2, omega (arith, l.invariant.0, c.head_blocks-n.ensures))

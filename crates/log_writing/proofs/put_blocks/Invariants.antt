@@ -1,5 +1,5 @@
 -- `put_blocks`: each turn puts one block behind those before it.
-use Prim.Native.Nat.{◌+◌, ◌-◌, ◌*◌, ◌≤◌}
+use Prim.Native.Nat.{◌+◌, ◌*◌, ◌≤◌}
 use mathlib.Core.Path.{◌≡◌}
 use Rattle.put.specs.Put.{Put}
 use Rattle.base.specs.Lists.{concat_to}
@@ -8,7 +8,4 @@ use lib.ListN.{length}
 use Rattle.log_writing.proofs.put_blocks.Given as goal
 
 abbrev pub invariant-loop-k : goal.invariant-loop-k
-invariant-loop-k l = (l.k ≤ l.n) × (l.next ≤ 9 + 7 * l.k) × (length l.out ≡ length l.initial.out) × Put l.initial.out l.at (concat_to (block_bytes l.list) l.k) l.out l.next
-
-abbrev pub decreases-loop-k : goal.decreases-loop-k
-decreases-loop-k l = l.n - l.k
+invariant-loop-k l = (l.next ≤ 9 + 7 * l.k) × (length l.out ≡ length l.initial.out) × Put l.initial.out l.at (concat_to (block_bytes l.list) l.k) l.out l.next

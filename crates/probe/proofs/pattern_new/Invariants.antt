@@ -1,15 +1,10 @@
 -- `pattern_new`: the points left lead from the best by now to where all lead from the first.
-use Prim.Native.Nat.{◌-◌, ◌≤◌}
-use lib.ListN.{length}
 use Rattle.search.specs.Target.{target_of}
 use Rattle.probe.specs.Probe.{around}
 use Rattle.probe.specs.BestSoFar.{point, pairs}
 use Rattle.probe.proofs.Looks.{Going}
 use Rattle.probe.proofs.pattern_new.Given as goal
 
-abbrev pub invariant-loop-i : goal.invariant-loop-i
-invariant-loop-i l =
-    (l.cy ≤ 32) × (l.cx ≤ 32) × Going (target_of l.older l.newer l.b) (around (point l.oy l.ox) (pairs l.before)) l.cy l.cx l.p l.offsets l.initial.best l.best l.i
-
-abbrev pub decreases-loop-i : goal.decreases-loop-i
-decreases-loop-i l = length l.offsets - l.i
+abbrev pub invariant-loop-dy : goal.invariant-loop-dy
+invariant-loop-dy l =
+    Going (target_of l.older l.newer l.b) (around (point l.oy l.ox) (pairs l.before)) l.cy l.cx l.p l.offsets l.initial.best l.best l.dy-index

@@ -19,7 +19,7 @@ size : (c : After-magnitude) → c.magnitude.result ≡ nat_abs c.args.d
 size c = rw (to_z-of_z c.ranges.d) at c.magnitude.ensures
 
 small : (c : After-magnitude) → c.args.p * c.magnitude.result ≤ 256
-small c = let h : c.magnitude.result ≤ 16 = omega (arith, (let size : c.magnitude.result ≡ nat_abs c.args.d = rw (to_z-of_z c.ranges.d) at c.magnitude.ensures in size)) in mul-le-mul {n₂ = 16} {m₂ = 16} (omega arith) h
+small c = mul-le-mul {n₂ = 16} {m₂ = 16} (omega arith) (omega (arith, size c))
 
 pub overflow_mul-m : goal.overflow_mul-m
 overflow_mul-m c = omega (arith, small c)
@@ -35,7 +35,7 @@ negated-requires c =
 product : (c : After-magnitude) → ◌≡◌ (to_z w32 (c.args.p * c.magnitude.result)) (pos (c.args.p * nat_abs c.args.d))
 product c =
     let p = c.args.p in
-    to_z_pos w32 (p * c.magnitude.result) (omega (arith, (let small : c.args.p * c.magnitude.result ≤ 256 = let h : c.magnitude.result ≤ 16 = omega (arith, (let size : c.magnitude.result ≡ nat_abs c.args.d = rw (to_z-of_z c.ranges.d) at c.magnitude.ensures in size)) in mul-le-mul {n₂ = 16} {m₂ = 16} (omega arith) h in small))) ∙ ap (λ n. pos (p * n)) (let size : c.magnitude.result ≡ nat_abs c.args.d = rw (to_z-of_z c.ranges.d) at c.magnitude.ensures in size)
+    to_z_pos w32 (p * c.magnitude.result) (omega (arith, small c)) ∙ ap (λ n. pos (p * n)) (size c)
 
 pub returns-then-d-lt0 : goal.returns-then-d-lt0
 returns-then-d-lt0 c =

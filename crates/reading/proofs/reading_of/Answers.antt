@@ -1,7 +1,7 @@
 -- `reading_of`: the walk along the table keeps the first greatest count; after its last vector that is the array's reading.
 use mathlib.Core.Path.{◌≡◌}
 use native.Mathlib.Omega.{arith}
-use borrow.Author.Rules.{sfits_of}
+use borrow.Author.Rules.{rules}
 use mir.Facts.{to_z-of_z}
 use Rattle.order.proofs.Order.{inside}
 use Rattle.order.specs.Vectors.{vector_count}
@@ -33,5 +33,5 @@ pub returns : goal.returns
 returns c =
     let l = c.loop-k in
     let e : l.k ≡ vector_count = omega arith in
-    rw (to_z-of_z {z = l.best.dy} (sfits_of {w = w32} c.struct_told-1.given.0.1), to_z-of_z {z = l.best.dx} (sfits_of {w = w32} c.struct_told-1.given.1.0.1))
+    rw (to_z-of_z {w = w32} {z = l.best.dy} (search rules), to_z-of_z {w = w32} {z = l.best.dx} (search rules))
     (walked_last (rw e at l.invariant))

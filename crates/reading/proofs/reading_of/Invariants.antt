@@ -1,11 +1,6 @@
 -- `reading_of`: the walk along the table keeps the first greatest count; after its last vector that is the array's reading.
-use Prim.Native.Nat.{◌-◌}
-use Rattle.order.specs.Vectors.{vector_count}
 use Rattle.reading.proofs.Tally.{Walked}
 use Rattle.reading.proofs.reading_of.Given as goal
 
 abbrev pub invariant-loop-k : goal.invariant-loop-k
 invariant-loop-k l = Walked l.votes l.k l.best l.most
-
-abbrev pub decreases-loop-k : goal.decreases-loop-k
-decreases-loop-k l = vector_count - l.k

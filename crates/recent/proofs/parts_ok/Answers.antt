@@ -2,7 +2,7 @@
 use Prim.Native.Nat.{◌+◌, ◌*◌}
 use mathlib.Core.Path.{◌≡◌, sym, ap, ◌∙◌}
 use native.Mathlib.Omega.{arith}
-use borrow.Author.Rules.{sfits_of}
+use borrow.Author.Rules.{rules}
 use lib.IntN.{ℤ, pos}
 use lib.ListN.{get_or}
 use mir.Facts.{to_z-of_z}
@@ -16,7 +16,7 @@ use Rattle.recent.proofs.parts_ok.Goals as goal
 use Rattle.recent.proofs.parts_ok.Goals.{After-counted-total, After-loop-k, After-shift}
 
 pub loop-k-init : goal.loop-k-init
-loop-k-init c = (omega arith, sym (sum_to_none _))
+loop-k-init c = sym (sum_to_none _)
 
 pub bounds-places-k : goal.bounds-places-k
 bounds-places-k c = omega arith
@@ -26,15 +26,15 @@ next : (c : After-counted-total) →
     c.loop-k.total + c.counted-total.result ≡ counted_to c.args.places.now (c.loop-k.k + 1)
 next c =
     let z = get_or c.args.places.now c.loop-k.k (pos 0) in
-    rw (sum_to_more (λ i. counted (get_or c.args.places.now i (pos 0))) c.loop-k.k, ← c.loop-k.invariant.1)
-    (ap (λ n. c.loop-k.total + n) (c.counted-total.ensures ∙ ap counted (to_z-of_z {z = z} (sfits_of {w = w32} c.z-1.given))))
+    rw (sum_to_more (λ i. counted (get_or c.args.places.now i (pos 0))) c.loop-k.k, ← c.loop-k.invariant)
+    (ap (λ n. c.loop-k.total + n) (c.counted-total.ensures ∙ ap counted (to_z-of_z {w = w32} {z = z} (search rules))))
 
 pub overflow_add-total : goal.overflow_add-total
 overflow_add-total c =
     omega (arith, next c, counted_few c.args.places.now (c.loop-k.k + 1))
 
 pub loop-k-preserved : goal.loop-k-preserved
-loop-k-preserved c = (omega arith, next c)
+loop-k-preserved c = next c
 
 pub overflow_mul-held : goal.overflow_mul-held
 overflow_mul-held c = omega (arith, c.requires.1)
@@ -51,7 +51,7 @@ total-is : (c : After-loop-k) → let a = c.args in c.loop-k.total ≡ counted_t
 total-is c =
     let l = c.loop-k in
     let e : l.k ≡ c.args.held = omega arith in
-    rw e at l.invariant.1
+    rw e at l.invariant
 
 pub returns-in_default : goal.returns-in_default
 returns-in_default c =

@@ -1,11 +1,7 @@
 -- `parts_ok`: the held parts are counted one by one, and the total is held against the sum.
-use Prim.Native.Nat.{◌-◌, ◌≤◌}
 use mathlib.Core.Path.{◌≡◌}
 use Rattle.recent.specs.Counting.{counted_to}
 use Rattle.recent.proofs.parts_ok.Given as goal
 
 abbrev pub invariant-loop-k : goal.invariant-loop-k
-invariant-loop-k l = (l.k ≤ l.held) × (l.total ≡ counted_to l.places l.k)
-
-abbrev pub decreases-loop-k : goal.decreases-loop-k
-decreases-loop-k l = l.held - l.k
+invariant-loop-k l = l.total ≡ counted_to l.places l.k

@@ -2,7 +2,7 @@
 use mathlib.Core.Path.{◌≡◌, ap, ◌∙◌}
 use mathlib.Core.Bool.{true}
 use native.Mathlib.Omega.{arith}
-use borrow.Author.Rules.{sfits_of}
+use borrow.Author.Rules.{rules}
 use borrow.Author.Tests.{le-leb, lt-leb}
 use lib.Dec.{leb}
 use mir.Facts.{to_z-of_z}
@@ -23,7 +23,7 @@ few c = le-leb c.args.r.held most_held (omega arith)
 down_is : (c : After-parts_ok) → let r = c.args.r in c.parts_ok.result ≡ parts_ok r.dy r.held r.down
 down_is c =
     let r = c.args.r in
-    c.parts_ok.ensures ∙ ap (parts_ok r.dy r.held) (to_z-of_z {z = r.down} (sfits_of {w = w32} c.struct_told-1.given.1.1.1.0.1))
+    c.parts_ok.ensures ∙ ap (parts_ok r.dy r.held) (to_z-of_z {w = w32} {z = r.down} (search rules))
 
 pub returns-then-not-parts_ok : goal.returns-then-not-parts_ok
 unfolding recent_ok
@@ -34,4 +34,4 @@ unfolding recent_ok
 returns c =
     let r = c.args.r in
     rw (few (goal.at.returns c).Else-held-gt-MOST, told (down_is (goal.at.returns c).After-parts_ok) c.if-not-parts_ok.false)
-    (c.parts_ok-2.ensures ∙ ap (parts_ok r.dx r.held) (to_z-of_z {z = r.across} (sfits_of {w = w32} c.struct_told-2-1.given.1.1.1.1.0.1)))
+    (c.parts_ok-2.ensures ∙ ap (parts_ok r.dx r.held) (to_z-of_z {w = w32} {z = r.across} (search rules)))
