@@ -7,18 +7,15 @@ use Rattle.base.specs.Lists.{fill_none, fill_more}
 use Rattle.window_copy.proofs.copy_row.Goals as goal
 
 pub loop-j-init : goal.loop-j-init
-loop-j-init c = (omega arith, fill_none _ _ _, refl)
-
-pub loop-j-smaller : goal.loop-j-smaller
-loop-j-smaller c = omega arith
+loop-j-init g c = (fill_none _ _ _, refl)
 
 pub loop-j-preserved : goal.loop-j-preserved
-loop-j-preserved c =
+loop-j-preserved g c =
     let l = c.loop-j in
-    (omega arith, rw l.invariant.1 (fill_more _ _ _ l.j (omega arith)), simp length-set (search rules))
+    (rw (l.invariant.0, c.of.ensures) (fill_more _ _ _ l.j (omega arith)), simp length-set (search rules))
 
 pub returns : goal.returns
-returns c =
+returns g c =
     let l = c.loop-j in
     let e : l.j ≡ c.args.columns = omega arith in
-    rw e at l.invariant.1
+    rw e at l.invariant.0

@@ -11,14 +11,14 @@ use Rattle.window_copy.proofs.grey_row.Goals as goal
 use Rattle.window_copy.proofs.grey_row.Goals.{then-frame-from, else-frame-from}
 
 pub loop-j-init : goal.loop-j-init
-loop-j-init c = (omega arith, omega arith, refl)
+loop-j-init c = (omega arith, refl)
 
 pub overflow_add-others : goal.overflow_add-others
 overflow_add-others c =
     let l = c.loop-j in
     elim c.if-frame-from.branch [
-      | then-frame-from w ↦ omega (arith, w.others-is, l.invariant.1)
-      | else-frame-from w ↦ omega (arith, w.others-is, l.invariant.1)
+      | then-frame-from w ↦ omega (arith, w.others-is, l.invariant.0)
+      | else-frame-from w ↦ omega (arith, w.others-is, l.invariant.0)
     ]
 
 pub loop-j-preserved : goal.loop-j-preserved
@@ -28,13 +28,11 @@ loop-j-preserved c =
     let f : ℕ → Bool = λ k. eqb (get_or a.frame.now (a.from + k) 0) a.grey in
     elim c.if-frame-from.branch [
       | then-frame-from w ↦ (
-        omega arith,
-        omega (arith, w.others-is, l.invariant.1),
-        rw w.others-is (none_yes f l.others l.j l.invariant.2 (eq-eqb _ _ w.if-frame-from.true)),
+        omega (arith, w.others-is, l.invariant.0),
+        rw w.others-is (none_yes f l.others l.j l.invariant.1 (eq-eqb _ _ w.if-frame-from.true)),
       )
       | else-frame-from w ↦ (
-        omega arith,
-        omega (arith, w.others-is, l.invariant.1),
+        omega (arith, w.others-is, l.invariant.0),
         rw w.others-is (none_no f l.others l.j (ne_eqb _ _ w.if-frame-from.false)),
       )
     ]
@@ -43,4 +41,4 @@ pub returns : goal.returns
 returns c =
     let l = c.loop-j in
     let e : l.j ≡ c.args.columns = omega arith in
-    rw e at l.invariant.2
+    rw e at l.invariant.1
