@@ -61,13 +61,7 @@ pub fn copy_rows<T: Pel>(
     ensures { copy.new ≡ stored_rows (λ i j. T.of_pel (get_or frame.now (from + i * width + j) 0)) columns copy.old at pitch rows }
 {
     for i in 0..rows {
-        copy_row(
-            frame,
-            from + i * width,
-            columns,
-            copy,
-            at + i * pitch,
-        );
+        copy_row(frame, from + i * width, columns, copy, at + i * pitch);
     }
 }
 

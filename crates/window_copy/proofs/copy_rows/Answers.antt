@@ -1,6 +1,5 @@
 -- `copy_rows`: after i turns the first i rows are copied.
-use mathlib.Core.Path.{◌≡◌, refl, sym, ◌∙◌}
-use native.Mathlib.Omega.{arith}
+use mathlib.Core.Path.{refl, sym, ◌∙◌}
 use Rattle.base.specs.Lists.{stored_none, stored_more}
 use Rattle.window_copy.proofs.copy_rows.Goals as goal
 
@@ -11,12 +10,3 @@ pub loop-i-preserved : goal.loop-i-preserved
 loop-i-preserved g c =
     let l = c.loop-i in
     (c.copy_row.ensures ∙ rw l.invariant.0 (sym (stored_more _ _ _ _ _ l.i)), c.copy_row.auto.copy ∙ l.invariant.1)
-
-pub shape_of-copy : goal.shape_of-copy
-shape_of-copy g c = c.loop-i.invariant.1
-
-pub returns : goal.returns
-returns g c =
-    let l = c.loop-i in
-    let e : l.i ≡ c.args.rows = omega arith in
-    rw e at l.invariant.0

@@ -1,21 +1,15 @@
 -- `one_grey`: after so many turns so many rows have the grey of the first pel.
-use mathlib.Core.Path.{◌≡◌, refl, sym}
+use mathlib.Core.Path.{◌≡◌, sym}
 use native.Mathlib.Omega.{arith}
 use Rattle.base.specs.Tests.{told}
 use Rattle.window_copy.specs.Grey.{one_grey}
-use Rattle.window_copy.proofs.Grey.{all_yes, all_not}
+use Rattle.window_copy.proofs.Grey.{all_not}
 use Rattle.window_copy.proofs.one_grey.Goals as goal
-
-pub loop-row-init : goal.loop-row-init
-loop-row-init c = refl
 
 pub returns-then-not-grey_row : goal.returns-then-not-grey_row
 unfolding one_grey
 returns-then-not-grey_row c =
     sym (all_not _ c.args.rows c.loop-row.row (omega arith) (told c.grey_row.ensures c.if-not-grey_row.true))
-
-pub loop-row-preserved : goal.loop-row-preserved
-loop-row-preserved c = all_yes _ c.loop-row.row c.loop-row.invariant (told c.grey_row.ensures c.if-not-grey_row.false)
 
 pub returns : goal.returns
 unfolding one_grey
