@@ -91,7 +91,7 @@ copy_rows-requires c =
     (inside (goal.at.copy_rows-requires c).Start, omega (arith, mul-le-mul_right (n + 32) rows, area_is n, c.requires.4, k), c.requires.0.wide, omega (arith, c.requires.1), omega (arith, k, c.requires.1))
 
 pub shape_of-boxes : goal.shape_of-boxes
-shape_of-boxes c = c.copy_rows.auto.boxes
+shape_of-boxes c = c.copy_rows.auto.copy
 
 pub returns : goal.returns
 returns c = rw (← c.requires.3) c.copy_rows.ensures

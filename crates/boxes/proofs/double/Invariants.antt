@@ -1,5 +1,4 @@
 -- `double`: after t turns the first t boxes are stored; what they are made of stands before them.
-use Prim.Native.Nat.{◌-◌, ◌≤◌}
 use mathlib.Core.Path.{◌≡◌}
 use lib.ListN.{length}
 use Rattle.base.specs.Lists.{fill_to}
