@@ -114,12 +114,11 @@ fn fill_from_pels(boxes: &mut [u16], n: usize, span: usize)
     let pitch = n + 32;
     let next = area(n);
     let window = pitch * pitch;
+    let most = n.min(16);
     let mut from: usize = 0;
     let mut m: usize = 1;
-    while m < n {
-        if m == 16 {
-            return;
-        }
+    // m is twice the m before: that is no counter.
+    while m < most {
         let rest = n - 2 * m;
         double(
             boxes,
