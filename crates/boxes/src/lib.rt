@@ -8,7 +8,7 @@ ghost use Rattle.base.specs.Lists.{fill_to};
 ghost use Rattle.refusals.specs.Refusals.{block_size_ok};
 ghost use Rattle.search.specs.Target.{Ready};
 ghost use Rattle.reach.specs.Reach.{Standing, reach};
-ghost use Rattle.boxes.specs.Boxes.{window_pels, block_pels, doubled, Cut, area, span_of, level_of, whole_of, Levels, Boxed};
+ghost use Rattle.boxes.specs.Boxes.{block_pels, doubled, Cut, area, span_of, level_of, whole_of, Levels, Boxed};
 
 use frame::{Region, SearchBlock};
 
@@ -29,29 +29,6 @@ pub struct Level {
 }
 
 // ---- pels
-
-// The search window, from the first place on.
-fn copy_window(older: &[u8], b: SearchBlock, r: Region, boxes: &mut [u16])
-    requires { Standing b × (b.setting.n ≤ 32) × (b.setting.height * b.setting.width ≤ length older.now) × (r ≡ reach b)
-        × (area b.setting.n ≤ length boxes.old) }
-    ensures { boxes.new ≡ window_pels older.now b boxes.old }
-{
-    let s = b.setting;
-    let n = s.n;
-    let width = s.width;
-    let row = b.y + r.top - 16;
-    let column = b.x + r.left - 16;
-    window_copy::copy_rows(
-        older,
-        width,
-        row * width + column,
-        r.rows + n - 1,
-        r.columns + n - 1,
-        boxes,
-        0,
-        n + 32,
-    );
-}
 
 // The block, behind the window.
 fn copy_block(newer: &[u8], b: SearchBlock, boxes: &mut [u16])
@@ -147,9 +124,9 @@ pub fn fill(older: &[u8], newer: &[u8], b: SearchBlock, r: Region, boxes: &mut [
         × ((u : ℕ) → u < area b.setting.n → get_or boxes.old u 0 ≤ 255) }
     ensures { Boxed older.now newer.now b boxes.new }
 {
-    copy_window(older, b, r, boxes);
-    copy_block(newer, b, boxes);
     let n = b.setting.n;
+    window_copy::copy_window(older, b, r, boxes, 0, n + 32);
+    copy_block(newer, b, boxes);
     fill_from_pels(boxes, n, span(n, r));
 }
 

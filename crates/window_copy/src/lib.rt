@@ -3,10 +3,13 @@
 
 #![tactic(auto)]
 
-ghost use Rattle.std.specs.Prelude.{◌≡◌, ℕ, ◌+◌, ◌*◌, ◌≤◌, ◌<◌, length, get_or};
+ghost use Rattle.std.specs.Prelude.{◌≡◌, ℕ, ◌+◌, ◌-◌, ◌*◌, ◌≤◌, ◌<◌, length, get_or};
 ghost use Rattle.base.specs.Lists.{fill_to, stored_rows};
+ghost use Rattle.reach.specs.Reach.{Standing, reach};
 ghost use Rattle.window_copy.specs.Copy.{copy_up_to};
 ghost use Rattle.window_copy.specs.Grey.{grey_row, one_grey};
+
+use frame::{Region, SearchBlock};
 
 // The places of a copy's row: a search window has N + 2 × 16 columns at most.
 pub const ROW: usize = 64;
@@ -63,6 +66,37 @@ pub fn copy_rows<T: Pel>(
     for i in 0..rows {
         copy_row(frame, from + i * width, columns, copy, at + i * pitch);
     }
+}
+
+// A block's search window, copied to place `at` on, where rows begin `pitch` places apart.
+pub fn copy_window<T: Pel>(
+    older: &[u8],
+    b: SearchBlock,
+    r: Region,
+    copy: &mut [T],
+    at: usize,
+    pitch: usize,
+)
+    requires { Standing b × (b.setting.n ≤ 32) × (b.setting.height * b.setting.width ≤ length older.now) × (r ≡ reach b) × (pitch ≤ 64)
+        × (at + (r.rows + b.setting.n - 1) * pitch + (r.columns + b.setting.n - 1) ≤ length copy.old + pitch) }
+    ensures { copy.new ≡ stored_rows (λ i j. T.of_pel (get_or older.now ((b.y + r.top - 16) * b.setting.width + (b.x + r.left - 16) + i * b.setting.width + j) 0))
+        (r.columns + b.setting.n - 1) copy.old at pitch (r.rows + b.setting.n - 1) }
+{
+    let s = b.setting;
+    let n = s.n;
+    let width = s.width;
+    let row = b.y + r.top - 16;
+    let column = b.x + r.left - 16;
+    copy_rows(
+        older,
+        width,
+        row * width + column,
+        r.rows + n - 1,
+        r.columns + n - 1,
+        copy,
+        at,
+        pitch,
+    );
 }
 
 // The distortion by absolute differences of a copied 16 × 16 block against the older block that begins at place `at` of a copied search window, as far
