@@ -3,9 +3,9 @@
 --   walk_first, walk_more, walk_last  the pels alone, twice the m, and all m
 --   walk_window, walk_own             what stands at the m reached last; window_small, one_small: it is small
 --   Turn                              where a turn reads and stores; walk_turn: so it does
-use Prim.Native.Nat.{ℕ, zero, suc, ◌+◌, ◌-◌, ◌*◌, ◌^◌, ◌≤◌, ◌<◌}
+use Prim.Native.Nat.{ℕ, zero, suc, ◌+◌, ◌-◌, ◌*◌, ◌^◌, ◌≤◌, ◌<◌, min}
 use mathlib.Core.Path.{◌≡◌, refl, sym, ap, ap₂, subst, ◌∙◌}
-use mathlib.Core.Logic.{◌⊎◌, ⊎_elim}
+use mathlib.Core.Logic.{⊎_elim}
 use mathlib.Core.List.{List}
 use native.Mathlib.Nat.{zero-mul, pow-le-pow_right, one-le-pow, le_trans, mul-le-mul, mul-le-mul_right, zero-lt-suc, eq-or-lt_of_le}
 use native.Mathlib.Omega.{arith}
@@ -77,17 +77,14 @@ module _ (first : List ℕ) (n span : ℕ) where
       own (suc l) t h i = absurd (omega arith)
 
   -- after the last turn
-  pub walk_last : (boxes : List ℕ) (from m : ℕ) → Walk boxes from m → (n ≤ m) ⊎ (m ≡ 16) → Levels pels n span boxes
+  pub walk_last : (boxes : List ℕ) (from m : ℕ) → Walk boxes from m → min n 16 ≤ m → Levels pels n span boxes
   walk_last boxes from m w e = record {
     window = λ x t c h. rw (cut_at n x c) (window x t c h);
     own = λ x t c h. rw (cut_at n x c) (own x t c h);
   }
     where
       reached : (x : ℕ) (c : Cut n x) → c.exponent ≤ w.k
-      reached x c =
-          ⊎_elim (λ (h : n ≤ m). power_below w.k c.exponent (omega (arith, c.power, c.inside, w.power)))
-          (λ (h : m ≡ 16). le_trans c.few (power_below w.k 4 (omega (arith, w.power))))
-          e
+      reached x c = power_below w.k c.exponent (omega (arith, c.power, c.inside, w.power, pow-le-pow_right {n = 2} (zero-lt-suc 1) c.few))
 
       window : (x t : ℕ) (c : Cut n x) → t < window_places n span x → get_or boxes (c.exponent * area n + t) 0 ≡ box pels (n + 32) x t
       window x t c h = rw c.power (w.window c.exponent t (reached x c) (rw c.power at h))

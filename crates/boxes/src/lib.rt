@@ -8,8 +8,7 @@ ghost use Rattle.base.specs.Lists.{fill_to};
 ghost use Rattle.refusals.specs.Refusals.{block_size_ok};
 ghost use Rattle.search.specs.Target.{Ready};
 ghost use Rattle.reach.specs.Reach.{Standing, reach};
-ghost use Rattle.window_copy.specs.Copy.{copied_rows};
-ghost use Rattle.boxes.specs.Boxes.{window_pels, block_pels, doubled, Cut, area, span_of, level_of, whole_of, Levels, Boxed};
+ghost use Rattle.boxes.specs.Boxes.{block_pels, doubled, Cut, area, span_of, level_of, whole_of, Levels, Boxed};
 
 use frame::{Region, SearchBlock};
 
@@ -31,67 +30,6 @@ pub struct Level {
 
 // ---- pels
 
-// So many pels from place `from` on, copied to place `at` on.
-fn copy_row(frame: &[u8], from: usize, columns: usize, boxes: &mut [u16], at: usize)
-    requires { (from + columns ≤ length frame.now) × (at + columns ≤ length boxes.old) }
-    ensures { boxes.new ≡ fill_to boxes.old at (λ j. get_or frame.now (from + j) 0) columns }
-{
-    let mut j: usize = 0;
-    while j < columns {
-        boxes[at + j] = frame[from + j] as u16;
-        j += 1;
-    }
-}
-
-// So many rows of a frame, from place `from` on, copied to place `at` on, where rows begin `pitch` places apart.
-fn copy_rows(
-    frame: &[u8],
-    width: usize,
-    from: usize,
-    rows: usize,
-    columns: usize,
-    boxes: &mut [u16],
-    at: usize,
-    pitch: usize,
-)
-    requires { (from + rows * width + columns ≤ length frame.now + width) × (at + rows * pitch + columns ≤ length boxes.old + pitch)
-        × (width ≤ 1024) × (pitch ≤ 64) × (rows ≤ 64) }
-    ensures { boxes.new ≡ copied_rows frame.now width from columns boxes.old at pitch rows }
-{
-    let mut p = from;
-    let mut k = at;
-    let mut i: usize = 0;
-    while i < rows {
-        copy_row(frame, p, columns, boxes, k);
-        p += width;
-        k += pitch;
-        i += 1;
-    }
-}
-
-// The search window, from the first place on.
-fn copy_window(older: &[u8], b: SearchBlock, r: Region, boxes: &mut [u16])
-    requires { Standing b × (b.setting.n ≤ 32) × (b.setting.height * b.setting.width ≤ length older.now) × (r ≡ reach b)
-        × (area b.setting.n ≤ length boxes.old) }
-    ensures { boxes.new ≡ window_pels older.now b boxes.old }
-{
-    let s = b.setting;
-    let n = s.n;
-    let width = s.width;
-    let row = b.y + r.top - 16;
-    let column = b.x + r.left - 16;
-    copy_rows(
-        older,
-        width,
-        row * width + column,
-        r.rows + n - 1,
-        r.columns + n - 1,
-        boxes,
-        0,
-        n + 32,
-    );
-}
-
 // The block, behind the window.
 fn copy_block(newer: &[u8], b: SearchBlock, boxes: &mut [u16])
     requires { Standing b × (b.setting.n ≤ 32) × (b.setting.height * b.setting.width ≤ length newer.now)
@@ -101,7 +39,7 @@ fn copy_block(newer: &[u8], b: SearchBlock, boxes: &mut [u16])
     let s = b.setting;
     let n = s.n;
     let width = s.width;
-    copy_rows(
+    window_copy::copy_rows(
         newer,
         width,
         b.y * width + b.x,
@@ -121,11 +59,9 @@ fn double(boxes: &mut [u16], from: usize, m: usize, below: usize, to: usize, siz
     requires small { (u : ℕ) → from ≤ u → u < from + below + m + size → get_or boxes.old u 0 ≤ 16383 }
     ensures { boxes.new ≡ fill_to boxes.old to (doubled boxes.old from m below) size }
 {
-    let mut t: usize = 0;
-    while t < size {
+    for t in 0..size {
         boxes[to + t] = (boxes[from + t] + boxes[from + t + m])
             + (boxes[from + below + t] + boxes[from + below + t + m]);
-        t += 1;
     }
 }
 
@@ -155,12 +91,11 @@ fn fill_from_pels(boxes: &mut [u16], n: usize, span: usize)
     let pitch = n + 32;
     let next = area(n);
     let window = pitch * pitch;
+    let most = n.min(16);
     let mut from: usize = 0;
     let mut m: usize = 1;
-    while m < n {
-        if m == 16 {
-            return;
-        }
+    // m is twice the m before: that is no counter.
+    while m < most {
         let rest = n - 2 * m;
         double(
             boxes,
@@ -189,9 +124,9 @@ pub fn fill(older: &[u8], newer: &[u8], b: SearchBlock, r: Region, boxes: &mut [
         × ((u : ℕ) → u < area b.setting.n → get_or boxes.old u 0 ≤ 255) }
     ensures { Boxed older.now newer.now b boxes.new }
 {
-    copy_window(older, b, r, boxes);
-    copy_block(newer, b, boxes);
     let n = b.setting.n;
+    window_copy::copy_window(older, b, r, boxes, 0, n + 32);
+    copy_block(newer, b, boxes);
     fill_from_pels(boxes, n, span(n, r));
 }
 

@@ -32,19 +32,12 @@ const TWICE: usize = 128;
 
 // ---- keys
 
-// The lesser of the two.
-fn lesser(a: u64, b: u64) -> u64
-    ensures { result ≡ min a b }
-{
-    if b < a { b } else { a }
-}
-
 // The least of a key and that of a distortion and a place in the order.
 fn lesser_key(least: u64, distortion: u32, code: u64) -> u64
     requires { code < 262144 }
     ensures { result ≡ min least (distortion * 262144 + code) }
 {
-    lesser(least, distortion as u64 * 262144 + code)
+    least.min(distortion as u64 * 262144 + code)
 }
 
 // ---- rows
@@ -77,8 +70,7 @@ fn row_least(
 {
     let down = reach::code_of(64, i);
     let mut least = best;
-    let mut j = from;
-    while j < to {
+    for j in from..to {
         let d = sum_at(
             window,
             block,
@@ -87,7 +79,6 @@ fn row_least(
             (least / 262144) as u32,
         );
         least = lesser_key(least, d, down + codes[j]);
-        j += 1;
     }
     least
 }
@@ -138,11 +129,9 @@ fn rows_least(
 {
     let codes = reach::codes_of(1);
     let mut best = row_in_reach(window, block, kernel, 16, r, &codes, first);
-    let mut t: usize = 1;
-    while t <= 16 {
+    for t in 1..17 {
         let above = row_in_reach(window, block, kernel, 16 - t, r, &codes, best);
         best = row_in_reach(window, block, kernel, 16 + t, r, &codes, above);
-        t += 1;
     }
     best
 }
@@ -152,17 +141,10 @@ fn copy_window(older: &[u8], b: SearchBlock, r: Region, window: &mut [u8; WINDOW
     requires { Standing b × (b.setting.n ≤ 32) × (b.setting.height * b.setting.width ≤ length older.now) × (r ≡ reach b) × (length window.old ≡ 4096) }
     ensures { window.new ≡ window_copy older.now b window.old }
 {
-    let s = b.setting;
-    let n = s.n;
-    let width = s.width;
-    let row = b.y + r.top - 16;
-    let column = b.x + r.left - 16;
-    window_copy::copy_rows(
+    window_copy::copy_window(
         older,
-        width,
-        row * width + column,
-        r.rows + n - 1,
-        r.columns + n - 1,
+        b,
+        r,
         window,
         window_copy::ROW * r.top + r.left,
         window_copy::ROW,
@@ -200,14 +182,10 @@ fn copy_strip(window: &[u8; WINDOW], j: usize, strip: &mut [u8; STRIP])
     requires { (length window.now ≡ 4096) × (j < 33) × (length strip.old ≡ 320) }
     ensures { strip.new ≡ strip_of window.now j }
 {
-    let mut i: usize = 0;
-    while i < 40 {
-        let mut c: usize = 0;
-        while c < 8 {
+    for i in 0..40usize {
+        for c in 0..8usize {
             strip[8 * i + c] = window[64 * i + j + c];
-            c += 1;
         }
-        i += 1;
     }
 }
 
@@ -249,24 +227,20 @@ fn column_least(
     let middle = (from + to) / 2;
     let mut least = best;
     let mut other = best;
-    let mut i = from;
-    let mut k = middle;
-    while i < middle {
+    let half = middle - from;
+    for i in from..middle {
+        let k = i + half;
         let at = 64 * (i % 2);
         let d = distortion::four_rows(strip, block, measures::ABSOLUTE, 16, 16, at, 8 * i, 16);
         let e = distortion::four_rows(strip, block, measures::ABSOLUTE, 16, 16, at, 8 * k, 16);
         least = lesser_key(least, d, across + codes[i]);
         other = lesser_key(other, e, across + codes[k]);
-        i += 1;
-        k += 1;
     }
-    if k < to {
-        return lesser(
-            least,
-            with_row(strip, block, j, k, across + codes[k], other),
-        );
+    let last = middle + half;
+    if last < to {
+        other = with_row(strip, block, j, last, across + codes[last], other);
     }
-    lesser(least, other)
+    least.min(other)
 }
 
 // The least of all keys in reach, from that of (0,0) on, column by column.
@@ -279,11 +253,9 @@ fn columns_least(window: &[u8; WINDOW], block: &[u8; TWICE], r: Region, first: u
     let codes = reach::codes_of(64);
     let mut strip = [0u8; STRIP];
     let mut best = first;
-    let mut j = r.left;
-    while j < right {
+    for j in r.left..right {
         copy_strip(window, j, &mut strip);
         best = column_least(&strip, block, j, r.top, bottom, &codes, best);
-        j += 1;
     }
     best
 }

@@ -84,9 +84,9 @@ every_keys r h =
     ∙ zero_key (r.top + i) (r.left + j)))
 
 -- all rows are stored
-pub every_last : (r : Region) (before list : List ℕ) (i count : ℕ) → r.left + r.columns ≤ 33 → i ≡ r.rows → count ≡ i * r.columns
-    → Rowed (code_in r) r.columns before list i → (count ≡ r.rows * r.columns) × (list ≡ keys_of (λ v. 0) (spots r) ++ drop count before)
-every_last r before list i count h e q g = (rw (q, e), rw (q, e, every_keys r h) (rw e at g.filled))
+pub every_last : (r : Region) (before list : List ℕ) (i : ℕ) → r.left + r.columns ≤ 33 → i ≡ r.rows
+    → Rowed (code_in r) r.columns before list i → list ≡ keys_of (λ v. 0) (spots r) ++ drop (r.rows * r.columns) before
+every_last r before list i h e g = rw (every_keys r h) (rw e at g.filled)
 
 -- the key at place i is that of the spot at place i
 pub keys_at : (cost : Vector → ℕ) (ts : List ℕ) (i : ℕ) → i < length ts → get_or (keys_of cost ts) i 0 ≡ key_on cost (get_or ts i 0)

@@ -1,6 +1,7 @@
 -- Measuring the listed: the older block of a spot, and the least key so far, as a loop carries it along from a number that no key reaches.
 --   spot_behind        the older block's row and column are not less than 0; spot_block: it can be compared with the newer block
 --   distortion_small   a distortion of frames of bytes is below 2^27
+--   nearest_more       the least of one key more
 --   least_more         one key more; least_first: in the end the number that began is not the least
 use Prim.Native.Nat.{ℕ, ◌+◌, ◌-◌, ◌/◌, ◌%◌, ◌≤◌, ◌<◌, min}
 use mathlib.Core.Path.{◌≡◌, refl, ap, ◌∙◌}
@@ -10,9 +11,9 @@ use native.Mathlib.Nat.{le_trans, zero-lt-suc}
 use native.Mathlib.Omega.{arith}
 use borrow.Author.Tests.{ltb-true, ltb-false, lt-ltb}
 use lib.Dec.{ltb}
-use lib.ListN.{length, get_or}
+use lib.ListN.{length, get_or, take, length-take}
 use Rattle.base.specs.Lists.{list_to, list_to_more, length_list_to, get_d_list_to}
-use Rattle.base.specs.Least.{better, least_of, least_from, least_of_more}
+use Rattle.base.specs.Least.{better, least_of, least_from, least_of_more, take_more}
 use Rattle.order.specs.declared.Vector.{Vector}
 use Rattle.frame.specs.declared.SearchBlock.{SearchBlock}
 use Rattle.frame.specs.Pictures.{pair_of}
@@ -48,6 +49,11 @@ better_min a k = go (ltb k a) refl
     go : (t : Bool) → ltb k a ≡ t → cond t k a ≡ min a k
     go true e = omega (arith, ltb-true k a e)
     go false e = omega (arith, ltb-false k a e)
+
+-- a turn of the loop that has the least of the first i as b
+pub nearest_more : (ks : List ℕ) (i b : ℕ) → b ≡ least_of (λ k. k) (take i ks) → 0 < i → i < length ks → min b (get_or ks i 0) ≡ least_of (λ k. k) (take (i + 1) ks)
+nearest_more ks i b e p h =
+    rw (take_more ks i h, least_of_more (λ k. k) (take i ks) (get_or ks i 0) (omega (arith, length-take i ks)), better_min) (ap (λ (x : ℕ). min x (get_or ks i 0)) e)
 
 pub least_more : (s : ℕ) (f : ℕ → ℕ) (i : ℕ) → least_of (λ k. k) (s ∷ list_to f (i + 1)) ≡ min (least_of (λ k. k) (s ∷ list_to f i)) (f i)
 least_more s f i =

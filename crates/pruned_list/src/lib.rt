@@ -27,10 +27,8 @@ fn list_row(
     ensures { keys.new ≡ fill_to keys.old at (λ j. order_code row (left + j)) columns }
 {
     let down = reach::code_of(64, row);
-    let mut j: usize = 0;
-    while j < columns {
+    for j in 0..columns {
         keys[at + j] = down + codes[left + j];
-        j += 1;
     }
 }
 
@@ -40,14 +38,17 @@ pub fn list_every(r: Region, keys: &mut [u64]) -> usize
     ensures { (result ≡ r.rows * r.columns) × (keys.new ≡ keys_of (λ v. 0) (spots r) ++ drop result keys.old) }
 {
     let codes = reach::codes_of(1);
-    let mut count: usize = 0;
-    let mut i: usize = 0;
-    while i < r.rows {
-        list_row(r.top + i, r.left, r.columns, &codes, keys, count);
-        count += r.columns;
-        i += 1;
+    for i in 0..r.rows {
+        list_row(
+            r.top + i,
+            r.left,
+            r.columns,
+            &codes,
+            keys,
+            i * r.columns,
+        );
     }
-    count
+    r.rows * r.columns
 }
 
 // The spot of the candidate with this key.
@@ -71,13 +72,8 @@ pub fn nearest(keys: &[u64], count: usize) -> u64
     ensures { result ≡ nearest_key keys.now count }
 {
     let mut least = keys[0];
-    let mut i: usize = 1;
-    while i < count {
-        let key = keys[i];
-        if key < least {
-            least = key;
-        }
-        i += 1;
+    for i in 1..count {
+        least = least.min(keys[i]);
     }
     least
 }
@@ -89,14 +85,12 @@ pub fn keep_within(keys: &mut [u64], count: usize, limit: u64) -> usize
     ensures { KeptWithin limit keys.old count keys.new result }
 {
     let mut kept: usize = 0;
-    let mut from: usize = 0;
-    while from < count {
+    for from in 0..count {
         let key = keys[from];
         keys[kept] = key;
         if key / 262144 <= limit {
             kept += 1;
         }
-        from += 1;
     }
     kept
 }
@@ -146,10 +140,8 @@ pub fn choose(older: &[u8], newer: &[u8], b: SearchBlock, keys: &[u64], count: u
     ensures { (result ≡ least_measured (distortion_to older.now newer.now b) keys.now count) × (result < 1125899906842624) }
 {
     let mut best: u64 = 1125899906842623;
-    let mut i: usize = 0;
-    while i < count {
+    for i in 0..count {
         best = lesser_measured(older, newer, b, keys[i], best);
-        i += 1;
     }
     best
 }

@@ -1,2 +1,3 @@
 pub mod Half
 pub mod Grey
+pub mod Window

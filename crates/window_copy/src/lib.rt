@@ -3,50 +3,100 @@
 
 #![tactic(auto)]
 
-ghost use Rattle.std.specs.Prelude.{◌≡◌, ◌+◌, ◌*◌, ◌≤◌, ◌<◌, length, get_or};
-ghost use Rattle.base.specs.Lists.{fill_to};
-ghost use Rattle.window_copy.specs.Copy.{copied_rows, copy_up_to};
+ghost use Rattle.std.specs.Prelude.{◌≡◌, ℕ, ◌+◌, ◌-◌, ◌*◌, ◌≤◌, ◌<◌, length, get_or};
+ghost use Rattle.base.specs.Lists.{fill_to, stored_rows};
+ghost use Rattle.reach.specs.Reach.{Standing, reach};
+ghost use Rattle.window_copy.specs.Copy.{copy_up_to};
 ghost use Rattle.window_copy.specs.Grey.{grey_row, one_grey};
+
+use frame::{Region, SearchBlock};
 
 // The places of a copy's row: a search window has N + 2 × 16 columns at most.
 pub const ROW: usize = 64;
 
-// So many pels from place `from` on, copied to place `at` on.
-fn copy_row(frame: &[u8], from: usize, columns: usize, copy: &mut [u8], at: usize)
-    requires { (from + columns ≤ length frame.now) × (at + columns ≤ length copy.old) }
-    ensures { copy.new ≡ fill_to copy.old at (λ j. get_or frame.now (from + j) 0) columns }
-{
-    let mut j: usize = 0;
-    while j < columns {
-        copy[at + j] = frame[from + j];
-        j += 1;
+// A number that a pel is copied to.
+pub trait Pel: Copy {
+    ghost of_pel: { ℕ → Self };
+
+    fn of(pel: u8) -> Self
+        ensures { result ≡ of_pel pel };
+}
+
+impl Pel for u8 {
+    ghost of_pel = { λ pel. pel };
+
+    fn of(pel: u8) -> u8 {
+        pel
     }
 }
 
-// So many rows of a frame, from place `from` on, copied to place `at` on, where rows begin `pitch` places apart.
-pub fn copy_rows(
+impl Pel for u16 {
+    ghost of_pel = { λ pel. pel };
+
+    fn of(pel: u8) -> u16 {
+        pel as u16
+    }
+}
+
+// So many pels from place `from` on, copied to place `at` on.
+fn copy_row<T: Pel>(frame: &[u8], from: usize, columns: usize, copy: &mut [T], at: usize)
+    requires { (from + columns ≤ length frame.now) × (at + columns ≤ length copy.old) }
+    ensures { copy.new ≡ fill_to copy.old at (λ j. T.of_pel (get_or frame.now (from + j) 0)) columns }
+{
+    for j in 0..columns {
+        copy[at + j] = T::of(frame[from + j]);
+    }
+}
+
+// So many rows of a frame, from place `from` on, copied to place `at` on, where rows begin `pitch` places apart: for numbers `copied_rows`.
+pub fn copy_rows<T: Pel>(
     frame: &[u8],
     width: usize,
     from: usize,
     rows: usize,
     columns: usize,
-    copy: &mut [u8],
+    copy: &mut [T],
     at: usize,
     pitch: usize,
 )
     requires { (from + rows * width + columns ≤ length frame.now + width) × (at + rows * pitch + columns ≤ length copy.old + pitch)
         × (width ≤ 1024) × (pitch ≤ 64) × (rows ≤ 64) }
-    ensures { copy.new ≡ copied_rows frame.now width from columns copy.old at pitch rows }
+    ensures { copy.new ≡ stored_rows (λ i j. T.of_pel (get_or frame.now (from + i * width + j) 0)) columns copy.old at pitch rows }
 {
-    let mut p = from;
-    let mut k = at;
-    let mut i: usize = 0;
-    while i < rows {
-        copy_row(frame, p, columns, copy, k);
-        p += width;
-        k += pitch;
-        i += 1;
+    for i in 0..rows {
+        copy_row(frame, from + i * width, columns, copy, at + i * pitch);
     }
+}
+
+// A block's search window, copied to place `at` on, where rows begin `pitch` places apart.
+pub fn copy_window<T: Pel>(
+    older: &[u8],
+    b: SearchBlock,
+    r: Region,
+    copy: &mut [T],
+    at: usize,
+    pitch: usize,
+)
+    requires { Standing b × (b.setting.n ≤ 32) × (b.setting.height * b.setting.width ≤ length older.now) × (r ≡ reach b) × (pitch ≤ 64)
+        × (at + (r.rows + b.setting.n - 1) * pitch + (r.columns + b.setting.n - 1) ≤ length copy.old + pitch) }
+    ensures { copy.new ≡ stored_rows (λ i j. T.of_pel (get_or older.now ((b.y + r.top - 16) * b.setting.width + (b.x + r.left - 16) + i * b.setting.width + j) 0))
+        (r.columns + b.setting.n - 1) copy.old at pitch (r.rows + b.setting.n - 1) }
+{
+    let s = b.setting;
+    let n = s.n;
+    let width = s.width;
+    let row = b.y + r.top - 16;
+    let column = b.x + r.left - 16;
+    copy_rows(
+        older,
+        width,
+        row * width + column,
+        r.rows + n - 1,
+        r.columns + n - 1,
+        copy,
+        at,
+        pitch,
+    );
 }
 
 // The distortion by absolute differences of a copied 16 × 16 block against the older block that begins at place `at` of a copied search window, as far
@@ -56,19 +106,14 @@ pub fn copy_sum(window: &[u8], block: &[u8], at: usize, ceiling: u32) -> u32
     ensures { result ≡ copy_up_to ceiling window.now block.now at }
 {
     let mut sum: u32 = 0;
-    let mut p: usize = 0;
-    let mut q = at;
-    let mut g: usize = 0;
-    while g < 4 {
+    for g in 0..4usize {
         if g == 2 {
             if ceiling < sum {
                 return sum;
             }
         }
-        sum += distortion::four_rows(window, block, measures::ABSOLUTE, ROW, ROW, p, q, 16);
-        p += 4 * ROW;
-        q += 4 * ROW;
-        g += 1;
+        let p = 4 * g * ROW;
+        sum += distortion::four_rows(window, block, measures::ABSOLUTE, ROW, ROW, p, at + p, 16);
     }
     sum
 }
@@ -79,10 +124,8 @@ fn grey_row(frame: &[u8], from: usize, columns: usize, grey: u8) -> bool
     ensures { result ≡ grey_row frame.now from columns grey }
 {
     let mut others: u8 = 0;
-    let mut j: usize = 0;
-    while j < columns {
+    for j in 0..columns {
         others += if frame[from + j] == grey { 0 } else { 1 };
-        j += 1;
     }
     others == 0
 }
@@ -94,14 +137,10 @@ pub fn one_grey(frame: &[u8], width: usize, from: usize, rows: usize, columns: u
     ensures { result ≡ one_grey frame.now width from rows columns }
 {
     let grey = frame[from];
-    let mut at = from;
-    let mut row: usize = 0;
-    while row < rows {
-        if !grey_row(frame, at, columns, grey) {
+    for row in 0..rows {
+        if !grey_row(frame, from + row * width, columns, grey) {
             return false;
         }
-        at += width;
-        row += 1;
     }
     true
 }

@@ -39,7 +39,7 @@ copy_rows-requires c =
     (inside (goal.at.copy_rows-requires c).Start, omega (arith, area_is c.args.b.setting.n, c.requires.3), c.requires.0.wide, omega (arith, c.requires.1), omega (arith, c.requires.1))
 
 pub shape_of-boxes : goal.shape_of-boxes
-shape_of-boxes c = c.copy_rows.auto.boxes
+shape_of-boxes c = c.copy_rows.auto.copy
 
 pub returns : goal.returns
 returns c = c.copy_rows.ensures

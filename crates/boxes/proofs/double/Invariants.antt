@@ -1,5 +1,4 @@
 -- `double`: after t turns the first t boxes are stored; what they are made of stands before them.
-use Prim.Native.Nat.{◌-◌, ◌≤◌}
 use mathlib.Core.Path.{◌≡◌}
 use lib.ListN.{length}
 use Rattle.base.specs.Lists.{fill_to}
@@ -8,7 +7,4 @@ use Rattle.boxes.proofs.double.Given as goal
 
 abbrev pub invariant-loop-t : goal.invariant-loop-t
 invariant-loop-t l =
-    (l.t ≤ l.size) × (l.boxes ≡ fill_to l.initial.boxes l.to (doubled l.initial.boxes l.from l.m l.below) l.t) × (length l.boxes ≡ length l.initial.boxes)
-
-abbrev pub decreases-loop-t : goal.decreases-loop-t
-decreases-loop-t l = l.size - l.t
+    (l.boxes ≡ fill_to l.initial.boxes l.to (doubled l.initial.boxes l.from l.m l.below) l.t) × (length l.boxes ≡ length l.initial.boxes)

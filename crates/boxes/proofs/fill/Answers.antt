@@ -1,7 +1,8 @@
 -- `fill`: the pels, and then the boxes of twice the m each time.
-use Prim.Native.Nat.{ℕ, ◌≤◌}
+use Prim.Native.Nat.{ℕ, ◌+◌, ◌-◌, ◌≤◌}
 use mathlib.Core.Path.{◌≡◌, ap, sym, ◌∙◌, subst}
 use mathlib.Core.List.{List}
+use native.Mathlib.Nat.{mul-le-mul_right}
 use native.Mathlib.Omega.{arith}
 use lib.ListN.{get_or}
 use Rattle.frame.specs.declared.Region.{Region}
@@ -10,6 +11,7 @@ use Rattle.distortion.specs.Blocks.{Bytes}
 use Rattle.reach.specs.Reach.{Standing, reach}
 use Rattle.reach.proofs.Candidates.{Bounds, reach_bounds, ready_standing}
 use Rattle.boxes.specs.Boxes.{window_pels, block_pels, span_of}
+use Rattle.boxes.proofs.Rooms.{area_is}
 use Rattle.boxes.proofs.Squares.{span_short, first_small, boxed}
 use Rattle.boxes.proofs.fill.Goals as goal
 use Rattle.boxes.proofs.fill.Goals.{After-span, Start}
@@ -25,12 +27,23 @@ bounds s = subst (λ (r : Region). Bounds s.args.b r) (sym s.requires.1) (reach_
 
 pub copy_window-requires : goal.copy_window-requires
 copy_window-requires c =
-    (standing (goal.at.copy_window-requires c).Start, few (goal.at.copy_window-requires c).Start, omega (arith, (c.requires.0).placed.paired.older_whole), c.requires.1, omega (arith, c.requires.2))
+    let n = c.args.b.setting.n in
+    let r = c.args.r in
+    let k = bounds (goal.at.copy_window-requires c).Start in
+    let f = few (goal.at.copy_window-requires c).Start in
+    let rows : r.rows + n - 1 ≤ n + 32 = omega (arith, k.few_rows, k.below, k.above) in (
+      standing (goal.at.copy_window-requires c).Start,
+      f,
+      omega (arith, (c.requires.0).placed.paired.older_whole),
+      c.requires.1,
+      omega (arith, f),
+      omega (arith, mul-le-mul_right (n + 32) rows, area_is n, c.requires.2, k.rows, k.columns, k.few_rows, k.few_columns),
+    )
 
 pub copy_block-requires : goal.copy_block-requires
 copy_block-requires c =
     let p = (c.requires.0).placed.paired in
-    (standing (goal.at.copy_block-requires c).Start, few (goal.at.copy_block-requires c).Start, omega (arith, p.newer_whole), omega (arith, c.requires.2, c.copy_window.auto.boxes))
+    (standing (goal.at.copy_block-requires c).Start, few (goal.at.copy_block-requires c).Start, omega (arith, p.newer_whole), omega (arith, c.requires.2, c.copy_window.auto.copy))
 
 pub span-requires : goal.span-requires
 span-requires c =
@@ -43,7 +56,7 @@ pels-are : (c : After-span) → let a = c.args in
 pels-are c =
     let a = c.args in
     c.copy_block.ensures
-    ∙ ap (λ (xs : List ℕ). block_pels a.newer.now a.b xs) c.copy_window.ensures
+    ∙ ap (λ (xs : List ℕ). block_pels a.newer.now a.b xs) (rw c.requires.1 at c.copy_window.ensures)
 
 -- a pel is a byte
 bytes : (c : After-span) → let a = c.args in
@@ -59,14 +72,14 @@ fill_from_pels-requires c =
     let p = pels-are c in (
       (c.requires.0).placed.paired.allowed,
       rw c.span.ensures (span_short c.args.b.setting.n c.args.r (omega (arith, k.few_rows)) (omega (arith, k.few_columns))),
-      omega (arith, c.requires.2, c.copy_window.auto.boxes, c.copy_block.auto.boxes),
+      omega (arith, c.requires.2, c.copy_window.auto.copy, c.copy_block.auto.boxes),
       λ u h.
           subst (λ (xs : List ℕ). get_or xs u 0 ≤ 255) (sym p)
           (first_small c.args.older.now c.args.newer.now c.args.b (c.requires.0) (bytes c).0 (bytes c).1 _ c.requires.2 c.requires.3 u h),
     )
 
 pub shape_of-boxes : goal.shape_of-boxes
-shape_of-boxes c = c.fill_from_pels.auto.boxes ∙ c.copy_block.auto.boxes ∙ c.copy_window.auto.boxes
+shape_of-boxes c = c.fill_from_pels.auto.boxes ∙ c.copy_block.auto.boxes ∙ c.copy_window.auto.copy
 
 pub returns : goal.returns
 returns c =

@@ -2,7 +2,6 @@
 use Prim.Native.Nat.{ℕ, ◌+◌, ◌≤◌, ◌<◌}
 use mathlib.Core.Path.{◌≡◌, ap, sym, ◌∙◌, subst}
 use mathlib.Core.List.{List}
-use mathlib.Core.Logic.{inl, inr}
 use native.Mathlib.Omega.{arith}
 use lib.ListN.{length, get_or}
 use Rattle.refusals.specs.Refusals.{block_size}
@@ -29,12 +28,6 @@ overflow_mul-window c = omega (arith, square_small (c.args.n + 32) 64 (omega (ar
 
 pub loop-m-init : goal.loop-m-init
 loop-m-init c = walk_first _ _ _ (omega (arith, (block_size c.args.n c.requires.0).least))
-
-pub shape_of-boxes-then-m-eq16 : goal.shape_of-boxes-then-m-eq16
-shape_of-boxes-then-m-eq16 c = c.loop-m.invariant.long
-
-pub returns-then-m-eq16 : goal.returns-then-m-eq16
-returns-then-m-eq16 c = let w = c.loop-m.invariant in (walk_last _ _ _ _ _ _ w (inr (omega arith)), w.kept)
 
 pub overflow_mul-rest : goal.overflow_mul-rest
 overflow_mul-rest c = omega (arith, turn (goal.at.overflow_mul-rest c).At-loop-m (omega arith) (λ e. omega arith), c.area-next.ensures)
@@ -125,4 +118,4 @@ pub shape_of-boxes : goal.shape_of-boxes
 shape_of-boxes c = c.loop-m.invariant.long
 
 pub returns : goal.returns
-returns c = let w = c.loop-m.invariant in (walk_last _ _ _ _ _ _ w (inl (omega arith)), w.kept)
+returns c = let w = c.loop-m.invariant in (walk_last _ _ _ _ _ _ w (omega arith), w.kept)

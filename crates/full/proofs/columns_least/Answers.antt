@@ -26,12 +26,12 @@ codes_of-codes-requires c = omega arith
 
 pub loop-j-init : goal.loop-j-init
 loop-j-init c =
-    (omega arith, omega arith, refl, passed_first _ _ c.requires.3 _ c.requires.4)
+    (refl, passed_first _ _ c.requires.3 _ c.requires.4)
 
 pub copy_strip-requires : goal.copy_strip-requires
 copy_strip-requires c =
     let p = c.requires in
-    (p.0, omega (arith, p.3.few_columns), c.loop-j.invariant.2)
+    (p.0, omega (arith, p.3.few_columns), c.loop-j.invariant.0)
 
 pub slice_bounds-column_least-end : goal.slice_bounds-column_least-end
 slice_bounds-column_least-end c = omega (arith, strip-long (goal.at.slice_bounds-column_least-end c).After-copy_strip)
@@ -41,12 +41,6 @@ column_least-best-requires c =
     let p = c.requires in
     (strip-long (goal.at.column_least-best-requires c).After-copy_strip, p.1, p.2, omega (arith, p.3.few_columns), omega arith, p.3.few_rows, c.codes_of-codes.ensures)
 
-pub overflow_add-j : goal.overflow_add-j
-overflow_add-j c = omega (arith, c.requires.3.few_columns)
-
-pub loop-j-smaller : goal.loop-j-smaller
-loop-j-smaller c = omega arith
-
 pub loop-j-preserved : goal.loop-j-preserved
 loop-j-preserved c =
     let a = c.args in
@@ -54,14 +48,12 @@ loop-j-preserved c =
     let is =
     c.column_least-best.ensures
     ∙ ap₂ (λ (s : List ℕ) (n : ℕ). least_from c.loop-j.best (key_in_strip s a.block.now c.loop-j.j) a.r.top n) c.copy_strip.ensures e in (
-      omega arith,
-      omega arith,
       strip-long (goal.at.loop-j-preserved c).After-copy_strip,
-      passed_more (key_by_column a.window.now a.block.now) a.r c.loop-j.j c.loop-j.best _ (omega arith) (omega arith) is c.loop-j.invariant.3,
+      passed_more (key_by_column a.window.now a.block.now) a.r c.loop-j.j c.loop-j.best _ (omega arith) (omega arith) is c.loop-j.invariant.1,
     )
 
 pub returns : goal.returns
 returns c =
     let a = c.args in
     let e : c.loop-j.j ≡ a.r.left + a.r.columns = omega arith in
-    passed_last _ _ _ (rw e at c.loop-j.invariant.3)
+    passed_last _ _ _ (rw e at c.loop-j.invariant.1)

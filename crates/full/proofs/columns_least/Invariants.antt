@@ -1,5 +1,4 @@
 -- `columns_least`: before column j the least is that of the columns passed (`Passed`).
-use Prim.Native.Nat.{◌-◌, ◌≤◌}
 use mathlib.Core.Path.{◌≡◌}
 use lib.ListN.{length}
 use Rattle.full.specs.Columns.{key_by_column}
@@ -8,7 +7,4 @@ use Rattle.full.proofs.columns_least.Given as goal
 
 abbrev pub invariant-loop-j : goal.invariant-loop-j
 invariant-loop-j l =
-    (l.r.left ≤ l.j) × (l.j ≤ l.right) × (length l.strip ≡ 320) × Passed (key_by_column l.window l.block) l.r l.j l.best
-
-abbrev pub decreases-loop-j : goal.decreases-loop-j
-decreases-loop-j l = l.right - l.j
+    (length l.strip ≡ 320) × Passed (key_by_column l.window l.block) l.r l.j l.best

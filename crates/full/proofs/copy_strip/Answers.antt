@@ -7,10 +7,10 @@ use Rattle.base.specs.Rows.{rowed_first, rowed_more, rowed_all}
 use Rattle.full.proofs.copy_strip.Goals as goal
 
 pub loop-i-init : goal.loop-i-init
-loop-i-init c = (omega arith, rowed_first _ _ _)
+loop-i-init c = rowed_first _ _ _
 
 pub loop-c-init : goal.loop-c-init
-loop-c-init c = (omega arith, omega (arith, c.loop-i.invariant.1.long), fill_none _ _ _)
+loop-c-init c = (omega (arith, c.loop-i.invariant.long), fill_none _ _ _)
 
 pub overflow_mul-strip : goal.overflow_mul-strip
 overflow_mul-strip c = omega arith
@@ -33,32 +33,20 @@ overflow_add-strip-in-loop-c-2 c = omega arith
 pub bounds-strip-i : goal.bounds-strip-i
 bounds-strip-i c = omega arith
 
-pub overflow_add-c : goal.overflow_add-c
-overflow_add-c c = omega arith
-
-pub loop-c-smaller : goal.loop-c-smaller
-loop-c-smaller c = omega arith
-
 pub loop-c-preserved : goal.loop-c-preserved
 loop-c-preserved c =
     let l = c.loop-c in
-    (omega arith, simp length-set (omega arith), rw l.invariant.2 (fill_more _ _ _ l.c (omega (arith, c.loop-i.invariant.1.long))))
-
-pub overflow_add-i : goal.overflow_add-i
-overflow_add-i c = omega arith
-
-pub loop-i-smaller : goal.loop-i-smaller
-loop-i-smaller c = omega arith
+    (simp length-set (omega arith), rw l.invariant.1 (fill_more _ _ _ l.c (omega (arith, c.loop-i.invariant.long))))
 
 pub loop-i-preserved : goal.loop-i-preserved
 loop-i-preserved c =
     let l = c.loop-c in
     let o = c.loop-i in
     let e : l.c ≡ 8 = omega arith in
-    (omega arith, rowed_more _ _ _ _ _ o.i _ o.invariant.1 (omega arith) (omega (arith, o.invariant.1.long)) (rw e at l.invariant.2))
+    rowed_more _ _ _ _ _ o.i _ o.invariant (omega arith) (omega (arith, o.invariant.long)) (rw e at l.invariant.1)
 
 pub returns : goal.returns
 returns c =
     let l = c.loop-i in
     let e : l.i ≡ 40 = omega arith in
-    rowed_all _ _ _ _ 40 (rw e at l.invariant.1) (omega arith)
+    rowed_all _ _ _ _ 40 (rw e at l.invariant) (omega arith)

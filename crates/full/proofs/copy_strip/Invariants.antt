@@ -1,5 +1,5 @@
 -- `copy_strip`: after i rows and c pels of the next the strip is filled so far.
-use Prim.Native.Nat.{◌+◌, ◌-◌, ◌*◌, ◌≤◌}
+use Prim.Native.Nat.{◌+◌, ◌*◌}
 use mathlib.Core.Path.{◌≡◌}
 use lib.ListN.{length, get_or}
 use Rattle.base.specs.Lists.{fill_to}
@@ -8,13 +8,7 @@ use Rattle.full.proofs.copy_strip.Given as goal
 
 abbrev pub invariant-loop-c : goal.invariant-loop-c
 invariant-loop-c l =
-    (l.c ≤ 8) × (length l.strip ≡ 320) × (l.strip ≡ fill_to l.initial.strip (8 * l.i) (λ k. get_or l.window (64 * l.i + l.j + k) 0) l.c)
-
-abbrev pub decreases-loop-c : goal.decreases-loop-c
-decreases-loop-c l = 8 - l.c
+    (length l.strip ≡ 320) × (l.strip ≡ fill_to l.initial.strip (8 * l.i) (λ k. get_or l.window (64 * l.i + l.j + k) 0) l.c)
 
 abbrev pub invariant-loop-i : goal.invariant-loop-i
-invariant-loop-i l = (l.i ≤ 40) × Rowed (λ i k. get_or l.window (64 * i + l.j + k) 0) 8 l.initial.strip l.strip l.i
-
-abbrev pub decreases-loop-i : goal.decreases-loop-i
-decreases-loop-i l = 40 - l.i
+invariant-loop-i l = Rowed (λ i k. get_or l.window (64 * i + l.j + k) 0) 8 l.initial.strip l.strip l.i

@@ -1,84 +1,20 @@
--- `copy_window`: the window's rows and columns lie inside the frame, and inside the copy.
-use Prim.Native.Nat.{◌+◌, ◌-◌, ◌*◌, ◌≤◌}
-use mathlib.Core.Path.{sym, subst}
-use native.Mathlib.Nat.{mul-le-mul, mul-le-mul_right, add-mul}
+-- `copy_window`: the window's rows and columns lie inside the copy.
 use native.Mathlib.Omega.{arith}
-use lib.ListN.{length}
-use Rattle.frame.specs.declared.Region.{Region}
-use Rattle.reach.proofs.Candidates.{Bounds, reach_bounds}
+use Rattle.window_copy.proofs.Window.{window_in}
+use Rattle.reach.proofs.Candidates.{reach_bounds}
 use Rattle.full.proofs.copy_window.Goals as goal
-use Rattle.full.proofs.copy_window.Goals.{Start}
-
--- where the window stands
-bounds : (s : Start) → Bounds s.args.b s.args.r
-bounds s = subst (λ (r : Region). Bounds s.args.b r) (sym s.requires.3) (reach_bounds s.args.b s.requires.0)
-
--- it lies inside the frame
-inside : (s : Start) → let b = s.args.b in let r = s.args.r in let width = b.setting.width in
-    (b.y + r.top - 16) * width + (b.x + r.left - 16) + (r.rows + b.setting.n - 1) * width + (r.columns + b.setting.n - 1)
-    ≤ length s.args.older.now + width
-inside s =
-    let b = s.args.b in
-    let r = s.args.r in
-    let width = b.setting.width in
-    let k = (let bounds : Bounds s.args.b s.args.r = subst (λ (r : Region). Bounds s.args.b r) (sym s.requires.3) (reach_bounds s.args.b s.requires.0) in bounds) in
-    omega (
-      arith,
-      add-mul (b.y + r.top - 16) (r.rows + b.setting.n - 1) width,
-      mul-le-mul_right width (let h : b.y + r.top - 16 + (r.rows + b.setting.n - 1) ≤ b.setting.height = omega (arith, k.first_row, k.last_row, k.rows) in h),
-      k.first_column,
-      k.last_column,
-      k.columns,
-      s.requires.2,
-    )
-
--- and its frame is small
-small : (s : Start) → let b = s.args.b in let r = s.args.r in (b.y + r.top - 16) * b.setting.width ≤ 1048576
-small s =
-    let b = s.args.b in
-    let k = (let bounds : Bounds s.args.b s.args.r = subst (λ (r : Region). Bounds s.args.b r) (sym s.requires.3) (reach_bounds s.args.b s.requires.0) in bounds) in
-    mul-le-mul {n₂ = 1024} {m₂ = 1024} (omega (arith, k.last_row, k.rows, s.requires.0.high)) s.requires.0.wide
-
-pub overflow_add-row : goal.overflow_add-row
-overflow_add-row c = let k = bounds (goal.at.overflow_add-row c).Start in omega (arith, k.first_row, k.first_column, k.last_row, k.last_column, k.rows, k.columns, k.few_rows, k.few_columns, c.requires.0)
-
-pub overflow_sub-row : goal.overflow_sub-row
-overflow_sub-row c = let k = bounds (goal.at.overflow_sub-row c).Start in omega (arith, k.first_row, k.first_column, k.last_row, k.last_column, k.rows, k.columns, k.few_rows, k.few_columns, c.requires.0)
-
-pub overflow_add-column : goal.overflow_add-column
-overflow_add-column c = let k = bounds (goal.at.overflow_add-column c).Start in omega (arith, k.first_row, k.first_column, k.last_row, k.last_column, k.rows, k.columns, k.few_rows, k.few_columns, c.requires.0)
-
-pub overflow_sub-column : goal.overflow_sub-column
-overflow_sub-column c = let k = bounds (goal.at.overflow_sub-column c).Start in omega (arith, k.first_row, k.first_column, k.last_row, k.last_column, k.rows, k.columns, k.few_rows, k.few_columns, c.requires.0)
-
-pub overflow_mul-row : goal.overflow_mul-row
-overflow_mul-row c = omega (arith, small (goal.at.overflow_mul-row c).Start)
-
-pub overflow_add-row-2 : goal.overflow_add-row-2
-overflow_add-row-2 c = omega (arith, small (goal.at.overflow_add-row-2 c).Start, (bounds (goal.at.overflow_add-row-2 c).Start).last_column, c.requires.0.wide)
-
-pub overflow_add-r : goal.overflow_add-r
-overflow_add-r c = let k = bounds (goal.at.overflow_add-r c).Start in omega (arith, k.first_row, k.first_column, k.last_row, k.last_column, k.rows, k.columns, k.few_rows, k.few_columns, c.requires.0)
-
-pub overflow_sub-r : goal.overflow_sub-r
-overflow_sub-r c = let k = bounds (goal.at.overflow_sub-r c).Start in omega (arith, k.first_row, k.first_column, k.last_row, k.last_column, k.rows, k.columns, k.few_rows, k.few_columns, c.requires.0)
-
-pub overflow_add-r-2 : goal.overflow_add-r-2
-overflow_add-r-2 c = let k = bounds (goal.at.overflow_add-r-2 c).Start in omega (arith, k.first_row, k.first_column, k.last_row, k.last_column, k.rows, k.columns, k.few_rows, k.few_columns, c.requires.0)
-
-pub overflow_sub-r-2 : goal.overflow_sub-r-2
-overflow_sub-r-2 c = let k = bounds (goal.at.overflow_sub-r-2 c).Start in omega (arith, k.first_row, k.first_column, k.last_row, k.last_column, k.rows, k.columns, k.few_rows, k.few_columns, c.requires.0)
 
 pub overflow_mul-r : goal.overflow_mul-r
-overflow_mul-r c = let k = bounds (goal.at.overflow_mul-r c).Start in omega (arith, k.first_row, k.first_column, k.last_row, k.last_column, k.rows, k.columns, k.few_rows, k.few_columns, c.requires.0)
+overflow_mul-r c = let k = rw (← c.requires.3) at (reach_bounds c.args.b c.requires.0) in omega (arith, k.above)
 
-pub overflow_add-r-3 : goal.overflow_add-r-3
-overflow_add-r-3 c = let k = bounds (goal.at.overflow_add-r-3 c).Start in omega (arith, k.first_row, k.first_column, k.last_row, k.last_column, k.rows, k.columns, k.few_rows, k.few_columns, c.requires.0)
+pub overflow_add-r : goal.overflow_add-r
+overflow_add-r c = let k = rw (← c.requires.3) at (reach_bounds c.args.b c.requires.0) in omega (arith, k.above, k.before)
 
-pub copy_rows-requires : goal.copy_rows-requires
-copy_rows-requires c =
-    let k = bounds (goal.at.copy_rows-requires c).Start in
-    (inside (goal.at.copy_rows-requires c).Start, omega (arith, c.requires.1, c.requires.4, k.few_rows, k.few_columns, k.rows, k.columns), c.requires.0.wide, omega arith, omega (arith, c.requires.1, k.few_rows))
+pub copy_window-requires : goal.copy_window-requires
+copy_window-requires c =
+    let w = window_in _ _ c.requires.0 c.requires.3 in
+    let k = rw (← c.requires.3) at (reach_bounds c.args.b c.requires.0) in
+    (c.requires.0, c.requires.1, c.requires.2, c.requires.3, omega arith, omega (arith, c.requires.1, c.requires.4, w, k.few_rows, k.few_columns))
 
 pub returns : goal.returns
-returns c = rw (← c.requires.3) c.copy_rows.ensures
+returns c = rw (← c.requires.3) c.copy_window.ensures

@@ -32,7 +32,7 @@ code-low l h = rw ((let code_is : l.loop-j.j < 33 → let a = l.args in
 
 -- the least is no more than what it began with
 low : (l : At-loop-j) → l.loop-j.least ≤ l.args.best
-low l = let a = l.args in omega (arith, l.loop-j.invariant.2, least_low a.best (key_in_copy (measure_by a.kernel) (size_by a.kernel) a.window.now a.block.now a.i) a.from (l.loop-j.j - a.from))
+low l = let a = l.args in omega (arith, l.loop-j.invariant, least_low a.best (key_in_copy (measure_by a.kernel) (size_by a.kernel) a.window.now a.block.now a.i) a.from (l.loop-j.j - a.from))
 
 pub code_of-down-requires : goal.code_of-down-requires
 code_of-down-requires c = (omega arith, c.requires.4)
@@ -41,7 +41,7 @@ pub loop-j-init : goal.loop-j-init
 loop-j-init c =
     let a = c.args in
     let e : a.from - a.from ≡ 0 = omega arith in
-    (omega arith, omega arith, rw e (least_first _ _ _))
+    rw e (least_first _ _ _)
 
 pub overflow_mul-i : goal.overflow_mul-i
 overflow_mul-i c = omega arith
@@ -66,12 +66,6 @@ overflow_add-down c = omega (arith, code-low (goal.at.overflow_add-down c).At-lo
 pub lesser_key-least-requires : goal.lesser_key-least-requires
 lesser_key-least-requires c = code-low (goal.at.lesser_key-least-requires c).At-loop-j (omega arith)
 
-pub overflow_add-j : goal.overflow_add-j
-overflow_add-j c = omega arith
-
-pub loop-j-smaller : goal.loop-j-smaller
-loop-j-smaller c = omega arith
-
 pub loop-j-preserved : goal.loop-j-preserved
 unfolding key_of
 loop-j-preserved c =
@@ -79,15 +73,12 @@ loop-j-preserved c =
     let a = c.args in
     let u = c.sum_at-d.ensures in
     let more : j + 1 - a.from ≡ j - a.from + 1 = omega arith in
-    let here : a.from + (j - a.from) ≡ j = omega arith in (
-      omega arith,
-      omega arith,
-      c.lesser_key-least.ensures
-          ∙ least_enough c.loop-j.least _ _ _ (code-low (goal.at.loop-j-preserved c).At-loop-j (omega arith)) u
-          ∙ rw (more, least_more, here, ← c.loop-j.invariant.2, code_is (goal.at.loop-j-preserved c).At-loop-j (omega arith)) refl,
-    )
+    let here : a.from + (j - a.from) ≡ j = omega arith in
+    c.lesser_key-least.ensures
+    ∙ least_enough c.loop-j.least _ _ _ (code-low (goal.at.loop-j-preserved c).At-loop-j (omega arith)) u
+    ∙ rw (more, least_more, here, ← c.loop-j.invariant, code_is (goal.at.loop-j-preserved c).At-loop-j (omega arith)) refl
 
 pub returns : goal.returns
 returns c =
     let e : c.loop-j.j ≡ c.args.to = omega arith in
-    rw e at c.loop-j.invariant.2
+    rw e at c.loop-j.invariant

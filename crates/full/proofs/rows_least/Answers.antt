@@ -29,32 +29,23 @@ row_in_reach-best-requires c = asked (goal.at.row_in_reach-best-requires c).Star
 pub loop-t-init : goal.loop-t-init
 loop-t-init c =
     let e = c.row_in_reach-best.ensures in
-    (omega arith, omega arith, led_first _ _ c.requires.4 _ _ c.requires.5 e, omega (arith, e.low, c.requires.6))
+    (led_first _ _ c.requires.4 _ _ c.requires.5 e, omega (arith, e.low, c.requires.6))
 
 pub row_in_reach-above-requires : goal.row_in_reach-above-requires
 row_in_reach-above-requires c =
-    asked (goal.at.row_in_reach-above-requires c).Start c.codes_of-codes.ensures c.loop-t.invariant.3
-
-pub overflow_add-t : goal.overflow_add-t
-overflow_add-t c = omega arith
+    asked (goal.at.row_in_reach-above-requires c).Start c.codes_of-codes.ensures c.loop-t.invariant.1
 
 pub row_in_reach-best-requires-in-loop-t : goal.row_in_reach-best-requires-in-loop-t
 row_in_reach-best-requires-in-loop-t c =
-    asked (goal.at.row_in_reach-best-requires-in-loop-t c).Start c.codes_of-codes.ensures (omega (arith, c.row_in_reach-above.ensures.low, c.loop-t.invariant.3))
-
-pub overflow_add-t-in-loop-t : goal.overflow_add-t-in-loop-t
-overflow_add-t-in-loop-t c = omega arith
-
-pub loop-t-smaller : goal.loop-t-smaller
-loop-t-smaller c = omega arith
+    asked (goal.at.row_in_reach-best-requires-in-loop-t c).Start c.codes_of-codes.ensures (omega (arith, c.row_in_reach-above.ensures.low, c.loop-t.invariant.1))
 
 pub loop-t-preserved : goal.loop-t-preserved
 loop-t-preserved c =
     let a = c.row_in_reach-above.ensures in
     let b = c.row_in_reach-best-in-loop-t.ensures in
-    (omega arith, omega arith, led_more _ _ c.loop-t.t _ _ _ (omega arith) c.loop-t.invariant.2 a b, omega (arith, a.low, b.low, c.loop-t.invariant.3))
+    (led_more _ _ c.loop-t.t _ _ _ (omega arith) c.loop-t.invariant.0 a b, omega (arith, a.low, b.low, c.loop-t.invariant.1))
 
 pub returns : goal.returns
 returns c =
     let e : c.loop-t.t ≡ 17 = omega arith in
-    led_last _ _ c.requires.4 _ (rw e at c.loop-t.invariant.2)
+    led_last _ _ c.requires.4 _ (rw e at c.loop-t.invariant.0)

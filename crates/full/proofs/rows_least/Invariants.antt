@@ -1,5 +1,5 @@
 -- `rows_least`: before turn t the least is that of the rows nearer than t to the middle (`Led`).
-use Prim.Native.Nat.{◌-◌, ◌≤◌, ◌<◌}
+use Prim.Native.Nat.{◌<◌}
 use Rattle.distortion.specs.Blocks.{size_by, measure_by}
 use Rattle.full.specs.Rows.{key_in_copy}
 use Rattle.full.proofs.Reached.{Led}
@@ -7,7 +7,4 @@ use Rattle.full.proofs.rows_least.Given as goal
 
 abbrev pub invariant-loop-t : goal.invariant-loop-t
 invariant-loop-t l =
-    (0 < l.t) × (l.t ≤ 17) × Led (key_in_copy (measure_by l.kernel) (size_by l.kernel) l.window l.block) l.r l.t l.best × (l.best < 1125899906842624)
-
-abbrev pub decreases-loop-t : goal.decreases-loop-t
-decreases-loop-t l = 17 - l.t
+    Led (key_in_copy (measure_by l.kernel) (size_by l.kernel) l.window l.block) l.r l.t l.best × (l.best < 1125899906842624)

@@ -20,19 +20,19 @@ bytes l = (
 
 pub loop-i-init : goal.loop-i-init
 unfolding least_of least_from list_to
-loop-i-init c = (omega arith, omega arith, refl)
+loop-i-init c = (omega arith, refl)
 
 pub lesser_measured-best-requires : goal.lesser_measured-best-requires
 lesser_measured-best-requires c =
     let p = c.requires in
-    (p.0, p.3 c.loop-i.i (omega arith), c.loop-i.invariant.1)
+    (p.0, p.3 c.loop-i.i (omega arith), c.loop-i.invariant.0)
 
 pub loop-i-preserved : goal.loop-i-preserved
 loop-i-preserved c =
     let l = c.loop-i in
     let a = c.args in
     let f = key_at a.older.now a.newer.now a.b a.keys.now in
-    (omega arith, omega (arith, c.lesser_measured-best.ensures), rw (least_more 1125899906842623 f l.i, ← l.invariant.2) c.lesser_measured-best.ensures)
+    (omega (arith, c.lesser_measured-best.ensures), rw (least_more 1125899906842623 f l.i, ← l.invariant.1) c.lesser_measured-best.ensures)
 
 pub returns : goal.returns
 returns c =
@@ -41,4 +41,4 @@ returns c =
     let f = key_at a.older.now a.newer.now a.b a.keys.now in
     let e : l.i ≡ a.count = omega arith in
     let small = distortion_small _ _ _ c.requires.0 (bytes (goal.at.returns c).At-loop-i).0 (bytes (goal.at.returns c).At-loop-i).1 (vector_on (spot_of (get_or a.keys.now 0 0))) in
-    ((rw e at l.invariant.2) ∙ least_first 1125899906842623 f a.count c.requires.1 (omega (arith, small)), l.invariant.1)
+    ((rw e at l.invariant.1) ∙ least_first 1125899906842623 f a.count c.requires.1 (omega (arith, small)), l.invariant.0)

@@ -1,5 +1,5 @@
 -- `choose`: the least key of those measured is carried along, from 2^50 - 1 on, which no key reaches.
-use Prim.Native.Nat.{ℕ, ◌-◌, ◌≤◌, ◌<◌}
+use Prim.Native.Nat.{ℕ, ◌<◌}
 use mathlib.Core.Path.{◌≡◌}
 use mathlib.Core.List.{List, ◌∷◌}
 use lib.ListN.{get_or}
@@ -15,7 +15,4 @@ key_at older newer b keys j = measured_key (distortion_to older newer b) (get_or
 
 abbrev pub invariant-loop-i : goal.invariant-loop-i
 invariant-loop-i l =
-    (l.i ≤ l.count) × (l.best < 1125899906842624) × (l.best ≡ least_of (λ k. k) (1125899906842623 ∷ list_to (key_at l.older l.newer l.b l.keys) l.i))
-
-abbrev pub decreases-loop-i : goal.decreases-loop-i
-decreases-loop-i l = l.count - l.i
+    (l.best < 1125899906842624) × (l.best ≡ least_of (λ k. k) (1125899906842623 ∷ list_to (key_at l.older l.newer l.b l.keys) l.i))

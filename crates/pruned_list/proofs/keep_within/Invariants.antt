@@ -1,10 +1,6 @@
 -- `keep_within`: of the keys passed those within the limit stand in front.
-use Prim.Native.Nat.{◌-◌}
 use Rattle.pruned_list.proofs.Turns.{Sifting}
 use Rattle.pruned_list.proofs.keep_within.Given as goal
 
 abbrev pub invariant-loop-from : goal.invariant-loop-from
 invariant-loop-from l = Sifting l.initial.keys l.count l.limit l.from l.kept l.keys
-
-abbrev pub decreases-loop-from : goal.decreases-loop-from
-decreases-loop-from l = l.count - l.from

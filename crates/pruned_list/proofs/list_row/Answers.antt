@@ -22,17 +22,13 @@ code_is l h =
 
 code-low : (l : At-loop-j) → l.args.left + l.loop-j.j < 33 → let a = l.args in
     l.code_of-down.result + get_or a.codes.now (a.left + l.loop-j.j) 0 < 262144
-code-low l h = rw ((let code_is : l.args.left + l.loop-j.j < 33 → let a = l.args in
-    l.code_of-down.result + get_or a.codes.now (a.left + l.loop-j.j) 0 ≡ order_code a.row (a.left + l.loop-j.j) = λ h. let a = l.args in
-    let j = a.left + l.loop-j.j in
-    let column = ap (λ (k : List ℕ). get_or k j 0) l.requires.2 ∙ get_d_list_to (code_of 1) 33 j 0 h in
-    ap₂ ◌+◌ l.code_of-down.ensures column ∙ code_parts a.row j in code_is) h) (code_small l.args.row (l.args.left + l.loop-j.j) l.requires.0 h)
+code-low l h = rw (code_is l h) (code_small l.args.row (l.args.left + l.loop-j.j) l.requires.0 h)
 
 pub code_of-down-requires : goal.code_of-down-requires
 code_of-down-requires c = (omega arith, c.requires.0)
 
 pub loop-j-init : goal.loop-j-init
-loop-j-init c = (omega arith, fill_none _ _ _, refl)
+loop-j-init c = (fill_none _ _ _, refl)
 
 pub overflow_add-keys : goal.overflow_add-keys
 overflow_add-keys c = omega arith
@@ -43,15 +39,11 @@ bounds-codes-left c = omega arith
 pub overflow_add-keys-in-loop-j : goal.overflow_add-keys-in-loop-j
 overflow_add-keys-in-loop-j c = omega (arith, code-low (goal.at.overflow_add-keys-in-loop-j c).At-loop-j (omega arith))
 
-pub loop-j-smaller : goal.loop-j-smaller
-loop-j-smaller c = omega arith
-
 pub loop-j-preserved : goal.loop-j-preserved
 loop-j-preserved c =
     let l = c.loop-j in
     let a = c.args in (
-      omega arith,
-      ap₂ (λ (k : List ℕ) (v : ℕ). set k (a.at + l.j) v) l.invariant.1 (code_is (goal.at.loop-j-preserved c).At-loop-j (omega arith))
+      ap₂ (λ (k : List ℕ) (v : ℕ). set k (a.at + l.j) v) l.invariant.0 (code_is (goal.at.loop-j-preserved c).At-loop-j (omega arith))
           ∙ fill_more a.keys.now a.at (λ i. order_code a.row (a.left + i)) l.j (omega arith),
       simp length-set (search rules),
     )
@@ -60,4 +52,4 @@ pub returns : goal.returns
 returns c =
     let l = c.loop-j in
     let e : l.j ≡ c.args.columns = omega arith in
-    rw e at l.invariant.1
+    rw e at l.invariant.0

@@ -1,5 +1,5 @@
 -- `list_row`: after j turns the keys of the first j columns are stored.
-use Prim.Native.Nat.{◌+◌, ◌-◌, ◌≤◌}
+use Prim.Native.Nat.{◌+◌}
 use mathlib.Core.Path.{◌≡◌}
 use lib.ListN.{length}
 use Rattle.base.specs.Lists.{fill_to}
@@ -8,7 +8,4 @@ use Rattle.pruned_list.proofs.list_row.Given as goal
 
 abbrev pub invariant-loop-j : goal.invariant-loop-j
 invariant-loop-j l =
-    (l.j ≤ l.columns) × (l.keys ≡ fill_to l.initial.keys l.at (λ i. order_code l.row (l.left + i)) l.j) × (length l.keys ≡ length l.initial.keys)
-
-abbrev pub decreases-loop-j : goal.decreases-loop-j
-decreases-loop-j l = l.columns - l.j
+    (l.keys ≡ fill_to l.initial.keys l.at (λ i. order_code l.row (l.left + i)) l.j) × (length l.keys ≡ length l.initial.keys)

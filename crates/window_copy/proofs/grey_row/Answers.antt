@@ -1,7 +1,6 @@
 -- `grey_row`: after j turns none were counted where the first j pels have the grey, and no more than j.
 use Prim.Native.Nat.{ℕ, ◌+◌}
 use mathlib.Core.Bool.{Bool}
-use mathlib.Core.Path.{◌≡◌, refl}
 use native.Mathlib.Omega.{arith}
 use borrow.Author.Tests.{eq-eqb, ne_eqb}
 use lib.Dec.{eqb}
@@ -10,17 +9,6 @@ use Rattle.window_copy.proofs.Grey.{none_yes, none_no}
 use Rattle.window_copy.proofs.grey_row.Goals as goal
 use Rattle.window_copy.proofs.grey_row.Goals.{then-frame-from, else-frame-from}
 
-pub loop-j-init : goal.loop-j-init
-loop-j-init c = (omega arith, omega arith, refl)
-
-pub overflow_add-others : goal.overflow_add-others
-overflow_add-others c =
-    let l = c.loop-j in
-    elim c.if-frame-from.branch [
-      | then-frame-from w ↦ omega (arith, w.others-is, l.invariant.1)
-      | else-frame-from w ↦ omega (arith, w.others-is, l.invariant.1)
-    ]
-
 pub loop-j-preserved : goal.loop-j-preserved
 loop-j-preserved c =
     let l = c.loop-j in
@@ -28,19 +16,11 @@ loop-j-preserved c =
     let f : ℕ → Bool = λ k. eqb (get_or a.frame.now (a.from + k) 0) a.grey in
     elim c.if-frame-from.branch [
       | then-frame-from w ↦ (
-        omega arith,
-        omega (arith, w.others-is, l.invariant.1),
-        rw w.others-is (none_yes f l.others l.j l.invariant.2 (eq-eqb _ _ w.if-frame-from.true)),
+        omega (arith, w.others-is, l.invariant.0),
+        rw w.others-is (none_yes f l.others l.j l.invariant.1 (eq-eqb _ _ w.if-frame-from.true)),
       )
       | else-frame-from w ↦ (
-        omega arith,
-        omega (arith, w.others-is, l.invariant.1),
+        omega (arith, w.others-is, l.invariant.0),
         rw w.others-is (none_no f l.others l.j (ne_eqb _ _ w.if-frame-from.false)),
       )
     ]
-
-pub returns : goal.returns
-returns c =
-    let l = c.loop-j in
-    let e : l.j ≡ c.args.columns = omega arith in
-    rw e at l.invariant.2
