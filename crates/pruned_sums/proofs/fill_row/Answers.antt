@@ -16,7 +16,7 @@ pub loop-c-preserved : goal.loop-c-preserved
 loop-c-preserved c =
     let a = c.args in
     row-more _ _ _ _ _ _ (omega arith) (omega arith) _ _ _ c.loop-c.invariant c.wide_u8-run.result c.wide_u8-run.ensures.0
-    (omega (arith, c.shared_slice_known-in-loop-c-1.given (a.from + c.loop-c.c))) (omega arith)
+    (omega (arith, c.type_inv.frame (a.from + c.loop-c.c))) (omega arith)
 
 pub overflow_add-table-3 : goal.overflow_add-table-3
 overflow_add-table-3 c =

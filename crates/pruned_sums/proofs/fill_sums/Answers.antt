@@ -28,7 +28,7 @@ ready b = rw (long b) b.requires
 
 -- a pel is a byte
 bytes : (b : At-loop-r) → (k : ℕ) → get_or b.args.frame.now k 0 ≤ 255
-bytes b k = omega (arith, b.shared_slice_known-1.given k)
+bytes b k = omega (arith, b.type_inv.frame k)
 
 pub loop-r-init : goal.loop-r-init
 loop-r-init c =

@@ -1,7 +1,6 @@
 -- `is_voter`: the frame is cut where the block begins; each N is an allowed one.
 use Prim.Native.Nat.{◌+◌, ◌*◌, ◌≤◌}
 use mathlib.Core.Path.{◌≡◌}
-use native.Mathlib.Omega.{arith}
 use lib.ListN.{length}
 use Rattle.voter.proofs.Cut.{standing_begins, standing_inside, standing_votes, last_size}
 use Rattle.voter.proofs.is_voter.Goals as goal
@@ -13,12 +12,6 @@ first s = standing_begins s.args.newer.now _ _ _ s.requires
 left : (e : Else-s-eq4) → e.args.s.n ≡ 32
 left e =
     last_size e.args.newer.now _ _ _ e.requires e.if-s-eq16.false e.if-s-eq8.false e.if-s-eq4.false
-
-pub overflow_mul-a : goal.overflow_mul-a
-overflow_mul-a c = omega (arith, first (goal.at.overflow_mul-a c).Start)
-
-pub overflow_add-a : goal.overflow_add-a
-overflow_add-a c = omega (arith, first (goal.at.overflow_add-a c).Start)
 
 pub slice_bounds-here-count : goal.slice_bounds-here-count
 slice_bounds-here-count c = first (goal.at.slice_bounds-here-count c).Start
