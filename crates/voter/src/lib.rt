@@ -42,16 +42,12 @@ pub fn is_voter(newer: &[u8], s: Setting, y: usize, x: usize) -> bool
 {
     let a = y * s.width + x;
     let here = &newer[a..];
-    if s.n == 16 {
-        return differs::<16>(here, s.width);
+    match s.n {
+        4 => differs::<4>(here, s.width),
+        8 => differs::<8>(here, s.width),
+        16 => differs::<16>(here, s.width),
+        _ => differs::<32>(here, s.width),
     }
-    if s.n == 8 {
-        return differs::<8>(here, s.width);
-    }
-    if s.n == 4 {
-        return differs::<4>(here, s.width);
-    }
-    differs::<32>(here, s.width)
 }
 
 // Whether grid block k of the newer frame votes.
