@@ -1,12 +1,13 @@
 -- The least number of each row, and the least key by way of them.
 --   stored_more                              one more value stored
 --   leasts_bound                             no number of a row is less than its least; zeros_bound: nor than 0
+--   code_at                                  what a row and a column add to a key; code_under: it is below 2¹⁸
 --   Passed                                   a key is the least of that it began with and those of the first i rows
 --   passed_first, passed_more, passed_last   no row, one more, and all
 --   lowered_keys                             the keys of a row; lowered_over: a row whose least is above the least of all adds nothing
 --   bottom_some                              a key that is no more than the one begun with
 use Prim.Native.Nat.{ℕ, ◌+◌, ◌*◌, ◌-◌, ◌≤◌, ◌<◌}
-use mathlib.Core.Path.{◌≡◌, refl, sym, ap, ◌∙◌, subst}
+use mathlib.Core.Path.{◌≡◌, refl, sym, ap, ap₂, ◌∙◌, subst}
 use mathlib.Core.Logic.{◌⊎◌, inl, inr, ⊎_elim}
 use mathlib.Core.List.{List}
 use native.Mathlib.Nat.{le_refl, le_trans}
@@ -14,10 +15,11 @@ use native.Mathlib.Decide.{dec_lt, ℕ_discrete}
 use native.Mathlib.Omega.{arith}
 use lib.ListN.{length, get_or, set, replicate, get_or-replicate}
 use lib.Seq.{get_or-set_same, get_or-set_other}
+use Rattle.base.specs.Lists.{list_to, get_d_list_to}
 use Rattle.frame.specs.declared.Region.{Region}
 use Rattle.reach.specs.Reach.{InReach}
-use Rattle.reach.specs.Keys.{key_of}
-use Rattle.reach.proofs.Keys.{code_small}
+use Rattle.reach.specs.Keys.{key_of, order_code, code_of}
+use Rattle.reach.proofs.Keys.{code_parts, code_small}
 use Rattle.full.specs.Rows.{least_from, Lowered, LeastKey}
 use Rattle.full.proofs.Reached.{lowered_row}
 use Rattle.full.proofs.Keys.{least_low, least_least, least_some}
@@ -30,6 +32,14 @@ stored_more f l i x h before e k b = go (ℕ_discrete k i)
     go : Dec (k ≡ i) → get_or (set l i x) k 0 ≡ f k
     go (yes q) = rw q (get_or-set_same l i x 0 h ∙ e)
     go (no n) = get_or-set_other l i k x 0 n ∙ before k (omega arith)
+
+-- what a row and a column add to a key is their place in the order
+module _ (codes : List ℕ) (down i j : ℕ) (columns : codes ≡ list_to (code_of 1) 33) (row : down ≡ code_of 64 i) (h : j < 33) where
+  pub code_at : down + get_or codes j 0 ≡ order_code i j
+  code_at = ap₂ ◌+◌ row (ap (λ (k : List ℕ). get_or k j 0) columns ∙ get_d_list_to (code_of 1) 33 j 0 h) ∙ code_parts i j
+
+  pub code_under : i < 33 → down + get_or codes j 0 < 262144
+  code_under l = rw code_at (code_small i j l h)
 
 -- ---- rows passed
 

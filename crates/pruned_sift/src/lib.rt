@@ -3,7 +3,7 @@
 
 #![tactic(auto)]
 
-ghost use Rattle.std.specs.Prelude.{◌≡◌, ℕ, ◌+◌, ◌-◌, ◌*◌, ◌≤◌, ◌<◌, min, leb, length, get_or, take, drop};
+ghost use Rattle.std.specs.Prelude.{◌≡◌, ℕ, ◌+◌, ◌-◌, ◌*◌, ◌≤◌, ◌<◌, leb, length, get_or, take, drop};
 ghost use Rattle.base.specs.Sum.{sum_to};
 ghost use Rattle.base.specs.Lists.{list_to};
 ghost use Rattle.base.specs.Tests.{one};
@@ -21,11 +21,8 @@ fn least_of_row(numbers: &[u32], from: usize, columns: usize) -> u32
     ensures { result ≡ least_from 4294967295 (λ k. get_or numbers.now k 0) from columns }
 {
     let mut least: u32 = 4294967295;
-    let mut j: usize = 0;
-    while j < columns {
-        let d = numbers[from + j];
-        least = if d < least { d } else { least };
-        j += 1;
+    for j in 0..columns {
+        least = least.min(numbers[from + j]);
     }
     least
 }
@@ -36,22 +33,13 @@ pub fn leasts(numbers: &[u32], pitch: usize, r: Region) -> [u32; reach::SIDE]
     ensures { RowLeasts numbers.now pitch r result }
 {
     let mut least = [0u32; reach::SIDE];
-    let mut i: usize = 0;
-    while i < r.rows {
+    for i in 0..r.rows {
         least[i] = least_of_row(numbers, pitch * i, r.columns);
-        i += 1;
     }
     least
 }
 
 // ---- the nearest
-
-// The lesser of the two.
-fn lesser(a: u64, b: u64) -> u64
-    ensures { result ≡ min a b }
-{
-    if b < a { b } else { a }
-}
 
 // The least of a key and those of row i of window 16, whose numbers stand from a place on.
 fn row_keys(
@@ -68,11 +56,9 @@ fn row_keys(
 {
     let down = reach::code_of(64, i);
     let mut least = best;
-    let mut j: usize = 0;
-    while j < columns {
+    for j in 0..columns {
         let code = down + codes[left + j];
-        least = lesser(least, numbers[from + j] as u64 * 262144 + code);
-        j += 1;
+        least = least.min(numbers[from + j] as u64 * 262144 + code);
     }
     least
 }
@@ -85,8 +71,7 @@ pub fn nearest(numbers: &[u32], pitch: usize, r: Region, least: &[u32; reach::SI
     let codes = reach::codes_of(1);
     let bottom = least_of_row(least, 0, r.rows);
     let mut best = bottom as u64 * 262144 + 262143;
-    let mut i: usize = 0;
-    while i < r.rows {
+    for i in 0..r.rows {
         if least[i] == bottom {
             best = row_keys(
                 numbers,
@@ -98,7 +83,6 @@ pub fn nearest(numbers: &[u32], pitch: usize, r: Region, least: &[u32; reach::SI
                 best,
             );
         }
-        i += 1;
     }
     best
 }
@@ -115,10 +99,8 @@ fn within_row(numbers: &[u32], from: usize, columns: usize, least: u32, most: u3
         return 0;
     }
     let mut n: u32 = 0;
-    let mut j: usize = 0;
-    while j < columns {
+    for j in 0..columns {
         n += if numbers[from + j] <= most { 1 } else { 0 };
-        j += 1;
     }
     n
 }
@@ -137,12 +119,10 @@ pub fn within(
         × RowCounts numbers.now pitch r most counts.new }
 {
     let mut n: usize = 0;
-    let mut i: usize = 0;
-    while i < r.rows {
+    for i in 0..r.rows {
         let count = within_row(numbers, pitch * i, r.columns, least[i], most);
         counts[i] = count;
         n += count as usize;
-        i += 1;
     }
     n
 }
@@ -166,13 +146,11 @@ fn list_row(
     let from = pitch * i;
     let down = reach::code_of(64, r.top + i);
     let mut n = at;
-    let mut j: usize = 0;
-    while j < r.columns {
+    for j in 0..r.columns {
         keys[n] = down + codes[r.left + j];
         if numbers[from + j] <= most {
             n += 1;
         }
-        j += 1;
     }
     n
 }
@@ -195,12 +173,10 @@ pub fn list_within(
 {
     let codes = reach::codes_of(1);
     let mut n: usize = 0;
-    let mut i: usize = 0;
-    while i < r.rows {
+    for i in 0..r.rows {
         if counts[i] > 0 {
             n = list_row(numbers, pitch, i, r, most, &codes, keys, n);
         }
-        i += 1;
     }
     n
 }

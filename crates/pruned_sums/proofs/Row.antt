@@ -26,6 +26,10 @@ module _ (frame : List ℕ) (from : ℕ) (before : List ℕ) (above here columns
     pub row_read : get_or table (above + c) 0 ≡ get_or before (above + c) 0
     row_read = rw g.filled (fill_before before here _ c (above + c) 0 (omega arith) (omega arith))
 
+    -- an entry fits
+    pub entry_small : ((i : ℕ) → i ≤ columns → get_or before (above + i) 0 ≤ 267386880) → columns ≤ 1024 → get_or table (above + c) 0 + run ≤ 267648000
+    entry_small small few = omega (arith, row_read, small c (omega (arith, g.low)), g.small, g.low)
+
     -- one more entry
     pub row_filled : set table (here + c) (get_or table (above + c) 0 + run) ≡ fill_to before here (next_row frame from before above) (c + 1)
     row_filled = rw (row_read, g.sum, g.filled) (fill_more before here (next_row frame from before above) c (omega arith))

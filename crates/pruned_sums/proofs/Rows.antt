@@ -1,17 +1,24 @@
 -- The loop over the rows of the summed-area table: the sums before row r + 1 are those before row r and the sums of row r.
-use Prim.Native.Nat.{ℕ, ◌+◌, ◌*◌, ◌≤◌, ◌<◌}
+use Prim.Native.Nat.{ℕ, zero, suc, ◌+◌, ◌*◌, ◌≤◌, ◌<◌}
 use mathlib.Core.Path.{◌≡◌, refl, sym, ap, ◌∙◌}
 use mathlib.Core.List.{List, ◌++◌}
 use native.Mathlib.Nat.{mul-le-mul, zero-mul, one-mul, add-zero, add_assoc}
 use native.Mathlib.Omega.{arith}
-use lib.ListN.{length, get_or, drop}
+use native.Mathlib.Numerals.{add-one}
+use lib.ListN.{length, get_or, drop, replicate, length-replicate}
+use Rattle.std.proofs.lemmas.List.{replicate_more}
 use Rattle.base.specs.Sum.{sum_to, sum_to_ext, sum_to_more, sum_over_bound}
 use Rattle.base.specs.Index.{row_next, row_fits}
-use Rattle.base.specs.Lists.{list_to, concat_to, fill_to, length_list_to, list_to_ext, concat_to_more, length_fill, drop_over, fill_join, fill_zero}
+use Rattle.base.specs.Lists.{list_to, concat_to, fill_to, list_to_ext, concat_to_more, length_fill, drop_over, fill_join}
 use Rattle.distortion.specs.Blocks.{block_at}
 use Rattle.frame.specs.declared.Region.{Region}
 use Rattle.pruned_sums.specs.Area.{area, sums_row, sums_to, summed, length_sums, sums_at}
 use Rattle.pruned_sums.specs.Filling.{next_row, Fillable}
+
+list_of_zeros : (n : ℕ) → list_to {A = ℕ} (λ i. 0) n ≡ replicate n 0
+unfolding list_to
+list_of_zeros zero = refl
+list_of_zeros (suc n) = rw (list_of_zeros n, replicate_more, add-one)
 
 module _ (frame : List ℕ) (width : ℕ) (a : Region) where
   abbrev part : ℕ → ℕ → ℕ
@@ -25,17 +32,24 @@ module _ (frame : List ℕ) (width : ℕ) (a : Region) where
     pub here_is : here ≡ r * (a.columns + 1)
     pub filled : table ≡ sums_to part a.columns (r + 1) ++ drop ((r + 1) * (a.columns + 1)) before
 
+  -- the first row has room
+  pub sums_ready : (room : ℕ) → Fillable frame width a room → a.columns + 1 ≤ room
+  sums_ready room f = omega (arith, f.table, row_next a.rows (a.columns + 1))
+
+  abbrev zeros : List ℕ
+  zeros = replicate (a.columns + 1) 0
+
   abbrev cleared : List ℕ → List ℕ
-  cleared d = fill_to d 0 (λ c. 0) (a.columns + 1)
+  cleared d = zeros ++ drop (a.columns + 1) d
 
   -- row 0 is all 0
-  sums_one : sums_to part a.columns 1 ≡ list_to (λ c. 0) (a.columns + 1)
+  sums_one : sums_to part a.columns 1 ≡ zeros
   unfolding concat_to sum_to
-  sums_one = refl
+  sums_one = list_of_zeros (a.columns + 1)
 
   sums_front : (d : List ℕ) → cleared d ≡ sums_to part a.columns 1 ++ drop (1 * (a.columns + 1)) (cleared d)
   sums_front d =
-      rw (one-mul, sums_one, fill_zero, drop_over (list_to (λ c. 0) (a.columns + 1)) d (a.columns + 1) (a.columns + 1) (length_list_to _ _) (omega arith))
+      rw (one-mul, sums_one, drop_over zeros d (a.columns + 1) (a.columns + 1) (length-replicate (a.columns + 1) 0) (omega arith))
 
   pub sums_first : (d : List ℕ) → SumsGoing (cleared d) (cleared d) 0 (a.top * width + a.left) 0
   sums_first d = record {
@@ -98,7 +112,7 @@ module _ (frame : List ℕ) (width : ℕ) (a : Region) where
   unfolding summed
   sums_last d table r from here h g =
       let e : r ≡ a.rows = omega arith in
-      rw (g.filled, e, fill_zero)
+      rw (g.filled, e)
       (ap (◌++◌ (sums_to part a.columns (a.rows + 1)))
-      (drop_over (list_to (λ c. 0) (a.columns + 1)) d (a.columns + 1) ((a.rows + 1) * (a.columns + 1))
-      (length_list_to _ _) (omega (arith, row_next a.rows (a.columns + 1)))))
+      (drop_over zeros d (a.columns + 1) ((a.rows + 1) * (a.columns + 1))
+      (length-replicate (a.columns + 1) 0) (omega (arith, row_next a.rows (a.columns + 1)))))

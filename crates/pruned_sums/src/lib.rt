@@ -10,18 +10,6 @@ ghost use Rattle.pruned_sums.specs.Filling.{next_row, Fillable};
 
 use frame::Region;
 
-// The first n places are 0.
-fn clear(table: &mut [u32], n: usize)
-    requires { n ≤ length table.old }
-    ensures { table.new ≡ fill_to table.old 0 (λ c. 0) n }
-{
-    let mut i: usize = 0;
-    while i < n {
-        table[i] = 0;
-        i += 1;
-    }
-}
-
 // One row of the table, at `here`: the row at `above`, with the sums of the pels from `from` on added.
 fn fill_row(frame: &[u8], from: usize, columns: usize, table: &mut [u32], above: usize, here: usize)
     requires inside { (columns ≤ 1024) × (from + columns ≤ length frame.now) }
@@ -30,13 +18,11 @@ fn fill_row(frame: &[u8], from: usize, columns: usize, table: &mut [u32], above:
     ensures { table.new ≡ fill_to table.old here (next_row frame.now from table.old above) (columns + 1) }
 {
     let mut run: u32 = 0;
-    let mut c: usize = 0;
-    while c < columns {
+    for c in 0..columns {
         table[here + c] = table[above + c] + run;
         run += signed::wide_u8(frame[from + c]);
-        c += 1;
     }
-    table[here + c] = table[above + c] + run;
+    table[here + columns] = table[above + columns] + run;
 }
 
 // The summed-area table of a part of a frame.
@@ -50,15 +36,13 @@ pub fn fill_sums(frame: &[u8], width: usize, a: Region, table: &mut [u32])
     let rows = a.rows;
     let columns = a.columns;
     let stride = columns + 1;
-    clear(table, stride);
-    let mut r: usize = 0;
+    table[..stride].fill(0);
     let mut from = top * width + left;
     let mut here: usize = 0;
-    while r < rows {
+    for _r in 0..rows {
         let next = here + stride;
         fill_row(frame, from, columns, table, here, next);
         from += width;
         here = next;
-        r += 1;
     }
 }

@@ -1,6 +1,6 @@
 -- A frame that is cut where a block begins: it begins with that block.
 --   voter_ext         blocks that agree vote alike
---   standing_begins   the block begins inside; standing_inside: its rows lie in what is left
+--   standing_inside   the block's rows lie in what is left
 --   standing_votes    it votes exactly if the block that what is left begins with does
 --   last_size         an N that is none of 16, 8 and 4 is 32
 use Prim.Native.Nat.{ℕ, ◌+◌, ◌*◌, ◌%◌, ◌≤◌}
@@ -14,7 +14,7 @@ use lib.Seq.{get_or-drop}
 use borrow.Author.Rules.{part_to_end}
 use Rattle.frame.specs.declared.Setting.{Setting}
 use Rattle.refusals.specs.Refusals.{block_size_elim, block_size}
-use Rattle.distortion.specs.Blocks.{Block, block_at, running_place, Comparable, begins, block-inside, size_small}
+use Rattle.distortion.specs.Blocks.{Block, block_at, running_place, Comparable, block-inside, size_small}
 use Rattle.distortion.proofs.Rows.{part_from}
 use Rattle.voter.specs.Voter.{largest_to, smallest_to, largest, smallest, is_voter, Standing}
 use Rattle.voter.proofs.Extremes.{largest_ext, smallest_ext}
@@ -41,9 +41,6 @@ module _ (newer : List ℕ) (s : Setting) (y x : ℕ) (h : Standing (length newe
         down = h.down;
         across = h.across;
       }
-
-  pub standing_begins : y * s.width + x ≤ length newer
-  standing_begins = (begins newer newer s y x y x itself).0
 
   pub standing_inside : (n : ℕ) → s.n ≡ n
       → (n * s.width + n ≤ length (part_from (y * s.width + x) newer) + s.width) × (s.width ≤ 1024) × (n ≤ 64) × (n % 2 ≡ 0)

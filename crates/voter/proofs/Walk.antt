@@ -1,8 +1,8 @@
 -- The walk through the block that a frame begins with, column by column: the smallest and the largest so far, of a column's pels and of all columns.
---   first_block                        where the pels stand
+--   first_block                        where the pels stand; pair_inside: two rows more lie inside
 --   Seen                               the smallest of f and the largest of g, as far as the walk has come
 --   seen_first, seen_more, seen_two    before the first, with one more and with two; seen_last: after the last column
-use Prim.Native.Nat.{ℕ, ◌+◌, ◌*◌, ◌≤◌, max, min}
+use Prim.Native.Nat.{ℕ, ◌+◌, ◌*◌, ◌/◌, ◌≤◌, ◌<◌, max, min}
 use mathlib.Core.Path.{◌≡◌, refl}
 use mathlib.Core.List.{List}
 use native.Mathlib.Nat.{zero-add}
@@ -10,6 +10,7 @@ use native.Mathlib.Numerals.{add-one}
 use native.Mathlib.Omega.{arith}
 use lib.Dec.{leb}
 use lib.ListN.{get_or}
+use Rattle.base.specs.Index.{row_next, row_fits}
 use Rattle.distortion.specs.Blocks.{Block, block_at}
 use Rattle.voter.specs.Voter.{largest_to, smallest_to, largest, smallest, is_voter}
 use Rattle.voter.proofs.Extremes.{largest_turned, smallest_turned}
@@ -17,6 +18,10 @@ use Rattle.voter.proofs.Extremes.{largest_turned, smallest_turned}
 -- the block that a frame begins with: the pel at row i and column j stands at i × width + j
 pub first_block : (frame : List ℕ) (width i j p : ℕ) → p ≡ i * width + j → get_or frame p 0 ≡ block_at frame width 0 0 i j
 first_block frame width i j p e = rw (e, zero-add, zero-add)
+
+pub pair_inside : (n width pels i : ℕ) → n * width + n ≤ pels + width → i < n / 2 → 2 * i * width + width + n ≤ pels
+pair_inside n width pels i room h =
+    omega (arith, row_fits (2 * i + 1) n width (omega arith), row_next (2 * i) width)
 
 module _ (f g : ℕ → ℕ) where
   pub record Seen (k low high : ℕ) : Type 0 where

@@ -2,57 +2,35 @@
 
 #![tactic(auto)]
 
-ghost use Rattle.std.specs.Prelude.{◌≡◌, ◌+◌, ◌*◌, ◌%◌, ◌≤◌, ◌<◌, min, max, length};
+ghost use Rattle.std.specs.Prelude.{◌≡◌, ◌+◌, ◌*◌, ◌%◌, ◌≤◌, ◌<◌, length};
 ghost use Rattle.distortion.specs.Blocks.{block_at};
 ghost use Rattle.frame.specs.Grid.{blocks, block_row, block_column};
 ghost use Rattle.voter.specs.Voter.{is_voter, Framed, Standing};
 
 use frame::Setting;
 
-fn smaller(a: u8, b: u8) -> u8
-    ensures { result ≡ min a b }
-{
-    if b < a {
-        return b;
-    }
-    a
-}
-
-fn larger(a: u8, b: u8) -> u8
-    ensures { result ≡ max a b }
-{
-    if a < b {
-        return b;
-    }
-    a
-}
-
-// Whether the largest of n rows of n pels exceeds the smallest by 8 or more, in a frame that begins with them. It goes column by column and down by two
-// rows: p is the place of the pel at column j and row i, least and most are the column's so far, low and high those of the columns before. So the
+// Whether the largest of N rows of N pels exceeds the smallest by 8 or more, in a frame that begins with them. It goes column by column and down by two
+// rows: p is the place of the next pel of column j, least and most are the column's so far, low and high those of the columns before. So the
 // compiler looks at all columns at once, a row an instruction, and where it does not, each pel waits for few others.
-fn differs(newer: &[u8], width: usize, n: usize) -> bool
-    requires { (n * width + n ≤ length newer.now + width) × (width ≤ 1024) × (n ≤ 64) × (n % 2 ≡ 0) }
-    ensures { result ≡ is_voter n (block_at newer.now width 0 0) }
+fn differs<const N: usize>(newer: &[u8], width: usize) -> bool
+    requires { (N * width + N ≤ length newer.now + width) × (width ≤ 1024) × (N ≤ 64) × (N % 2 ≡ 0) }
+    ensures { result ≡ is_voter N (block_at newer.now width 0 0) }
 {
     let mut low: u8 = 255;
     let mut high: u8 = 0;
-    let mut j: usize = 0;
-    while j < n {
+    for j in 0..N {
         let mut least: u8 = 255;
         let mut most: u8 = 0;
         let mut p = j;
-        let mut i: usize = 0;
-        while i < n {
+        for _pair in 0..N / 2 {
             let upper = newer[p];
             let lower = newer[p + width];
-            least = smaller(least, smaller(upper, lower));
-            most = larger(most, larger(upper, lower));
+            least = least.min(upper.min(lower));
+            most = most.max(upper.max(lower));
             p = p + width + width;
-            i += 2;
         }
-        low = smaller(low, least);
-        high = larger(high, most);
-        j += 1;
+        low = low.min(least);
+        high = high.max(most);
     }
     low as u32 + 8 <= high as u32
 }
@@ -64,16 +42,12 @@ pub fn is_voter(newer: &[u8], s: Setting, y: usize, x: usize) -> bool
 {
     let a = y * s.width + x;
     let here = &newer[a..];
-    if s.n == 16 {
-        return differs(here, s.width, 16);
+    match s.n {
+        4 => differs::<4>(here, s.width),
+        8 => differs::<8>(here, s.width),
+        16 => differs::<16>(here, s.width),
+        _ => differs::<32>(here, s.width),
     }
-    if s.n == 8 {
-        return differs(here, s.width, 8);
-    }
-    if s.n == 4 {
-        return differs(here, s.width, 4);
-    }
-    differs(here, s.width, 32)
 }
 
 // Whether grid block k of the newer frame votes.

@@ -1,5 +1,5 @@
 -- `list_row`: after j turns the keys of those within the limit among the first j are stored.
-use Prim.Native.Nat.{ℕ, ◌+◌, ◌-◌, ◌*◌, ◌≤◌}
+use Prim.Native.Nat.{ℕ, ◌+◌, ◌*◌}
 use mathlib.Core.List.{List}
 use Rattle.base.specs.Lists.{list_to}
 use Rattle.frame.specs.declared.Region.{Region}
@@ -12,7 +12,4 @@ spotsTo r i j = list_to (λ k. 64 * (r.top + i) + (r.left + k)) j
 
 abbrev pub invariant-loop-j : goal.invariant-loop-j
 invariant-loop-j l =
-    (l.j ≤ l.r.columns) × Added (within l.numbers l.pitch l.r l.most (spotsTo l.r l.i l.j)) l.initial.keys l.at l.keys l.n
-
-abbrev pub decreases-loop-j : goal.decreases-loop-j
-decreases-loop-j l = l.r.columns - l.j
+    Added (within l.numbers l.pitch l.r l.most (spotsTo l.r l.i l.j)) l.initial.keys l.at l.keys l.n

@@ -18,30 +18,15 @@ room l h =
     let a = l.args in
     let v = number_on a.numbers.now a.pitch a.r in
     let all = ap (λ (ts : List ℕ). length (kept v a.most ts)) (spots_rows a.r) in
-    omega (arith, l.loop-i.invariant.1.many, rows_few v a.most (row_spots a.r) l.loop-i.i a.r.rows h, all, l.requires.2)
-
-pub codes_of-codes-requires : goal.codes_of-codes-requires
-codes_of-codes-requires c = omega arith
+    omega (arith, l.loop-i.invariant.many, rows_few v a.most (row_spots a.r) l.loop-i.i a.r.rows h, all, l.requires.2)
 
 pub loop-i-init : goal.loop-i-init
 unfolding concat_to kept
-loop-i-init c = (omega arith, added_first _ 0)
-
-pub offset_bounds-counts-i : goal.offset_bounds-counts-i
-offset_bounds-counts-i c = omega (arith, c.requires.0.around.few_rows)
-
-pub bounds-counts-i : goal.bounds-counts-i
-bounds-counts-i c = omega (arith, c.requires.0.around.few_rows)
+loop-i-init c = added_first _ 0
 
 pub list_row-n-requires : goal.list_row-n-requires
 list_row-n-requires c =
-    (c.requires.0, omega arith, c.codes_of-codes.ensures, rw c.loop-i.invariant.1.long (room (goal.at.list_row-n-requires c).At-loop-i (omega arith)))
-
-pub overflow_add-i : goal.overflow_add-i
-overflow_add-i c = omega arith
-
-pub loop-i-smaller : goal.loop-i-smaller
-loop-i-smaller c = omega arith
+    (c.requires.0, omega arith, c.codes_of-codes.ensures, rw c.loop-i.invariant.long (room (goal.at.list_row-n-requires c).At-loop-i (omega arith)))
 
 pub loop-i-preserved : goal.loop-i-preserved
 loop-i-preserved c =
@@ -51,17 +36,17 @@ loop-i-preserved c =
     let f = row_spots a.r in
     elim c.if-counts-i-gt0.branch [
       | then-counts-i-gt0 w ↦ rw (w.keys-is, w.n-is)
-          (omega arith, added_as (rows_more v a.most f l.i) (added_join l.invariant.1 {us = kept v a.most (f l.i)} w.list_row-n.ensures))
+          (added_as (rows_more v a.most f l.i) (added_join l.invariant {us = kept v a.most (f l.i)} w.list_row-n.ensures))
       | else-counts-i-gt0 w ↦ rw (w.keys-is, w.n-is)
-          (omega arith, added_as (rows_none v a.most f l.i (omega (arith, w.if-counts-i-gt0.false, c.requires.1 l.i (omega arith)))) l.invariant.1)
+          (added_as (rows_none v a.most f l.i (omega (arith, w.if-counts-i-gt0.false, c.requires.1 l.i (omega arith)))) l.invariant)
     ]
 
 pub shape_of-keys : goal.shape_of-keys
-shape_of-keys c = c.loop-i.invariant.1.long
+shape_of-keys c = c.loop-i.invariant.long
 
 pub returns : goal.returns
 returns c =
     let l = c.loop-i in
     let a = c.args in
     let e : l.i ≡ a.r.rows = omega arith in
-    added_last (added_as (ap (λ (ts : List ℕ). within a.numbers.now a.pitch a.r a.most ts) (spots_rows a.r)) (rw e at l.invariant.1))
+    added_last (added_as (ap (λ (ts : List ℕ). within a.numbers.now a.pitch a.r a.most ts) (spots_rows a.r)) (rw e at l.invariant))

@@ -1,12 +1,8 @@
 -- `list_within`: after i turns the keys of those within the limit in the first i rows stand in front.
-use Prim.Native.Nat.{◌-◌, ◌≤◌}
 use Rattle.base.specs.Lists.{concat_to}
 use Rattle.pruned_sift.specs.Laid.{row_spots, within, Added}
 use Rattle.pruned_sift.proofs.list_within.Given as goal
 
 abbrev pub invariant-loop-i : goal.invariant-loop-i
 invariant-loop-i l =
-    (l.i ≤ l.r.rows) × Added (within l.numbers l.pitch l.r l.most (concat_to (row_spots l.r) l.i)) l.initial.keys 0 l.keys l.n
-
-abbrev pub decreases-loop-i : goal.decreases-loop-i
-decreases-loop-i l = l.r.rows - l.i
+    Added (within l.numbers l.pitch l.r l.most (concat_to (row_spots l.r) l.i)) l.initial.keys 0 l.keys l.n

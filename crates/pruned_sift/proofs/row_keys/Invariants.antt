@@ -1,5 +1,5 @@
 -- `row_keys`: after j columns the least is that of their keys.
-use Prim.Native.Nat.{◌+◌, ◌-◌, ◌≤◌}
+use Prim.Native.Nat.{◌+◌, ◌-◌}
 use mathlib.Core.Path.{◌≡◌}
 use lib.ListN.{get_or}
 use Rattle.reach.specs.Keys.{key_of}
@@ -8,7 +8,4 @@ use Rattle.pruned_sift.proofs.row_keys.Given as goal
 
 abbrev pub invariant-loop-j : goal.invariant-loop-j
 invariant-loop-j l =
-    (l.j ≤ l.columns) × (l.least ≡ least_from l.best (λ k. key_of (get_or l.numbers (l.from + (k - l.left)) 0) l.i k) l.left l.j)
-
-abbrev pub decreases-loop-j : goal.decreases-loop-j
-decreases-loop-j l = l.columns - l.j
+    l.least ≡ least_from l.best (λ k. key_of (get_or l.numbers (l.from + (k - l.left)) 0) l.i k) l.left l.j
