@@ -67,7 +67,7 @@ fn head_due(log: &[u8], at: usize) -> Command
         return refused(13, at);
     }
     let head = log_command::head_in(log, at);
-    let passes = log_head::head_refusal(head) == 0;
+    let passes = log_head::head_refusal(head).is_ok();
     taken(passes, Command::Head(head), 15, log, at)
 }
 
@@ -196,7 +196,7 @@ fn after_end(log: &[u8], at: usize) -> Command
 fn standing_ok(head: Head, blocks: usize) -> bool
     ensures { result ≡ standing_ok head blocks }
 {
-    if log_head::head_refusal(head) != 0 {
+    if log_head::head_refusal(head).is_err() {
         return false;
     }
     blocks <= log_head::head_blocks(head)

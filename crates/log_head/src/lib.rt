@@ -5,10 +5,12 @@
 ghost use Rattle.std.specs.Prelude.{◌≡◌, ◌≤◌, ◌<◌, pos};
 ghost use Rattle.frame.specs.Pictures.{Fitting};
 ghost use Rattle.frame.specs.Grid.{blocks};
+ghost use Rattle.refusals.specs.Numbers.{number_in};
 ghost use Rattle.log_head.specs.Heads.{no_head, setting_in, head_refusal, head_blocks, largest_in};
 ghost use Rattle.log_head.specs.Heads.{candidate_ok, entry_ok, is_still};
 
 use frame::Setting;
+use refusals::Refusal;
 
 // A head's numbers.
 #[repr(C)]
@@ -43,32 +45,32 @@ pub fn setting_in(h: Head) -> Setting
     frame::setting_by(h.width, h.height, h.n, h.measure)
 }
 
-// The first of 1 3 4 51 5 that applies to a head's numbers, or 0.
-pub fn head_refusal(h: Head) -> u32
-    ensures { result ≡ head_refusal h }
+// The first of 1 3 4 51 5 that applies to a head's numbers, if one does.
+pub fn head_refusal(h: Head) -> Result<(), Refusal>
+    ensures { number_in result ≡ head_refusal h }
 {
     if !refusals::side_ok(h.width) {
-        return 1;
+        return Err(Refusal::Side);
     }
     if !refusals::side_ok(h.height) {
-        return 1;
+        return Err(Refusal::Side);
     }
     if !refusals::block_ok(setting_in(h)) {
-        return 3;
+        return Err(Refusal::BlockSize);
     }
     let search = refusals::search_ok(h.search);
     let measure = measures::measure_ok(h.measure);
     let window = refusals::window_ok(h.search, h.w);
     if !search {
-        return 4;
+        return Err(Refusal::Search);
     }
     if !measure {
-        return 51;
+        return Err(Refusal::Measure);
     }
     if !window {
-        return 5;
+        return Err(Refusal::Window);
     }
-    0
+    Ok(())
 }
 
 // How many blocks the head's grid has.

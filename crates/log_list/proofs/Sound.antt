@@ -18,8 +18,7 @@ use Rattle.frame.specs.Grid.{blocks_few}
 use Rattle.refusals.specs.Refusals.{first_refusal_zero, first_refusal_none, unless_zero}
 use Rattle.log_head.specs.declared.Head.{Head}
 use Rattle.log_head.specs.Heads.{setting_in, head_refusal, head_blocks, headed}
-use Rattle.log_list.specs.declared.Verdict.{Verdict}
-use Rattle.log_list.specs.Listed.{list_refusal, listed_ok, verdict, list_verdict, Writable, AllPass}
+use Rattle.log_list.specs.Listed.{list_refusal, listed_ok, Verdict, verdict, list_verdict, Writable, AllPass}
 
 -- 1 3 4 51 5 10 let head and list pass
 pub writable : (h : Head) (list : ℕ) → list_refusal h list ≡ 0 → Writable h list

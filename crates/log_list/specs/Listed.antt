@@ -4,14 +4,16 @@
 --   value_of       the number at place i of block k's three
 --   list_refusal   1 3 4 51 5 10
 --   listed_ok      16 lets block k pass: its three numbers are a candidate and its distortion
---   list_verdict   the first that applies, or 0, with its place
+--   list_verdict   the first that applies, or 0, with its place: a Verdict; verdict_of reads one from what the code answers
 --   Writable      1 3 4 51 5 10 let head and list pass; AllPass: 16 lets every block pass too
-use Rattle.std.specs.Prelude.{ℕ, ◌+◌, ◌*◌, ◌≤◌, ◌<◌, ◌≡◌, List, Bool, true, cond, leb, ltb, eqb, ℤ, pos, length, get_or}
+use Rattle.std.specs.Prelude.{ℕ, ◌+◌, ◌*◌, ◌≤◌, ◌<◌, ◌≡◌, List, Bool, true, cond, leb, ltb, eqb, ℤ, pos, length, get_or, Result, Ok, Err}
 use Rattle.base.specs.FirstWrong.{first_wrong}
 use Rattle.refusals.specs.Refusals.{unless, first_refusal}
 use Rattle.log_head.specs.declared.Head.{Head}
 use Rattle.log_head.specs.Heads.{head_refusal, head_blocks, entry_ok}
-use Rattle.log_list.specs.declared.Verdict.{Verdict}
+use Rattle.refusals.specs.declared.Refusal.{Refusal}
+use Rattle.refusals.specs.Numbers.{number_of}
+use Rattle.log_list.specs.declared.Fault.{Fault}
 
 abbrev pub value_of : List ℤ → ℕ → ℕ → ℤ
 value_of list k i = get_or list (3 * k + i) (pos 0)
@@ -23,8 +25,22 @@ list_refusal h list = first_refusal (head_refusal h) (unless (leb (3 * head_bloc
 abbrev pub listed_ok : Head → List ℤ → ℕ → Bool
 listed_ok h list k = entry_ok h k (value_of list k 0) (value_of list k 1) (value_of list k 2)
 
+-- a refusal without a place of its own
+abbrev pub unplaced : Refusal → Fault
+unplaced r = record { refusal = r; place = 0 }
+
+-- the number of the refusal, or 0, and its place
+pub record Verdict : Type 0 where
+  pub refusal : ℕ
+  pub place : ℕ
+
 abbrev pub verdict : ℕ → ℕ → Verdict
 verdict refusal place = record { refusal = refusal; place = place }
+
+-- the same of what the code answers
+abbrev pub verdict_of : {A : Type 0} → Result A Fault → Verdict
+verdict_of (Ok x) = verdict 0 0
+verdict_of (Err fault) = verdict (number_of fault.refusal) fault.place
 
 unfoldable pub list_verdict : Head → List ℤ → Verdict
 list_verdict h list =

@@ -2,32 +2,39 @@
 
 #![tactic(auto)]
 
-ghost use Rattle.std.specs.Prelude.{◌≡◌, ◌+◌, ◌*◌, ◌<◌, length};
+ghost use Rattle.std.specs.Prelude.{◌≡◌, ◌+◌, ◌*◌, ◌<◌, length, unwrap_or, IfSome};
 ghost use Rattle.base.specs.FirstWrong.{first_wrong};
 ghost use Rattle.log_head.specs.Heads.{head_blocks};
-ghost use Rattle.log_list.specs.Listed.{value_of, list_refusal, listed_ok, Writable, list_verdict};
+ghost use Rattle.log_list.specs.Listed.{value_of, list_refusal, listed_ok, Writable, unplaced, verdict_of, list_verdict};
+ghost use Rattle.refusals.specs.Numbers.{number_in};
 
 use log_head::Head;
+use refusals::Refusal;
 
-// The first refusal of 1 3 4 51 5 10 16 that applies, or 0, and its place.
-#[derive(Clone, Copy)]
-pub struct Verdict {
-    pub refusal: u32,
+// Why head numbers and a list are turned away, and where: by 16 at a block's number, else at 0.
+#[derive(Clone, Copy, Debug, PartialEq, Eq)]
+pub struct Fault {
+    pub refusal: Refusal,
     pub place: usize,
 }
 
-// The first of 1 3 4 51 5 10 that applies, or 0; the list by its length.
-fn list_refusal(head: Head, list: usize) -> u32
-    ensures { result ≡ list_refusal head list }
+impl From<Refusal> for Fault {
+    ghost from_gives = { λ r fault. fault ≡ unplaced r };
+
+    fn from(refusal: Refusal) -> Fault {
+        Fault { refusal, place: 0 }
+    }
+}
+
+// The first of 1 3 4 51 5 10 that applies, if one does; the list by its length.
+fn list_refusal(head: Head, list: usize) -> Result<(), Refusal>
+    ensures { number_in result ≡ list_refusal head list }
 {
-    let refusal = log_head::head_refusal(head);
-    if refusal != 0 {
-        return refusal;
-    }
+    log_head::head_refusal(head)?;
     if list < 3 * log_head::head_blocks(head) {
-        return 10;
+        return Err(Refusal::List);
     }
-    0
+    Ok(())
 }
 
 // The number at place i of block k's three.
@@ -52,37 +59,31 @@ fn listed_ok(head: Head, list: &[i32], k: usize) -> bool
     )
 }
 
-// The first block that 16 turns away, or the number of blocks.
-fn first_wrong(head: Head, list: &[i32]) -> usize
+// The first block that 16 turns away, if there is one.
+fn first_wrong(head: Head, list: &[i32]) -> Option<usize>
     requires { Writable head (length list.now) }
-    ensures { result ≡ first_wrong (listed_ok head list.now) 0 (head_blocks head) }
+    ensures { (unwrap_or result (head_blocks head) ≡ first_wrong (listed_ok head list.now) 0 (head_blocks head))
+        × IfSome result (λ k. k < head_blocks head) }
 {
     let n = log_head::head_blocks(head);
     for k in 0..n {
         if !listed_ok(head, list, k) {
-            return k;
+            return Some(k);
         }
     }
-    n
+    None
 }
 
 // 1 3 4 51 5 10, then 16 with the block's number as place.
-pub fn list_verdict(head: Head, list: &[i32]) -> Verdict
-    ensures { result ≡ list_verdict head list.now }
+pub fn list_verdict(head: Head, list: &[i32]) -> Result<(), Fault>
+    ensures { verdict_of result ≡ list_verdict head list.now }
 {
-    let refusal = list_refusal(head, list.len());
-    if refusal != 0 {
-        return Verdict { refusal, place: 0 };
-    }
-    let wrong = first_wrong(head, list);
-    if wrong < log_head::head_blocks(head) {
-        return Verdict {
-            refusal: 16,
+    list_refusal(head, list.len())?;
+    if let Some(wrong) = first_wrong(head, list) {
+        return Err(Fault {
+            refusal: Refusal::Entry,
             place: wrong,
-        };
+        });
     }
-    Verdict {
-        refusal: 0,
-        place: 0,
-    }
+    Ok(())
 }

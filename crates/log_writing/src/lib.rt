@@ -5,6 +5,7 @@
 ghost use Rattle.std.specs.Prelude.{◌≡◌, cond, [], ◌∷◌, ◌+◌, ◌*◌, ◌≤◌, ◌<◌, length};
 ghost use Rattle.base.specs.Lists.{concat_to};
 ghost use Rattle.put.specs.Put.{Put};
+ghost use Rattle.refusals.specs.Numbers.{number_of};
 ghost use Rattle.log_command.specs.Numbers.{bytes2, bytes4};
 ghost use Rattle.log_command.specs.Commands.{carries, is_long};
 ghost use Rattle.log_head.specs.Heads.{head_refusal, head_blocks, is_still, Entry};
@@ -14,6 +15,7 @@ ghost use Rattle.log_writing.specs.Writing.{write_result, refused_write, write_l
 ghost use Rattle.log_writing.specs.Parts.{head_bytes, numbers_bytes, end_bytes, block_bytes};
 
 use log_head::Head;
+use refusals::Refusal;
 
 // What writing answers: the log's length, or a refusal with its place.
 #[repr(C)]
@@ -24,11 +26,11 @@ pub struct Written {
     pub length: usize,
 }
 
-fn refused_write(refusal: u32, place: usize) -> Written
-    ensures { result ≡ refused_write refusal place }
+fn refused_write(refusal: Refusal, place: usize) -> Written
+    ensures { result ≡ refused_write (number_of refusal) place }
 {
     Written {
-        refusal,
+        refusal: refusal.into(),
         place,
         length: 0,
     }
@@ -193,12 +195,11 @@ fn put_log(out: &mut [u8], head: Head, list: &[i32]) -> usize
 pub fn write_log(head: Head, list: &[i32], buffer: &mut [u8]) -> Written
     ensures { write_result result buffer.new ≡ write_log head list.now buffer.old }
 {
-    let verdict = log_list::list_verdict(head, list);
-    if verdict.refusal != 0 {
-        return refused_write(verdict.refusal, verdict.place);
+    if let Err(fault) = log_list::list_verdict(head, list) {
+        return refused_write(fault.refusal, fault.place);
     }
     if buffer.len() < log_size(head, list) {
-        return refused_write(19, 0);
+        return refused_write(Refusal::Buffer, 0);
     }
     Written {
         refusal: 0,

@@ -1,8 +1,8 @@
 -- Refusals as the code hands them on, and their numbers: 01, "What the input can be turned away for", and 02, requests 1 and 3.
 --   number_of   the number of a refusal
 --   number_in   what a test that may refuse tells: its refusal's number, or 0 where it lets the call pass
-use Rattle.std.specs.Prelude.{ℕ, ◌≡◌, Result, Ok, Err, IsErrAnd}
-use Rattle.std.proofs.Common.{ap, sym, ◌∙◌, arith}
+use Rattle.std.specs.Prelude.{ℕ, ◌≡◌, refl, eqb, Result, Ok, Err, is_ok, is_err, IsErrAnd, true, false}
+use Rattle.std.proofs.Common.{ap, sym, ◌∙◌, arith, ne_eqb}
 use Rattle.refusals.specs.Refusals.{first_refusal, first_refusal_some}
 use Rattle.refusals.specs.declared.Refusal.{Refusal}
 use Rattle.refusals.specs.declared.Refusal.TheVariants.{Side, Length, BlockSize, Search, Window, Threshold, Place, Vector, Table, List, Homing, ViewSide, Entry, Buffer, NotHomed, NoStep, OutOfRange, Measure, NoVoter}
@@ -63,3 +63,16 @@ number_some NoVoter e = omega arith
 pub handed_first : {A : Type 0} (r : Result A Refusal) (e : Refusal) {n : ℕ} (rest : ℕ) → IsErrAnd r (λ y. y ≡ e) → number_of e ≡ n
     → number_in r ≡ first_refusal n rest
 handed_first r e rest i h = handed_on r e i (h ∙ sym (first_refusal_some _ rest (λ z. number_some e (h ∙ z))))
+
+-- a test lets a call pass just where its number is 0
+pub passes : {A : Type 0} (r : Result A Refusal) → is_ok r ≡ eqb (number_in r) 0
+passes (Ok x) = refl
+passes (Err r) = sym (ne_eqb (number_of r) 0 (number_some r))
+
+pub refused_some : {A : Type 0} (r : Result A Refusal) → is_err r ≡ true → number_in r ≡ 0 → ⊥
+refused_some (Ok x) h e = absurd cc
+refused_some (Err r) h e = number_some r e
+
+pub refused_none : {A : Type 0} (r : Result A Refusal) → is_err r ≡ false → number_in r ≡ 0
+refused_none (Ok x) h = refl
+refused_none (Err r) h = absurd cc

@@ -17,7 +17,7 @@ listed_ok-requires c = (c.requires, omega (arith, c.head_blocks-n.ensures.0))
 
 pub returns-then-not-listed_ok : goal.returns-then-not-listed_ok
 returns-then-not-listed_ok c =
-    rw (← c.head_blocks-n.ensures.0) (sym (wrong_here _ _ _ (omega arith) (told c.listed_ok.ensures c.if-not-listed_ok.true)) ∙ c.loop-k.invariant)
+    (rw (← c.head_blocks-n.ensures.0) (sym (wrong_here _ _ _ (omega arith) (told c.listed_ok.ensures c.if-not-listed_ok.true)) ∙ c.loop-k.invariant), rw (← c.head_blocks-n.ensures.0) (omega arith))
 
 pub loop-k-preserved : goal.loop-k-preserved
 loop-k-preserved c = sym (wrong_more _ _ _ (omega arith) (told c.listed_ok.ensures c.if-not-listed_ok.false)) ∙ c.loop-k.invariant
@@ -26,4 +26,4 @@ pub returns : goal.returns
 returns c =
     let l = c.loop-k in
     let e : l.k ≡ c.head_blocks-n.result = omega arith in
-    rw (← c.head_blocks-n.ensures.0) (sym (wrong_last _ _ _ (omega arith) ∙ e) ∙ l.invariant)
+    (rw (← c.head_blocks-n.ensures.0) (sym (wrong_last _ _ _ (omega arith) ∙ e) ∙ l.invariant), tt)

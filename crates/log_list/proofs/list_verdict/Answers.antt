@@ -1,32 +1,41 @@
 -- `list_verdict`: 1 3 4 51 5 10, then the first block that 16 turns away.
-use mathlib.Core.Path.{sym, ◌∙◌}
-use borrow.Author.Tests.{lt-ltb, le-ltb, eq-eqb, ne_eqb}
+use mathlib.Core.Path.{◌≡◌, ap, sym, ◌∙◌}
+use Prim.Native.Nat.{ℕ, ◌≤◌}
+use native.Mathlib.Omega.{arith}
+use borrow.Author.Tests.{lt-ltb, le-ltb, ne_eqb}
 use lib.ListN.{length}
-use Rattle.log_list.specs.Listed.{list_verdict, Writable}
+use Rattle.std.specs.Prelude.{Result, Ok, Err, IsErrAnd}
+use Rattle.refusals.specs.declared.Refusal.{Refusal}
+use Rattle.refusals.specs.Numbers.{number_of, number_some}
+use Rattle.log_list.specs.declared.Fault.{Fault}
+use Rattle.log_list.specs.Listed.{list_verdict, verdict, verdict_of, unplaced, Writable}
+use Rattle.log_head.specs.Heads.{head_blocks}
 use Rattle.log_list.proofs.Sound.{writable}
 use Rattle.log_list.proofs.list_verdict.Goals as goal
-use Rattle.log_list.proofs.list_verdict.Goals.{Else-refusal-ne0}
+use Rattle.log_list.proofs.list_verdict.Goals.{In_ok-list_refusal}
 
 -- past 1 3 4 51 5 10
-past : (c : Else-refusal-ne0) → let a = c.args in Writable a.head (length a.list.now)
-past c = writable _ _ (sym c.list_refusal-refusal.ensures ∙ c.if-refusal-ne0.false)
+past : (c : In_ok-list_refusal) → let a = c.args in Writable a.head (length a.list.now)
+past c = writable _ _ (sym c.in_ok-list_refusal.ensures)
 
-pub returns-then-refusal-ne0 : goal.returns-then-refusal-ne0
+-- a refusal that `?` hands on, placed at 0
+refused : {A : Type 0} (r : Result A Fault) (e : Refusal) → IsErrAnd r (λ y. y ≡ unplaced e) → verdict_of r ≡ verdict (number_of e) 0
+refused (Ok x) e i = absurd i
+refused (Err y) e i = ap (λ f. verdict (number_of f.refusal) f.place) i
+
+pub returns-in_err-list_refusal : goal.returns-in_err-list_refusal
 unfolding list_verdict
-returns-then-refusal-ne0 c = rw (← c.list_refusal-refusal.ensures, ne_eqb _ 0 c.if-refusal-ne0.true)
+returns-in_err-list_refusal c =
+    refused _ _ c.from_residual.ensures.1 ∙ rw (← c.in_err-list_refusal.ensures, ne_eqb _ 0 (number_some c.in_err-list_refusal.field-0.0))
 
-pub first_wrong-wrong-requires : goal.first_wrong-wrong-requires
-first_wrong-wrong-requires c = past c
+pub first_wrong-requires : goal.first_wrong-requires
+first_wrong-requires c = past c
 
-pub head_blocks-requires : goal.head_blocks-requires
-head_blocks-requires c = (past (goal.at.head_blocks-requires c).Else-refusal-ne0).fine
-
-pub returns-then-wrong-head_blocks : goal.returns-then-wrong-head_blocks
+pub returns-in-Some : goal.returns-in-Some
 unfolding list_verdict
-returns-then-wrong-head_blocks c =
-    rw (← c.list_refusal-refusal.ensures, eq-eqb _ 0 c.if-refusal-ne0.false, ← c.first_wrong-wrong.ensures, ← c.head_blocks.ensures.0, lt-ltb _ _ c.if-wrong-head_blocks.true)
+returns-in-Some c =
+    rw (← c.in_ok-list_refusal.ensures, ← c.in-Some.ensures.0, lt-ltb _ _ c.in-Some.ensures.1)
 
 pub returns : goal.returns
 unfolding list_verdict
-returns c =
-    rw (← c.list_refusal-refusal.ensures, eq-eqb _ 0 c.if-refusal-ne0.false, ← c.first_wrong-wrong.ensures, ← c.head_blocks.ensures.0, le-ltb _ _ c.if-wrong-head_blocks.false)
+returns c = rw (← c.in_ok-list_refusal.ensures, ← c.in_default.ensures.0, le-ltb (head_blocks c.args.head) (head_blocks c.args.head) (omega arith))
