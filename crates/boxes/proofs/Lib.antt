@@ -4,3 +4,5 @@ pub mod Walk
 pub mod Pels
 pub mod Squares
 pub mod Whole
+pub mod Filled
+pub mod Runs

@@ -9,6 +9,7 @@ ghost use Rattle.refusals.specs.Refusals.{block_size_ok};
 ghost use Rattle.search.specs.Target.{Ready};
 ghost use Rattle.reach.specs.Reach.{Standing, reach};
 ghost use Rattle.boxes.specs.Boxes.{block_pels, doubled, Cut, area, span_of, level_of, whole_of, Levels, Boxed};
+ghost use Rattle.boxes.specs.Runs.{carried};
 
 use frame::{Region, SearchBlock};
 
@@ -154,4 +155,28 @@ pub fn whole_32(boxes: &[u16], at: usize, below: usize) -> u32
 {
     (boxes[at] as u32 + boxes[at + 16] as u32)
         + (boxes[at + below] as u32 + boxes[at + below + 16] as u32)
+}
+
+// ---- what the distances of all candidates stand on
+
+// Room for the places of all candidates, with N up to 32.
+pub const PLACES: usize = 64 * 32 + 40;
+
+// The sums of so many squares in a row, m places apart.
+pub fn run_of_squares<const COUNT: usize>(boxes: &[u16], at: usize, m: usize) -> [u16; COUNT]
+    requires { (q : ℕ) → q < COUNT → at + m * q < length boxes.now }
+    ensures { (length result ≡ COUNT) × ((q : ℕ) → q < COUNT → get_or result q 0 ≡ get_or boxes.now (at + m * q) 0) }
+{
+    let mut v = [0u16; COUNT];
+    for q in 0..COUNT {
+        v[q] = boxes[at + m * q];
+    }
+    v
+}
+
+// What a number so far counts for: nothing, where the numbers start afresh.
+pub fn carried(fresh: bool, x: u32) -> u32
+    ensures { result ≡ carried fresh x }
+{
+    if fresh { 0 } else { x }
 }

@@ -1,57 +1,26 @@
 -- The boxes of a block and its search window are what the loops need.
---   parts          a block of N is N / m squares a side, that are 1, 2, or some times 4
---   turned_about   p times x rows of m, as so many places
 --   squared        the squares of a part of a block lie in the array and add up to its own sum
 --   quarter        so do those of a quarter of a block of 32
 --   quarters_are   the distances of four quarters add up to that of the block
 use Prim.Native.Nat.{ℕ, zero, suc, ◌+◌, ◌-◌, ◌*◌, ◌/◌, ◌^◌, ◌≤◌, ◌<◌}
 use mathlib.Core.Path.{◌≡◌, refl, sym, ap, ap₂, ◌∙◌, subst}
-use mathlib.Core.Logic.{inl, inr}
 use mathlib.Core.List.{List}
 use native.Mathlib.Nat.{mul_comm, mul_assoc, mul-add, add-mul, mul-le-mul, mul-le-mul_left}
 use native.Mathlib.Omega.{arith}
-use lib.Dec.{T}
 use Rattle.base.specs.Index.{row_fits}
 use lib.ListN.{length, get_or}
 use Rattle.base.specs.Sum.{sum_over, sum_over_ext, sum_over_bound, sum_over_group}
 use Rattle.signed.specs.Values.{abs_diff}
-use Rattle.refusals.specs.Refusals.{block_size_ok, block_size_elim}
 use Rattle.boxes.specs.Boxes.{box, Cut, area, level_at, own_at, window_places, level_of, Filled, own_places}
 use Rattle.boxes.proofs.Box.{box_parts}
 use Rattle.boxes.proofs.Rooms.{cut_at, cut_sixteen, area_small, square_small}
+use Rattle.boxes.proofs.Runs.{Parts, parts_16, turned_about}
 use Rattle.boxes.proofs.Squares.{window_in_array, own_in_array}
-use Rattle.pruned_narrow.specs.Narrow.{Runs, Squared, distance_of, distance_at}
+use Rattle.boxes.specs.Runs.{Runs}
+use Rattle.pruned_narrow.specs.Narrow.{Squared, distance_of, distance_at}
 use Rattle.pruned_narrow.proofs.Sums.{two_by_two}
 
 -- ---- squares of a block
-
-pub record Parts (n m : ℕ) : Type 0 where
-  pub runs : Runs (n / m)
-  pub whole : n / m * m ≡ n
-
-parts_4 : (e : ℕ) → 2 ^ e ≤ 4 → e ≤ 4 → Parts 4 (2 ^ e)
-parts_4 zero h f = record { runs = inr (inr (record { fours = 1; is = refl })); whole = refl }
-parts_4 (suc zero) h f = record { runs = inr (inl refl); whole = refl }
-parts_4 (suc (suc zero)) h f = record { runs = inl refl; whole = refl }
-parts_4 (suc (suc (suc zero))) h f = absurd (omega arith)
-parts_4 (suc (suc (suc (suc zero)))) h f = absurd (omega arith)
-parts_4 (suc (suc (suc (suc (suc e))))) h f = absurd (omega arith)
-
-parts_8 : (e : ℕ) → 2 ^ e ≤ 8 → e ≤ 4 → Parts 8 (2 ^ e)
-parts_8 zero h f = record { runs = inr (inr (record { fours = 2; is = refl })); whole = refl }
-parts_8 (suc zero) h f = record { runs = inr (inr (record { fours = 1; is = refl })); whole = refl }
-parts_8 (suc (suc zero)) h f = record { runs = inr (inl refl); whole = refl }
-parts_8 (suc (suc (suc zero))) h f = record { runs = inl refl; whole = refl }
-parts_8 (suc (suc (suc (suc zero)))) h f = absurd (omega arith)
-parts_8 (suc (suc (suc (suc (suc e))))) h f = absurd (omega arith)
-
-parts_16 : (e : ℕ) → e ≤ 4 → Parts 16 (2 ^ e)
-parts_16 zero f = record { runs = inr (inr (record { fours = 4; is = refl })); whole = refl }
-parts_16 (suc zero) f = record { runs = inr (inr (record { fours = 2; is = refl })); whole = refl }
-parts_16 (suc (suc zero)) f = record { runs = inr (inr (record { fours = 1; is = refl })); whole = refl }
-parts_16 (suc (suc (suc zero))) f = record { runs = inr (inl refl); whole = refl }
-parts_16 (suc (suc (suc (suc zero)))) f = record { runs = inl refl; whole = refl }
-parts_16 (suc (suc (suc (suc (suc e))))) f = absurd (omega arith)
 
 half_of : (e : ℕ) → e ≤ 4 → (32 / 2 ^ e / 2 ≡ 16 / 2 ^ e) × (32 / 2 ^ e ≡ 2 * (16 / 2 ^ e))
 half_of zero f = (refl, refl)
@@ -67,17 +36,6 @@ halves m c = subst (λ (x : ℕ). (32 / x / 2 ≡ 16 / x) × (32 / x ≡ 2 * (16
 
 quarter_parts : (m : ℕ) → Cut 32 m → Parts 16 m
 quarter_parts m c = subst (λ (x : ℕ). Parts 16 x) (sym c.power) (parts_16 c.exponent c.few)
-
-pub parts : (n : ℕ) → T (block_size_ok n) → n ≤ 16 → (m : ℕ) → Cut n m → Parts n m
-parts =
-    block_size_elim (λ n. n ≤ 16 → (m : ℕ) → Cut n m → Parts n m)
-    (λ h m c. subst (λ (x : ℕ). Parts 4 x) (sym c.power) (parts_4 c.exponent (rw (← c.power) c.inside) c.few))
-    (λ h m c. subst (λ (x : ℕ). Parts 8 x) (sym c.power) (parts_8 c.exponent (rw (← c.power) c.inside) c.few))
-    (λ h m c. subst (λ (x : ℕ). Parts 16 x) (sym c.power) (parts_16 c.exponent c.few))
-    (λ h m c. absurd (omega arith))
-
-pub turned_about : (p x m : ℕ) → p * (x * m) ≡ x * (p * m)
-turned_about p x m = sym (mul_assoc p x m) ∙ ap (λ (y : ℕ). y * m) (mul_comm p x) ∙ mul_assoc x p m
 
 -- a square part of a block, of side s in k × k squares, dy rows and dx columns from its corner
 module _ (n m s k dy dx at own span : ℕ) (boxes : List ℕ) (few : n ≤ 32) (low : s ≤ 16) (cut : Cut n m) (whole : Cut n s) (all : k * m ≡ s) (down : dy + s ≤ n)

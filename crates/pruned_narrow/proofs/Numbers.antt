@@ -7,7 +7,7 @@ use Prim.Native.Nat.{ℕ, ◌+◌, ◌-◌, ◌*◌, ◌/◌, ◌≤◌, ◌<◌
 use mathlib.Core.Path.{◌≡◌, refl, sym, ap, ap₂, ◌∙◌, subst}
 use mathlib.Core.Logic.{inl, inr}
 use mathlib.Core.List.{List}
-use native.Mathlib.Nat.{mul_comm, mul-add, mul-le-mul_left, pow-le-pow_right, zero-lt-suc}
+use native.Mathlib.Nat.{pow-le-pow_right, zero-lt-suc}
 use native.Mathlib.Omega.{arith}
 use lib.Dec.{T}
 use lib.ListN.{length, get_or}
@@ -22,12 +22,12 @@ use Rattle.distortion.specs.Blocks.{Block}
 use Rattle.search.specs.Exhaustive.{grid_vector}
 use Rattle.reach.specs.Reach.{reach, InReach}
 use Rattle.pruned_rule.specs.Distance.{square_sum, distance_by}
-use Rattle.boxes.specs.Boxes.{Cut, level_at, own_at, span_of, whole_of, Boxed}
+use Rattle.boxes.specs.Boxes.{Cut, level_at, own_at, whole_of, Boxed}
 use Rattle.boxes.specs.Distances.{Resolution, distance_to, Numbered}
 use Rattle.boxes.proofs.Whole.{whole_older, whole_newer}
+use Rattle.boxes.proofs.Filled.{filled_at}
+use Rattle.boxes.proofs.Runs.{place_in, older_index, newer_index}
 use Rattle.pruned_narrow.specs.Narrow.{distance_at, whole_at, number_of}
-use Rattle.pruned_narrow.proofs.Sums.{filled_at}
-use Rattle.pruned_narrow.proofs.Levels.{turned_about}
 
 -- ---- which distance
 
@@ -71,28 +71,13 @@ module _ (older newer : List ℕ) (b : SearchBlock) (boxes : List ℕ) (x : Boxe
   abbrev z : ℕ
   z = j - (reach b).left
 
-  place_in : (n + 32) * y + z < span_of n (reach b)
-  place_in =
-      omega (
-        arith,
-        mul-le-mul_left (n + 32) (let e : y ≤ (reach b).rows - 1 = omega (arith, h.top, h.bottom) in e),
-        h.left,
-        h.right,
-      )
-
-  older_index : (p q : ℕ) → level_at n m + p * ((n + 32) * m) + ((n + 32) * y + z) + m * q ≡ level_at n m + ((n + 32) * (y + p * m) + (z + q * m))
-  older_index p q = omega (arith, turned_about p (n + 32) m, mul-add (n + 32) y (p * m), mul_comm m q)
-
-  newer_index : (p q : ℕ) → own_at n m + p * (n * m) + m * q ≡ own_at n m + (n * (p * m) + q * m)
-  newer_index p q = omega (arith, turned_about p n m, mul_comm m q)
-
   distance_is : Cut n m → distance_at boxes n m ((n + 32) * y + z) ≡ distance_to older newer b 1 m (grid_vector i j)
   unfolding distance_by
   distance_is cut =
       rw (measure_absolute 1 refl)
       (sum_over_ext (n / m) (n / m) _ _ (λ p q hp hq.
-      ap₂ abs_diff (ap (λ (u : ℕ). get_or boxes u 0) (newer_index p q) ∙ x.newer_square m p q cut hp hq)
-      (ap (λ (u : ℕ). get_or boxes u 0) (older_index p q) ∙ x.older_square i j m p q h cut hp hq)))
+      ap₂ abs_diff (ap (λ (u : ℕ). get_or boxes u 0) (newer_index n m y z p q) ∙ x.newer_square m p q cut hp hq)
+      (ap (λ (u : ℕ). get_or boxes u 0) (older_index n m y z p q) ∙ x.older_square i j m p q h cut hp hq)))
 
   -- whole blocks
   whole_is : n ≡ 32 → whole_at boxes ((n + 32) * y + z) ≡ distance_to older newer b 1 32 (grid_vector i j)
@@ -118,7 +103,7 @@ numbered boxes d xs n m span g r long is e =
       λ older newer b x en es i j h.
           let y = i - (reach b).top in
           let z = j - (reach b).left in
-          let in_span : (n + 32) * y + z < span = rw (es, en) (place_in older newer b boxes x m i j h) in
+          let in_span : (n + 32) * y + z < span = rw (es, en) (place_in b i j h) in
           ap (λ (ys : List ℕ). get_or ys ((n + 32) * y + z) 0) f
           ∙ filled_at d (number_of boxes n m) span long ((n + 32) * y + z) in_span
           ∙ ap (λ (c : ℕ). number_of boxes c m ((c + 32) * y + z)) en

@@ -1,38 +1,23 @@
 -- Sums of what one number has more than another.
---   filled_at     what stands in an array that a loop fills from place 0; filled_next: at the place that is next
---   fill_turn     a turn of such a loop; fill_same: one that stores what is there; fill_again: two loops
---   fill_added    two loops, of which the second adds
+--   fill_same     a loop that stores what is there; fill_added: two loops, of which the second adds
 --   two_by_two    a sum of two rows and two columns
---   minus_le      what numbers have more is at most the numbers; prefix_le: the first of them are; next_le: also with the next
+--   minus_le      what numbers have more is at most the numbers; next_le: also with the next
 --   more_le       the same of squares; less_le: what they have more and the others are at least the squares
 --   absolute_is   absolute differences by what the one has more and the sums of both
 use Prim.Native.Nat.{ℕ, zero, suc, ◌+◌, ◌-◌, ◌≤◌, ◌<◌}
 use mathlib.Core.Path.{◌≡◌, refl, sym, ap, ◌∙◌}
 use mathlib.Core.List.{List}
-use native.Mathlib.Nat.{zero-add}
 use native.Mathlib.Omega.{arith}
 use lib.ListN.{length, get_or, set}
 use lib.Seq.{set-get_or}
 use native.Mathlib.Numerals.{add-one}
-use Rattle.base.specs.Lists.{fill_to, fill_none, fill_front, fill_ext, list_to, length_list_to, fill_in, fill_after, fill_zero, drop_over}
-use Rattle.base.specs.Sum.{sum_to, sum_to_ext, sum_to_mono, sum_to_add, sum_to_more, sum_to_cut, sum_over, sum_over_ext, sum_over_mono}
+use Rattle.base.specs.Lists.{fill_to, fill_none, fill_ext}
+use Rattle.base.specs.Sum.{sum_to, sum_to_ext, sum_to_mono, sum_to_add, sum_to_more, sum_over, sum_over_ext, sum_over_mono}
 use Rattle.signed.specs.Values.{abs_diff}
+use Rattle.boxes.proofs.Filled.{filled_at, fill_turn, fill_again, prefix_le}
 use Rattle.pruned_narrow.specs.Narrow.{turned}
 
 -- ---- arrays
-
-module _ (d : List ℕ) (g : ℕ → ℕ) (n : ℕ) (room : n ≤ length d) where
-  pub filled_at : (i : ℕ) → i < n → get_or (fill_to d 0 g n) i 0 ≡ g i
-  filled_at i h = ap (λ (k : ℕ). get_or (fill_to d 0 g n) k 0) (sym (zero-add i)) ∙ fill_in d 0 g n i 0 (omega arith) h
-
-  pub filled_next : get_or (fill_to d 0 g n) n 0 ≡ get_or d n 0
-  filled_next =
-      let e : 0 + n + 0 ≡ n = omega arith in
-      rw e at (fill_after d 0 g n 0 0 (omega arith))
-
--- a turn of a loop that fills from place 0
-pub fill_turn : (d xs : List ℕ) (g : ℕ → ℕ) (n x : ℕ) → xs ≡ fill_to d 0 g n → x ≡ g n → n < length d → set xs n x ≡ fill_to d 0 g (n + 1)
-fill_turn d xs g n x e f h = rw (e, f) (fill_front d g n h)
 
 -- filled with what is there
 pub fill_same : (d : List ℕ) (g : ℕ → ℕ) (n : ℕ) → n ≤ length d → ((i : ℕ) → i < n → g i ≡ get_or d i 0) → d ≡ fill_to d 0 g n
@@ -42,11 +27,6 @@ fill_same d g (suc n) room e =
     ∙ ap (λ (x : ℕ). set d n x) (sym (e n (omega arith)))
     ∙ fill_turn d d g n (g n) (fill_same d g n (omega arith) (λ i h. e i (omega arith))) refl (omega arith)
     ∙ ap (λ (k : ℕ). fill_to d 0 g k) (add-one n)
-
--- filled twice
-pub fill_again : (d : List ℕ) (g h : ℕ → ℕ) (n : ℕ) → fill_to (fill_to d 0 g n) 0 h n ≡ fill_to d 0 h n
-fill_again d g h n =
-    fill_zero (fill_to d 0 g n) h n ∙ rw (fill_zero d g n, drop_over (list_to g n) d n n (length_list_to g n) (omega arith)) (sym (fill_zero d h n))
 
 -- filled, then added to
 pub fill_added : (d xs ys : List ℕ) (g h : ℕ → ℕ) (n : ℕ) → n ≤ length d → xs ≡ fill_to d 0 g n → ys ≡ fill_to xs 0 (λ i. get_or xs i 0 + h i) n
@@ -68,12 +48,6 @@ sum_over_add k l f g = sum_to_ext _ _ k (λ p hp. sum_to_add (f p) (g p) l) ∙ 
 
 pub minus_le : (f g : ℕ → ℕ) (n : ℕ) → sum_to (λ q. f q - g q) n ≤ sum_to f n
 minus_le f g n = sum_to_mono _ _ n (λ q h. omega arith)
-
--- the first q of n
-pub prefix_le : (f : ℕ → ℕ) (q n : ℕ) → q ≤ n → sum_to f q ≤ sum_to f n
-prefix_le f q n h =
-    let e : q + (n - q) ≡ n = omega arith in
-    omega (arith, ap (sum_to f) e, sum_to_cut f q (n - q))
 
 pub next_le : (f g : ℕ → ℕ) (q n : ℕ) → q < n → sum_to (λ i. f i - g i) q + (f q - g q) ≤ sum_to f n
 next_le f g q n h = omega (arith, sum_to_more (λ i. f i - g i) q, minus_le f g (q + 1), prefix_le f (q + 1) n (omega arith))

@@ -10,8 +10,10 @@ use lib.ListN.{length, get_or, replicate, get_or-replicate, length-replicate}
 use Rattle.base.specs.Lists.{fill_to, fill_ext}
 use Rattle.base.specs.Sum.{sum_to, sum_to_none, sum_to_more, sum_to_mono}
 use Rattle.boxes.specs.declared.Level.{Level}
-use Rattle.pruned_narrow.specs.Narrow.{places, row_sum, row_more, turned, distance_of, Squared}
-use Rattle.pruned_narrow.proofs.Sums.{filled_at, fill_same, fill_again, minus_le, prefix_le, more_le, less_le, absolute_is}
+use Rattle.boxes.proofs.Filled.{filled_at, fill_again, prefix_le}
+use Rattle.boxes.specs.Runs.{places}
+use Rattle.pruned_narrow.specs.Narrow.{row_sum, row_more, turned, distance_of, Squared}
+use Rattle.pruned_narrow.proofs.Sums.{fill_same, minus_le, more_le, less_le, absolute_is}
 
 -- what rows are added to at first
 abbrev pub zeros : List ℕ

@@ -1,24 +1,18 @@
 -- 01, "The four searches", search 2: "Cut a block into m × m squares; its distance at m is the sum over squares of the absolute difference of
 -- pel sums." The distances of all candidates at once, from the sums of `boxes`: first what each older square has more than the newer one, summed; then,
 -- by the sums of the whole blocks, also what the newer ones have more.
---   places       of the array of distances
 --   row_sum       the sums of so many squares in a row, m places apart; row_more: what they have more than the newer ones
 --   turned       from what the older squares have more, x, and the sums of both blocks, to the distance
---   carried      what a number so far counts for: nothing where the numbers start afresh
 --   distance_of   the distance of k × k squares from the place `at` on, distance_at: that of the candidate at place t
 --   whole_at      the same of whole blocks of 32, by four boxes of 16
 --   number_of     the distance at m of the candidate at place t, at every m
---   Runs         k squares are 1, 2, or some times 4
---   Inside       the squares of a row lie inside the array, for all places
 --   Squared      the squares of a block do, they add up to its own sum, and sums and distances have 16 bits
-use Rattle.std.specs.Prelude.{ℕ, ◌+◌, ◌-◌, ◌*◌, ◌/◌, ◌≤◌, ◌<◌, ◌≡◌, ◌⊎◌, Bool, cond, List, eqb, length, get_or}
+use Rattle.std.specs.Prelude.{ℕ, ◌+◌, ◌-◌, ◌*◌, ◌/◌, ◌≤◌, ◌<◌, ◌≡◌, cond, List, eqb, length, get_or}
 use Rattle.base.specs.Sum.{sum_to, sum_over}
 use Rattle.signed.specs.Values.{abs_diff}
 use Rattle.boxes.specs.Boxes.{level_at, own_at, whole_of}
+use Rattle.boxes.specs.Runs.{Inside}
 use Rattle.boxes.specs.declared.Level.{Level}
-
-abbrev pub places : ℕ
-places = 2088
 
 abbrev pub row_sum : List ℕ → ℕ → ℕ → ℕ → ℕ
 row_sum boxes at m count = sum_to (λ q. get_or boxes (at + m * q) 0) count
@@ -28,9 +22,6 @@ row_more boxes at own m count = sum_to (λ q. get_or boxes (at + m * q) 0 - get_
 
 abbrev pub turned : ℕ → ℕ → ℕ → ℕ
 turned x s v = x + (v - (s - x))
-
-abbrev pub carried : Bool → ℕ → ℕ
-carried fresh x = cond fresh 0 x
 
 -- rows of older squares are `below` places apart, those of newer ones `under`
 abbrev pub distance_of : List ℕ → ℕ → ℕ → ℕ → ℕ → ℕ → ℕ → ℕ → ℕ
@@ -45,18 +36,6 @@ whole_at boxes t = abs_diff (whole_of boxes (own_at 32 16) 512) (whole_of boxes 
 
 unfoldable pub number_of : List ℕ → ℕ → ℕ → ℕ → ℕ
 number_of boxes n m t = cond (eqb m 32) (whole_at boxes t) (distance_at boxes n m t)
-
-pub record Fours (k : ℕ) : Type 0 where
-  pub fours : ℕ
-  pub is : k ≡ 4 * fours
-
-abbrev pub Runs : ℕ → Type 0
-Runs k = (k ≡ 1) ⊎ ((k ≡ 2) ⊎ Fours k)
-
-pub record Inside (boxes : List ℕ) (at own m count size : ℕ) : Type 0 where
-  pub some : 0 < size
-  pub older : (t q : ℕ) → t < size → q < count → at + t + m * q < length boxes
-  pub newer : (q : ℕ) → q < count → own + m * q < length boxes
 
 pub record Squared (boxes : List ℕ) (l : Level) (k at own : ℕ) (w : Level) (size : ℕ) : Type 0 where
   pub rows : (p : ℕ) → p < k → Inside boxes (l.at + at + p * (l.pitch * l.m)) (l.own + own + p * (l.n * l.m)) l.m k size

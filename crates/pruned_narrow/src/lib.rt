@@ -9,69 +9,40 @@ ghost use Rattle.base.specs.Sum.{sum_to};
 ghost use Rattle.refusals.specs.Refusals.{block_size_ok};
 ghost use Rattle.boxes.specs.Boxes.{Cut, area, Filled};
 ghost use Rattle.boxes.specs.Distances.{Resolution, Numbered};
-ghost use Rattle.pruned_narrow.specs.Narrow.{places, row_sum, row_more, turned, carried, distance_of, distance_at, whole_at, number_of, Runs, Inside, Squared};
+ghost use Rattle.boxes.specs.Runs.{places, carried, Runs, Inside};
+ghost use Rattle.pruned_narrow.specs.Narrow.{row_sum, row_more, turned, distance_of, distance_at, whole_at, number_of, Squared};
 
-use boxes::Level;
+use boxes::{Level, PLACES};
 
-// Room for the places of all candidates, with N up to 32.
-pub const PLACES: usize = 64 * 32 + 40;
-
-// a - b, or 0.
-fn minus_or_zero(a: u16, b: u16) -> u16
-    ensures { result ≡ a - b }
-{
-    if b < a { a - b } else { 0 }
-}
-
-// Up to four sums in a row, m places apart.
-fn squares(boxes: &[u16], at: usize, m: usize, count: usize) -> [u16; 4]
-    requires { (count ≤ 4) × ((q : ℕ) → q < count → at + m * q < length boxes.now) }
-    ensures { (length result ≡ 4) × ((q : ℕ) → q < count → get_or result q 0 ≡ get_or boxes.now (at + m * q) 0) }
-{
-    let mut v = [0u16; 4];
-    let mut q: usize = 0;
-    while q < count {
-        v[q] = boxes[at + m * q];
-        q += 1;
-    }
-    v
-}
-
-// What `count` squares in a row of an older block, the first at place `at`, have more than the newer ones.
-fn surplus(boxes: &[u16], at: usize, m: usize, own: &[u16; 4], count: usize) -> u16
-    requires { (count ≤ 4) × ((q : ℕ) → q < count → at + m * q < length boxes.now) × (row_sum boxes.now at m count ≤ 65535)
-        × (length own.now ≡ 4) }
-    ensures { result ≡ sum_to (λ q. get_or boxes.now (at + m * q) 0 - get_or own.now q 0) count }
+// What COUNT squares in a row of an older block, the first at place `at`, have more than the newer ones.
+fn surplus<const COUNT: usize>(boxes: &[u16], at: usize, m: usize, own: &[u16; COUNT]) -> u16
+    requires { ((q : ℕ) → q < COUNT → at + m * q < length boxes.now) × (row_sum boxes.now at m COUNT ≤ 65535) }
+    ensures { result ≡ sum_to (λ q. get_or boxes.now (at + m * q) 0 - get_or own.now q 0) COUNT }
 {
     let mut sum: u16 = 0;
-    let mut q: usize = 0;
-    while q < count {
-        sum += minus_or_zero(boxes[at + m * q], own[q]);
-        q += 1;
+    for q in 0..COUNT {
+        sum += boxes[at + m * q].saturating_sub(own[q]);
     }
     sum
 }
 
 // Adds that of the older blocks of all candidates.
-fn add_run(
+fn add_run<const COUNT: usize>(
     boxes: &[u16],
     at: usize,
     own: usize,
     m: usize,
-    count: usize,
     size: usize,
     part: &mut [u16; PLACES],
 )
-    requires { (size ≤ places) × (length part.old ≡ places) × (count ≤ 4) × (0 < count) × Inside boxes.now at own m count size
-        × ((t : ℕ) → t < size → get_or part.old t 0 + row_sum boxes.now (at + t) m count ≤ 65535) }
+    requires { (size ≤ places) × (length part.old ≡ places) × (COUNT ≤ 4) × (0 < COUNT) × Inside boxes.now at own m COUNT size
+        × ((t : ℕ) → t < size → get_or part.old t 0 + row_sum boxes.now (at + t) m COUNT ≤ 65535) }
     ensures { part.new
-        ≡ fill_to part.old 0 (λ t. get_or part.old t 0 + row_more boxes.now (at + t) own m count) size }
+        ≡ fill_to part.old 0 (λ t. get_or part.old t 0 + row_more boxes.now (at + t) own m COUNT) size }
 {
-    let v = squares(boxes, own, m, count);
-    let mut t: usize = 0;
-    while t < size {
-        part[t] = part[t] + surplus(boxes, at + t, m, &v, count);
-        t += 1;
+    let v = boxes::run_of_squares::<COUNT>(boxes, own, m);
+    for t in 0..size {
+        part[t] = part[t] + surplus(boxes, at + t, m, &v);
     }
 }
 
@@ -90,26 +61,16 @@ fn add_row(
     ensures { part.new
         ≡ fill_to part.old 0 (λ t. get_or part.old t 0 + row_more boxes.now (at + t) own m k) size }
 {
-    if k == 1 {
-        add_run(boxes, at, own, m, 1, size, part);
-        return;
+    match k {
+        1 => add_run::<1>(boxes, at, own, m, size, part),
+        2 => add_run::<2>(boxes, at, own, m, size, part),
+        _ => {
+            for run in 0..k / 4 {
+                let q = 4 * run;
+                add_run::<4>(boxes, at + m * q, own + m * q, m, size, part);
+            }
+        }
     }
-    if k == 2 {
-        add_run(boxes, at, own, m, 2, size, part);
-        return;
-    }
-    let mut q: usize = 0;
-    while q < k {
-        add_run(boxes, at + m * q, own + m * q, m, 4, size, part);
-        q += 4;
-    }
-}
-
-// x, or 0 where the numbers start afresh.
-fn carried(fresh: bool, x: u32) -> u32
-    ensures { result ≡ carried fresh x }
-{
-    if fresh { 0 } else { x }
 }
 
 // From what the older sums have more, x, to the distance: x and what the newer ones have more. v is the newer block's sum. Adds the distances to the numbers,
@@ -131,12 +92,10 @@ fn add_turned(
     ensures { numbers.new ≡ fill_to numbers.old 0 (λ t. carried fresh (get_or numbers.old t 0)
         + turned (get_or part.now t 0) (get_or boxes.now (whole + t) 0) v) size }
 {
-    let mut t: usize = 0;
-    while t < size {
+    for t in 0..size {
         let x = part[t];
         let d = (x + (v - (boxes[whole + t] - x))) as u32;
-        numbers[t] = carried(fresh, numbers[t]) + d;
-        t += 1;
+        numbers[t] = boxes::carried(fresh, numbers[t]) + d;
     }
 }
 
@@ -160,12 +119,10 @@ fn add_block(
     let mut part = [0u16; PLACES];
     let mut a = l.at + at;
     let mut o = l.own + own;
-    let mut p: usize = 0;
-    while p < k {
+    for _p in 0..k {
         add_row(boxes, a, o, l.m, k, size, &mut part);
         a += l.pitch * l.m;
         o += l.n * l.m;
-        p += 1;
     }
     add_turned(
         boxes,
@@ -201,10 +158,8 @@ fn fill_32(boxes: &[u16], size: usize, numbers: &mut [u32; PLACES])
     let h = boxes::level_of(32, 16);
     let at = h.at;
     let v = boxes::whole_32(boxes, h.own, 512);
-    let mut t: usize = 0;
-    while t < size {
-        numbers[t] = signed::abs_diff_u32(v, boxes::whole_32(boxes, at + t, 1024));
-        t += 1;
+    for t in 0..size {
+        numbers[t] = v.abs_diff(boxes::whole_32(boxes, at + t, 1024));
     }
 }
 

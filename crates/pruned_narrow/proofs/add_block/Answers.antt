@@ -2,100 +2,68 @@
 use Prim.Native.Nat.{ℕ, ◌+◌, ◌*◌, ◌≤◌, ◌<◌}
 use mathlib.Core.Path.{◌≡◌, sym, ap, ◌∙◌, subst}
 use native.Mathlib.Omega.{arith}
-use borrow.Author.Rules.{rules}
 use lib.ListN.{length, get_or, length-replicate}
 use mathlib.Core.List.{List}
 use Rattle.base.specs.Lists.{length_fill}
-use Rattle.pruned_narrow.specs.Narrow.{places, row_sum, turned, carried, Inside}
+use Rattle.boxes.specs.Runs.{places, carried, Inside}
+use Rattle.pruned_narrow.specs.Narrow.{row_sum, turned}
 use native.Mathlib.Nat.{zero-mul}
 use Rattle.base.specs.Index.{row_next, row_fits}
 use Rattle.pruned_narrow.proofs.Whole.{zeros, stored, block_first, block_bound, block_more, turn_fits, turn_is}
 use Rattle.pruned_narrow.proofs.add_block.Goals as goal
 use Rattle.pruned_narrow.proofs.add_block.Goals.{At-loop-p, Start}
 
--- the rows that are there
-abbrev rows : Start → ℕ → List ℕ
-rows s = let a = s.args in stored a.boxes.now a.l a.k a.at a.own a.w a.size s.requires.0 s.requires.3
-
 rows-length : (s : Start) (p : ℕ) (xs : List ℕ) → xs ≡ (let a = s.args in stored a.boxes.now a.l a.k a.at a.own a.w a.size s.requires.0 s.requires.3) p → length xs ≡ places
 rows-length s p xs e =
     ap length e ∙ length_fill zeros 0 _ _ (omega (arith, length-replicate {A = ℕ} places 0, s.requires.0)) ∙ length-replicate {A = ℕ} places 0
 
 -- the places of one row more are small
-room : (l : At-loop-p) → l.loop-p.p < l.args.k → let a = l.args in
-    (a.l.at + a.at + l.loop-p.p * (a.l.pitch * a.l.m) + a.l.pitch * a.l.m ≤ 1000000)
-    × (a.l.own + a.own + l.loop-p.p * (a.l.n * a.l.m) + a.l.n * a.l.m ≤ 1000000)
+room : (l : At-loop-p) → l.loop-p._p < l.args.k → let a = l.args in
+    (a.l.at + a.at + l.loop-p._p * (a.l.pitch * a.l.m) + a.l.pitch * a.l.m ≤ 1000000)
+    × (a.l.own + a.own + l.loop-p._p * (a.l.n * a.l.m) + a.l.n * a.l.m ≤ 1000000)
 room l h =
     let a = l.args in
     let e = l.requires.3.small in
-    let x = row_fits l.loop-p.p (a.k + 1) (a.l.pitch * a.l.m) (omega arith) in
-    let y = row_fits l.loop-p.p (a.k + 1) (a.l.n * a.l.m) (omega arith) in
+    let x = row_fits l.loop-p._p (a.k + 1) (a.l.pitch * a.l.m) (omega arith) in
+    let y = row_fits l.loop-p._p (a.k + 1) (a.l.n * a.l.m) (omega arith) in
     (omega (arith, e, x), omega (arith, e, y))
 
 -- all rows are there
-ended : (l : At-loop-p) → l.loop-p.p ≡ l.args.k → l.loop-p.part ≡ (let a = l.args in stored a.boxes.now a.l a.k a.at a.own a.w a.size l.requires.0 l.requires.3) l.args.k
-ended l e = l.loop-p.invariant.3 ∙ ap (let a = l.args in stored a.boxes.now a.l a.k a.at a.own a.w a.size l.requires.0 l.requires.3) e
-
-pub overflow_add-a : goal.overflow_add-a
-overflow_add-a c = omega (arith, c.requires.3.small)
-
-pub overflow_add-o : goal.overflow_add-o
-overflow_add-o c = omega (arith, c.requires.3.small)
+ended : (l : At-loop-p) → l.loop-p._p ≡ l.args.k → l.loop-p.part ≡ (let a = l.args in stored a.boxes.now a.l a.k a.at a.own a.w a.size l.requires.0 l.requires.3) l.args.k
+ended l e = l.loop-p.invariant.2 ∙ ap (let a = l.args in stored a.boxes.now a.l a.k a.at a.own a.w a.size l.requires.0 l.requires.3) e
 
 pub loop-p-init : goal.loop-p-init
 loop-p-init c =
     let l = c.args.l in
-    (omega arith, omega (arith, zero-mul (l.pitch * l.m)), omega (arith, zero-mul (l.n * l.m)), block_first _ _ _ _ _ _ _ c.requires.0 c.requires.3)
+    (omega (arith, zero-mul (l.pitch * l.m)), omega (arith, zero-mul (l.n * l.m)), block_first _ _ _ _ _ _ _ c.requires.0 c.requires.3)
 
 pub add_row-requires : goal.add_row-requires
 add_row-requires c =
     let a = c.args in (
       c.requires.0,
-      rows-length (goal.at.add_row-requires c).Start c.loop-p.p _ c.loop-p.invariant.3,
+      rows-length (goal.at.add_row-requires c).Start c.loop-p._p _ c.loop-p.invariant.2,
       c.requires.2,
-      subst (λ (x : ℕ). Inside a.boxes.now x c.loop-p.o a.l.m a.k a.size) (sym c.loop-p.invariant.1)
-          (subst (λ (y : ℕ). Inside a.boxes.now (a.l.at + a.at + c.loop-p.p * (a.l.pitch * a.l.m)) y a.l.m a.k a.size) (sym c.loop-p.invariant.2) (c.requires.3.rows c.loop-p.p (omega arith))),
-      subst (λ (x : ℕ). (t : ℕ) → t < a.size → get_or c.loop-p.part t 0 + row_sum a.boxes.now (x + t) a.l.m a.k ≤ 65535) (sym c.loop-p.invariant.1)
-          (subst (λ (xs : List ℕ). (t : ℕ) → t < a.size → get_or xs t 0 + row_sum a.boxes.now (a.l.at + a.at + c.loop-p.p * (a.l.pitch * a.l.m) + t) a.l.m a.k ≤ 65535) (sym c.loop-p.invariant.3)
-          (block_bound _ _ _ _ _ _ _ c.requires.0 c.requires.3 c.loop-p.p (omega arith))),
+      subst (λ (x : ℕ). Inside a.boxes.now x c.loop-p.o a.l.m a.k a.size) (sym c.loop-p.invariant.0)
+          (subst (λ (y : ℕ). Inside a.boxes.now (a.l.at + a.at + c.loop-p._p * (a.l.pitch * a.l.m)) y a.l.m a.k a.size) (sym c.loop-p.invariant.1) (c.requires.3.rows c.loop-p._p (omega arith))),
+      subst (λ (x : ℕ). (t : ℕ) → t < a.size → get_or c.loop-p.part t 0 + row_sum a.boxes.now (x + t) a.l.m a.k ≤ 65535) (sym c.loop-p.invariant.0)
+          (subst (λ (xs : List ℕ). (t : ℕ) → t < a.size → get_or xs t 0 + row_sum a.boxes.now (a.l.at + a.at + c.loop-p._p * (a.l.pitch * a.l.m) + t) a.l.m a.k ≤ 65535) (sym c.loop-p.invariant.2)
+          (block_bound _ _ _ _ _ _ _ c.requires.0 c.requires.3 c.loop-p._p (omega arith))),
     )
 
-pub overflow_mul-a : goal.overflow_mul-a
-overflow_mul-a c = omega (arith, room (goal.at.overflow_mul-a c).At-loop-p (omega arith))
-
 pub overflow_add-a-in-loop-p : goal.overflow_add-a-in-loop-p
-overflow_add-a-in-loop-p c = omega (arith, room (goal.at.overflow_add-a-in-loop-p c).At-loop-p (omega arith), c.loop-p.invariant.1)
-
-pub overflow_mul-o : goal.overflow_mul-o
-overflow_mul-o c = omega (arith, room (goal.at.overflow_mul-o c).At-loop-p (omega arith))
+overflow_add-a-in-loop-p c = omega (arith, room (goal.at.overflow_add-a-in-loop-p c).At-loop-p (omega arith), c.loop-p.invariant.0)
 
 pub overflow_add-o-in-loop-p : goal.overflow_add-o-in-loop-p
-overflow_add-o-in-loop-p c = omega (arith, room (goal.at.overflow_add-o-in-loop-p c).At-loop-p (omega arith), c.loop-p.invariant.2)
-
-pub overflow_add-p : goal.overflow_add-p
-overflow_add-p c = omega arith
-
-pub loop-p-smaller : goal.loop-p-smaller
-loop-p-smaller c = omega arith
+overflow_add-o-in-loop-p c = omega (arith, room (goal.at.overflow_add-o-in-loop-p c).At-loop-p (omega arith), c.loop-p.invariant.1)
 
 pub loop-p-preserved : goal.loop-p-preserved
 loop-p-preserved c =
     let a = c.args in
-    let p = c.loop-p.p in (
-      omega arith,
-      omega (arith, row_next p (a.l.pitch * a.l.m), c.loop-p.invariant.1),
-      omega (arith, row_next p (a.l.n * a.l.m), c.loop-p.invariant.2),
-      block_more _ _ _ _ _ _ _ c.requires.0 c.requires.3 p _ _ _ _ c.loop-p.invariant.1 c.loop-p.invariant.2 c.loop-p.invariant.3 c.add_row.ensures,
+    let p = c.loop-p._p in (
+      omega (arith, row_next p (a.l.pitch * a.l.m), c.loop-p.invariant.0),
+      omega (arith, row_next p (a.l.n * a.l.m), c.loop-p.invariant.1),
+      block_more _ _ _ _ _ _ _ c.requires.0 c.requires.3 p _ _ _ _ c.loop-p.invariant.0 c.loop-p.invariant.1 c.loop-p.invariant.2 c.add_row.ensures,
     )
-
-pub overflow_add-w : goal.overflow_add-w
-overflow_add-w c = let h = c.requires.3.older_room in search rules
-
-pub overflow_add-w-2 : goal.overflow_add-w-2
-overflow_add-w-2 c = let h = c.requires.3.newer_room in search rules
-
-pub offset_bounds-boxes-w : goal.offset_bounds-boxes-w
-offset_bounds-boxes-w c = let h = c.requires.3.newer_room in search rules
 
 pub bounds-boxes-w : goal.bounds-boxes-w
 bounds-boxes-w c = c.requires.3.newer_room

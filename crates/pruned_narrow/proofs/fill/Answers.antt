@@ -10,8 +10,10 @@ use Rattle.boxes.specs.Boxes.{Cut, area, level_at, own_at, level_of, Filled}
 use Rattle.boxes.specs.Distances.{Numbered}
 use Rattle.boxes.specs.declared.Level.{Level}
 use Rattle.boxes.proofs.Rooms.{cut_whole}
-use Rattle.pruned_narrow.specs.Narrow.{Runs, Squared, distance_of, distance_at, number_of}
-use Rattle.pruned_narrow.proofs.Levels.{parts, squared}
+use Rattle.boxes.proofs.Runs.{parts}
+use Rattle.boxes.specs.Runs.{Runs}
+use Rattle.pruned_narrow.specs.Narrow.{Squared, distance_of, distance_at, number_of}
+use Rattle.pruned_narrow.proofs.Levels.{squared}
 use Rattle.pruned_narrow.proofs.Numbers.{number_whole, number_other, whole_large, other_cut, small, numbered}
 use Rattle.pruned_narrow.proofs.fill.Goals as goal
 use Rattle.pruned_narrow.proofs.fill.Goals.{Else-n-eq32, Start}
@@ -43,7 +45,7 @@ module _ (s : Start) where
     ready : Runs l.k × Squared boxes l l.k 0 0 w s.args.span
     ready =
         let p = s.requires in
-        let c = parts n p.0 h m cut in
+        let c = parts n p.0 m cut in
         rw (e, f) (
           c.runs,
           squared n m n (n / m) 0 0 0 0 s.args.span _ (omega arith) h cut (cut_whole n p.0 h) c.whole (omega arith) (omega arith)

@@ -7,9 +7,10 @@ use lib.ListN.{length, get_or}
 use Rattle.base.specs.Lists.{fill_to, fill_ext, length_fill}
 use Rattle.boxes.specs.Boxes.{level_of}
 use Rattle.boxes.specs.declared.Level.{Level}
-use Rattle.boxes.proofs.Rooms.{cut_sixteen}
-use Rattle.pruned_narrow.specs.Narrow.{places, distance_of, distance_at, Runs, Squared}
-use Rattle.pruned_narrow.proofs.Sums.{filled_at, fill_added}
+use Rattle.boxes.proofs.Filled.{filled_at}
+use Rattle.boxes.specs.Runs.{places, Runs}
+use Rattle.pruned_narrow.specs.Narrow.{distance_of, distance_at, Squared}
+use Rattle.pruned_narrow.proofs.Sums.{fill_added}
 use Rattle.pruned_narrow.proofs.Levels.{quarter, quarters_are}
 use Rattle.pruned_narrow.proofs.fill_quarters.Goals as goal
 use Rattle.pruned_narrow.proofs.fill_quarters.Goals.{After-level_of-h, Start}
@@ -81,12 +82,6 @@ module _ (c : After-level_of-h) where
     ap length k.0 ∙ length_fill numbers 0 g size (omega (arith, long)) ∙ start.requires.5,
     λ t ht. rw k.0 (omega (arith, filled_at numbers g size long t ht, k.1 t ht)),
   )
-
-pub level_of-l-requires : goal.level_of-l-requires
-level_of-l-requires c = (omega arith, c.requires.0)
-
-pub level_of-h-requires : goal.level_of-h-requires
-level_of-h-requires c = (omega arith, cut_sixteen 32 (omega arith))
 
 pub add_block-requires : goal.add_block-requires
 add_block-requires c =
