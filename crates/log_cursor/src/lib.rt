@@ -238,12 +238,7 @@ fn step_of(command: Command, at: usize, counted: Phase) -> WalkStep
 {
     match command {
         Command::Head(head) => command_step(command, at, Phase::Body { head, blocks: 0 }),
-        Command::Block {
-            dy: _,
-            dx: _,
-            distortion: _,
-        } => command_step(command, at, counted),
-        Command::Still => command_step(command, at, counted),
+        Command::Block { .. } | Command::Still => command_step(command, at, counted),
         Command::End(_) => command_step(command, at, Phase::Ended),
         Command::Refused { number, place } => refused_step(at, number, place),
     }

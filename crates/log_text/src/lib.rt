@@ -28,8 +28,7 @@ fn put_from(log: &[u8], out: &mut [u8], from: usize, start: Cursor, most: usize)
 {
     let mut cursor = start;
     let mut at = from;
-    let mut calls = most;
-    while calls > 0 {
+    for _call in 0..most {
         let s = log_cursor::step_at(log, cursor);
         let command = s.command;
         let next = s.next;
@@ -38,7 +37,6 @@ fn put_from(log: &[u8], out: &mut [u8], from: usize, start: Cursor, most: usize)
             return at;
         }
         cursor = next;
-        calls -= 1;
     }
     at
 }
@@ -48,17 +46,15 @@ fn still_run(log: &[u8], from: usize, most: usize) -> usize
     requires { (from ≤ length log.now) × (length log.now ≤ longest_log) }
     ensures { (result ≡ still_run log.now from most) × (result ≤ most) × (from + result ≤ length log.now) }
 {
-    let mut n: usize = 0;
-    while n < most {
+    for n in 0..most {
         if from + n >= log.len() {
             return n;
         }
         if log[from + n] != log_command::STILL {
             return n;
         }
-        n += 1;
     }
-    n
+    most
 }
 
 // The lines of n still blocks.
@@ -67,10 +63,8 @@ fn put_stills(out: &mut [u8], from: usize, n: usize) -> usize
     ensures { (Put out.old from (flat_map line_of (replicate n Cmd.Still)) out.new result) × (result ≤ from + 6 * n) }
 {
     let mut at = from;
-    let mut left = n;
-    while left > 0 {
+    for _still in 0..n {
         at = log_line::put_still(out, at);
-        left -= 1;
     }
     at
 }
@@ -85,6 +79,7 @@ fn put_body(log: &[u8], out: &mut [u8], from: usize, first: usize, head: Head) -
     let mut next = first;
     let mut k: usize = 0;
     let mut at = from;
+    // Not a `for` over the blocks: a turn passes a whole run of still blocks.
     while k < all {
         let command = log_cursor::body_command(log, next, head, all, k);
         if log_command::is_refused(command) {

@@ -1,7 +1,8 @@
 -- `put_from`: what is still to be put, put from here on, makes the whole text; a turn puts a line of it.
-use Prim.Native.Nat.{◌<◌}
+use Prim.Native.Nat.{◌+◌, ◌-◌}
 use mathlib.Core.Path.{◌≡◌, sym, ◌∙◌}
 use mathlib.Core.Bool.{true, false}
+use native.Mathlib.Nat.{sub-zero}
 use native.Mathlib.Omega.{arith}
 use mathlib.Core.List.{flat_map}
 use Rattle.put.specs.Put.{rest_first, rest_last}
@@ -10,40 +11,37 @@ use Rattle.log_walks.proofs.Turns.{turn}
 use Rattle.log_line.specs.Line.{line_of}
 use Rattle.log_text.proofs.put_from.Goals as goal
 
-pub loop-calls-init : goal.loop-calls-init
-loop-calls-init c = (omega arith, omega arith, rest_first _ _ _)
+pub loop-call-init : goal.loop-call-init
+loop-call-init c = (omega arith, rw sub-zero (rest_first _ _ _))
 
 pub put_line-at-requires : goal.put_line-at-requires
-put_line-at-requires c = omega (arith, c.loop-calls.invariant.0, c.loop-calls.invariant.1, c.requires)
+put_line-at-requires c = omega (arith, c.loop-call.invariant.0, c.requires)
 
 pub shape_of-out-then-is_refused : goal.shape_of-out-then-is_refused
-shape_of-out-then-is_refused c = c.put_line-at.auto.out ∙ c.loop-calls.invariant.2.long
+shape_of-out-then-is_refused c = c.put_line-at.auto.out ∙ c.loop-call.invariant.1.long
 
 pub returns-then-is_refused : goal.returns-then-is_refused
 unfolding flat_map
 returns-then-is_refused c =
-    let l = c.loop-calls in
+    let l = c.loop-call in
     let s = c.step_at-s in
-    let t : 0 < l.calls = omega arith in
-    let w = c.put_line-at.ensures.0 in
-    rest_last (turn line_of l.calls _ l.cursor s.result true t s.ensures (sym c.if-is_refused.true ∙ c.is_refused.ensures) l.invariant.2 w)
+    let refused = sym c.if-is_refused.true ∙ c.is_refused.ensures in
+    rest_last (turn line_of _ _ l.cursor s.result true (omega arith) s.ensures refused l.invariant.1 c.put_line-at.ensures.0)
 
-pub loop-calls-preserved : goal.loop-calls-preserved
-loop-calls-preserved c =
-    let l = c.loop-calls in
+pub loop-call-preserved : goal.loop-call-preserved
+loop-call-preserved c =
+    let l = c.loop-call in
     let s = c.step_at-s in
-    let t : 0 < l.calls = omega arith in
-    let w = c.put_line-at.ensures in (
-      omega arith,
-      omega (arith, w.1, l.invariant),
-      turn line_of l.calls _ l.cursor s.result false t s.ensures (sym c.if-is_refused.false ∙ c.is_refused.ensures) l.invariant.2 w.0,
-    )
+    let w = c.put_line-at.ensures in
+    let less : c.args.most - l._call - 1 ≡ c.args.most - (l._call + 1) = omega arith in
+    let goes_on = sym c.if-is_refused.false ∙ c.is_refused.ensures in
+    (omega (arith, w.1, l.invariant.0), rw less at (turn line_of _ _ l.cursor s.result false (omega arith) s.ensures goes_on l.invariant.1 w.0))
 
 pub shape_of-out : goal.shape_of-out
-shape_of-out c = c.loop-calls.invariant.2.long
+shape_of-out c = c.loop-call.invariant.1.long
 
 pub returns : goal.returns
 unfolding commands_from flat_map
 returns c =
-    let e : c.loop-calls.calls ≡ 0 = omega arith in
-    rest_last (rw e at c.loop-calls.invariant.2)
+    let none : c.args.most - c.loop-call._call ≡ 0 = omega arith in
+    rest_last (rw none at c.loop-call.invariant.1)

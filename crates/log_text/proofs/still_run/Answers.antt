@@ -1,5 +1,6 @@
 -- `still_run`: as long as the byte there is a still block's, one more is counted.
 use Prim.Native.Nat.{◌+◌}
+use mathlib.Core.Path.{◌≡◌, ◌∙◌}
 use native.Mathlib.Omega.{arith}
 use Rattle.log_text.proofs.Stills.{still_inside, counted_first, counted_more, counted_last}
 use Rattle.log_text.proofs.still_run.Goals as goal
@@ -24,13 +25,11 @@ returns-then-log-from-ne-STILL c =
     let i = c.loop-n.invariant in
     (counted_last i (λ l. c.if-log-from-ne-STILL.true), i.few, i.inside)
 
-pub overflow_add-n : goal.overflow_add-n
-overflow_add-n c = omega (arith, c.loop-n.invariant.inside)
-
 pub loop-n-preserved : goal.loop-n-preserved
 loop-n-preserved c = counted_more c.loop-n.invariant (omega arith) c.if-log-from-ne-STILL.false
 
 pub returns : goal.returns
 returns c =
     let i = c.loop-n.invariant in
-    (counted_last i (λ l. absurd (omega arith)), i.few, i.inside)
+    let all : c.args.most ≡ c.loop-n.n = omega arith in
+    (all ∙ counted_last i (λ l. absurd (omega arith)), omega arith, omega (arith, i.inside))

@@ -1,11 +1,6 @@
 -- `still_run`: as long as the byte there is a still block's, one more is counted.
-use Prim.Native.Nat.{◌-◌}
-use lib.ListN.{length}
 use Rattle.log_text.proofs.Stills.{Counted}
 use Rattle.log_text.proofs.still_run.Given as goal
 
 abbrev pub invariant-loop-n : goal.invariant-loop-n
 invariant-loop-n l = Counted l.log l.from l.most l.n
-
-abbrev pub decreases-loop-n : goal.decreases-loop-n
-decreases-loop-n l = length l.log - l.n
