@@ -18,11 +18,9 @@ fn run_at(boxes: &[u16], measure: u32, m: usize, a: usize, o: usize, k: usize) -
     ensures { (result ≡ box_run measure boxes.now m a o k) × (result ≤ 4294836225 * k) }
 {
     let mut sum: u64 = 0;
-    let mut q: usize = 0;
-    while q < k {
+    for q in 0..k {
         let step = q * m;
         sum += measures::sum_difference(measure, boxes[o + step] as u32, boxes[a + step] as u32);
-        q += 1;
     }
     sum
 }
@@ -50,11 +48,9 @@ fn rows_at(boxes: &[u16], measure: u32, l: Level, t: usize) -> u64
     let a = l.at + t;
     let o = l.own;
     let mut sum: u64 = 0;
-    let mut p: usize = 0;
-    while p < k {
+    for p in 0..k {
         let down = p * m;
         sum += row_at(boxes, measure, m, a + pitch * down, o + n * down, k);
-        p += 1;
     }
     sum
 }
@@ -110,11 +106,9 @@ pub fn fill(
 {
     let l = boxes::level_of(n, side_of(m));
     let pitch = n + 32;
-    let mut i: usize = 0;
-    while i < count {
+    for i in 0..count {
         let key = keys[i];
         let t = place_of(pruned_list::spot_of(key), pitch, r);
         keys[i] = pruned_list::renewed(key, distance_at(boxes, measure, m, l, t));
-        i += 1;
     }
 }

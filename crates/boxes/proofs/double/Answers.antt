@@ -59,9 +59,3 @@ loop-t-preserved c =
       ) more,
       simp length-set (search rules),
     )
-
-pub returns : goal.returns
-returns c =
-    let l = c.loop-t in
-    let e : l.t ≡ c.args.size = omega arith in
-    rw e at l.invariant.0

@@ -78,9 +78,6 @@ fill_from_pels-requires c =
           (first_small c.args.older.now c.args.newer.now c.args.b (c.requires.0) (bytes c).0 (bytes c).1 _ c.requires.2 c.requires.3 u h),
     )
 
-pub shape_of-boxes : goal.shape_of-boxes
-shape_of-boxes c = c.fill_from_pels.auto.boxes ∙ c.copy_block.auto.boxes ∙ c.copy_window.auto.copy
-
 pub returns : goal.returns
 returns c =
     let n = c.args.b.setting.n in

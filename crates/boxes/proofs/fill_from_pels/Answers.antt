@@ -29,17 +29,11 @@ overflow_mul-window c = omega (arith, square_small (c.args.n + 32) 64 (omega (ar
 pub loop-m-init : goal.loop-m-init
 loop-m-init c = walk_first _ _ _ (omega (arith, (block_size c.args.n c.requires.0).least))
 
-pub overflow_mul-rest : goal.overflow_mul-rest
-overflow_mul-rest c = omega (arith, turn (goal.at.overflow_mul-rest c).At-loop-m (omega arith) (λ e. omega arith), c.area-next.ensures)
-
 pub overflow_sub-rest : goal.overflow_sub-rest
 overflow_sub-rest c = omega (arith, turn (goal.at.overflow_sub-rest c).At-loop-m (omega arith) (λ e. omega arith), c.area-next.ensures)
 
 pub overflow_mul-pitch : goal.overflow_mul-pitch
 overflow_mul-pitch c = omega (arith, turn (goal.at.overflow_mul-pitch c).At-loop-m (omega arith) (λ e. omega arith), c.area-next.ensures)
-
-pub overflow_add-from : goal.overflow_add-from
-overflow_add-from c = omega (arith, turn (goal.at.overflow_add-from c).At-loop-m (omega arith) (λ e. omega arith), c.area-next.ensures)
 
 pub overflow_add-pitch-in-loop-m : goal.overflow_add-pitch-in-loop-m
 overflow_add-pitch-in-loop-m c = omega (arith, turn (goal.at.overflow_add-pitch-in-loop-m c).At-loop-m (omega arith) (λ e. omega arith), c.area-next.ensures)
@@ -97,15 +91,6 @@ double-requires-in-loop-m c =
           (one_small _ _ _ p.0 p.1 p.2 p.3 _ _ _ c.loop-m.invariant (omega arith) (λ e. omega arith) u h i);
     }
 
-pub overflow_add-from-in-loop-m-4 : goal.overflow_add-from-in-loop-m-4
-overflow_add-from-in-loop-m-4 c = omega (arith, turn (goal.at.overflow_add-from-in-loop-m-4 c).At-loop-m (omega arith) (λ e. omega arith), c.area-next.ensures)
-
-pub overflow_mul-m : goal.overflow_mul-m
-overflow_mul-m c = omega (arith, turn (goal.at.overflow_mul-m c).At-loop-m (omega arith) (λ e. omega arith), c.area-next.ensures)
-
-pub loop-m-smaller : goal.loop-m-smaller
-loop-m-smaller c = omega (arith, turn (goal.at.loop-m-smaller c).At-loop-m (omega arith) (λ e. omega arith), c.area-next.ensures)
-
 pub loop-m-preserved : goal.loop-m-preserved
 loop-m-preserved c =
     let p = c.requires in
@@ -113,9 +98,6 @@ loop-m-preserved c =
     let one = rw a at c.double.ensures in
     let two = rw (a, one) at c.double-in-loop-m.ensures in
     rw (a, two) (walk_more _ _ _ p.0 p.1 p.2 p.3 _ _ _ c.loop-m.invariant (omega arith) (λ e. omega arith))
-
-pub shape_of-boxes : goal.shape_of-boxes
-shape_of-boxes c = c.loop-m.invariant.long
 
 pub returns : goal.returns
 returns c = let w = c.loop-m.invariant in (walk_last _ _ _ _ _ _ w (omega arith), w.kept)

@@ -2,7 +2,7 @@
 use Prim.Native.Nat.{◌+◌, ◌*◌, ◌≤◌}
 use native.Mathlib.Omega.{arith}
 use native.Mathlib.Nat.{mul-le-mul}
-use Rattle.boxes.proofs.Rooms.{log2_power, cut_some, square_small, area_small}
+use Rattle.boxes.proofs.Rooms.{log2_power, square_small, area_small}
 use Rattle.boxes.proofs.level_of.Goals as goal
 use Rattle.boxes.proofs.level_of.Goals.{After-area}
 
@@ -18,14 +18,5 @@ level-small c =
 pub overflow_mul-at : goal.overflow_mul-at
 overflow_mul-at c = omega (arith, level-small c)
 
-pub nonzero_div-result : goal.nonzero_div-result
-nonzero_div-result c = cut_some c.args.n c.args.m c.requires.1
-
-pub overflow_mul-result : goal.overflow_mul-result
-overflow_mul-result c = omega (arith, square_small (c.args.n + 32) 64 (omega arith))
-
 pub overflow_add-result : goal.overflow_add-result
 overflow_add-result c = omega (arith, level-small c, square_small (c.args.n + 32) 64 (omega arith))
-
-pub returns : goal.returns
-returns c = rw (c.log2_window.ensures, c.area.ensures)

@@ -28,12 +28,12 @@ next-kept d g i h =
 -- the key of a turn is as it was
 key-is : (l : At-loop-i) → l.loop-i.i < l.args.count → get_or l.loop-i.keys l.loop-i.i 0 ≡ get_or l.args.keys.now l.loop-i.i 0
 key-is l h =
-    ap (λ (k : List ℕ). get_or k l.loop-i.i 0) l.loop-i.invariant.1 ∙ next-kept l.args.keys.now _ l.loop-i.i (omega arith)
+    ap (λ (k : List ℕ). get_or k l.loop-i.i 0) l.loop-i.invariant.0 ∙ next-kept l.args.keys.now _ l.loop-i.i (omega arith)
 
 -- its candidate is in reach
 near-is : (l : At-loop-i) → l.loop-i.i < l.args.count → let k = spot_of (get_or l.loop-i.keys l.loop-i.i 0) in
     InReach l.args.r (k / 64) (k % 64)
-near-is l h = rw ((let key-is : l.loop-i.i < l.args.count → get_or l.loop-i.keys l.loop-i.i 0 ≡ get_or l.args.keys.now l.loop-i.i 0 = λ h. ap (λ (k : List ℕ). get_or k l.loop-i.i 0) l.loop-i.invariant.1 ∙ next-kept l.args.keys.now _ l.loop-i.i (omega arith) in key-is) h) (l.requires.reached l.loop-i.i h)
+near-is l h = rw (key-is l h) (l.requires.reached l.loop-i.i h)
 
 -- what a turn stores
 turn : (c : After-renewed) → let a = c.args in
@@ -41,13 +41,14 @@ turn : (c : After-renewed) → let a = c.args in
     c.renewed.result ≡ renewed k (looked_up a.measure a.boxes.now a.n a.m a.r (spot_of k))
 turn c =
     let a = c.args in
-    let key = (let key-is : c.loop-i.i < c.args.count → get_or c.loop-i.keys c.loop-i.i 0 ≡ get_or c.args.keys.now c.loop-i.i 0 = λ h. ap (λ (k : List ℕ). get_or k c.loop-i.i 0) c.loop-i.invariant.1 ∙ next-kept c.args.keys.now _ c.loop-i.i (omega arith) in key-is) c.loop-i-test.true in
+    let l = (goal.at.loop-i-preserved c).At-loop-i in
+    let key = key-is l c.loop-i-test.true in
     let spot : c.spot_of.result ≡ spot_of (get_or a.keys.now c.loop-i.i 0) =
     c.spot_of.ensures ∙ ap (λ (k : ℕ). spot_of k) key in
     let place = c.place_of-t.ensures.0 ∙ ap (place_on (a.n + 32) a.r) spot in
     let distance =
     c.distance_at.ensures.0
-    ∙ ap₂ (box_distance a.measure a.boxes.now a.m) (let level-is : let a = c.args in c.level_of-l.result ≡ level_of a.n (side_of a.m) = c.level_of-l.ensures ∙ ap (level_of c.args.n) c.side_of.ensures in level-is) place in
+    ∙ ap₂ (box_distance a.measure a.boxes.now a.m) (level-is l) place in
     c.renewed.ensures ∙ ap₂ (λ (k d : ℕ). renewed k d) key distance
 
 pub level_of-l-requires : goal.level_of-l-requires
@@ -57,7 +58,7 @@ pub overflow_add-pitch : goal.overflow_add-pitch
 overflow_add-pitch c = omega (arith, c.requires.near.0.small)
 
 pub loop-i-init : goal.loop-i-init
-loop-i-init c = (search rules, fill_none _ _ _, refl)
+loop-i-init c = (fill_none _ _ _, refl)
 
 pub place_of-t-requires : goal.place_of-t-requires
 place_of-t-requires c =
@@ -76,8 +77,7 @@ pub loop-i-preserved : goal.loop-i-preserved
 loop-i-preserved c =
     let l = c.loop-i in
     let a = c.args in (
-      search rules,
-      ap₂ (λ (k : List ℕ) (v : ℕ). set k l.i v) l.invariant.1 (turn c)
+      ap₂ (λ (k : List ℕ) (v : ℕ). set k l.i v) l.invariant.0 (turn c)
           ∙ fill_front a.keys.now _ l.i (omega arith),
       simp length-set (search rules),
     )
@@ -87,5 +87,5 @@ returns c =
     let l = c.loop-i in
     let e : l.i ≡ c.args.count = omega arith in
     let a = c.args in
-    let h = rw e at l.invariant.1 in
+    let h = rw e at l.invariant.0 in
     (h, distanced a.measure a.boxes.now a.n a.m 0 a.r a.keys.now a.count l.keys c.requires.near.0 c.requires.reached h)

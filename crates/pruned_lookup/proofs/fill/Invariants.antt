@@ -1,5 +1,4 @@
 -- `fill`: after i turns the first i keys have their distances.
-use Prim.Native.Nat.{◌-◌, ◌≤◌}
 use mathlib.Core.Path.{◌≡◌}
 use lib.ListN.{length, get_or}
 use Rattle.base.specs.Lists.{fill_to}
@@ -9,8 +8,5 @@ use Rattle.pruned_lookup.proofs.fill.Given as goal
 
 abbrev pub invariant-loop-i : goal.invariant-loop-i
 invariant-loop-i l =
-    (l.i ≤ l.count) × (l.keys ≡ fill_to l.initial.keys 0 (λ j. renewed (get_or l.initial.keys j 0) (looked_up l.measure l.boxes l.n l.m l.r (spot_of (get_or l.initial.keys j 0)))) l.i)
+    (l.keys ≡ fill_to l.initial.keys 0 (λ j. renewed (get_or l.initial.keys j 0) (looked_up l.measure l.boxes l.n l.m l.r (spot_of (get_or l.initial.keys j 0)))) l.i)
     × (length l.keys ≡ length l.initial.keys)
-
-abbrev pub decreases-loop-i : goal.decreases-loop-i
-decreases-loop-i l = l.count - l.i

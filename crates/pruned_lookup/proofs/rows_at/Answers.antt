@@ -25,7 +25,7 @@ pub overflow_add-a : goal.overflow_add-a
 overflow_add-a c = omega (arith, c.requires.start)
 
 pub loop-p-init : goal.loop-p-init
-loop-p-init c = (search rules, search rules, sym (sum_to_none _))
+loop-p-init c = (search rules, sym (sum_to_none _))
 
 pub overflow_mul-down : goal.overflow_mul-down
 overflow_mul-down c =
@@ -56,10 +56,10 @@ overflow_add-sum c = omega (arith, row_low c, c.requires.few)
 pub loop-p-preserved : goal.loop-p-preserved
 loop-p-preserved c =
     let l = c.loop-p in
-    (search rules, omega (arith, row_low c), rw (sum_to_more _ l.p, l.invariant.2, c.row_at-sum.ensures.0))
+    (omega (arith, row_low c), rw (sum_to_more _ l.p, l.invariant.1, c.row_at-sum.ensures.0))
 
 pub returns : goal.returns
 returns c =
     let l = c.loop-p in
     let e : l.p ≡ c.args.l.k = omega arith in
-    (rw e at l.invariant.2, rw e at l.invariant.1)
+    (rw e at l.invariant.1, rw e at l.invariant.0)

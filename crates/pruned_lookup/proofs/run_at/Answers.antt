@@ -28,7 +28,7 @@ turn c =
     (e, omega (arith, e, h))
 
 pub loop-q-init : goal.loop-q-init
-loop-q-init c = (search rules, search rules, sym (sum_to_none _))
+loop-q-init c = (search rules, sym (sum_to_none _))
 
 pub overflow_mul-step : goal.overflow_mul-step
 overflow_mul-step c = omega (arith, here c)
@@ -71,10 +71,10 @@ pub loop-q-preserved : goal.loop-q-preserved
 loop-q-preserved c =
     let l = c.loop-q in
     let g = turn c in
-    (search rules, omega (arith, g.1), rw (sum_to_more _ l.q, l.invariant.2, g.0))
+    (omega (arith, g.1), rw (sum_to_more _ l.q, l.invariant.1, g.0))
 
 pub returns : goal.returns
 returns c =
     let l = c.loop-q in
     let e : l.q ≡ c.args.k = omega arith in
-    (rw e at l.invariant.2, rw e at l.invariant.1)
+    (rw e at l.invariant.1, rw e at l.invariant.0)
