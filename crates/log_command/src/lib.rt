@@ -147,7 +147,7 @@ pub fn two(log: &[u8], i: usize) -> usize
     requires { i + 1 < length log.now }
     ensures { (result ≡ be2 log.now i) × (result < 65536) }
 {
-    (signed::wide_u8(log[i]) * 256 + signed::wide_u8(log[i + 1])) as usize
+    (u32::from(log[i]) * 256 + u32::from(log[i + 1])) as usize
 }
 
 // Four bytes, highest first.
@@ -164,7 +164,7 @@ fn measure_in(log: &[u8], at: usize) -> u32
     ensures { result ≡ measure_in log.now at }
 {
     if log[at] == MEASURED_HEAD {
-        return signed::wide_u8(log[at + 8]);
+        return u32::from(log[at + 8]);
     }
     measures::ABSOLUTE
 }
@@ -177,9 +177,9 @@ pub fn head_in(log: &[u8], at: usize) -> Head
     Head {
         width: two(log, at + 1),
         height: two(log, at + 3),
-        n: signed::wide_u8(log[at + 5]) as usize,
-        w: signed::wide_u8(log[at + 6]) as usize,
-        search: signed::wide_u8(log[at + 7]),
+        n: u32::from(log[at + 5]) as usize,
+        w: u32::from(log[at + 6]) as usize,
+        search: u32::from(log[at + 7]),
         measure: measure_in(log, at),
     }
 }

@@ -52,7 +52,7 @@ fn taken(passes: bool, command: Command, refusal: u32, log: &[u8], at: usize) ->
     if !passes {
         return refused(refusal, at);
     }
-    if signed::wide_u8(log[at]) != log_command::command_number(command) {
+    if u32::from(log[at]) != log_command::command_number(command) {
         return refused(refusal, at); // command 5 with 65,535 or less, command 6 with measure 1
     }
     command

@@ -118,18 +118,18 @@ pub fn entry_ok(h: Head, k: usize, dy: i32, dx: i32, distortion: i32) -> bool
     if distortion < 0 {
         return false;
     }
-    block_ok(h, k, dy, dx, signed::magnitude(distortion) as usize)
+    block_ok(h, k, dy, dx, distortion.unsigned_abs() as usize)
 }
 
 // (0,0) with distortion 0.
 pub fn is_still(dy: i32, dx: i32, distortion: i32) -> bool
     ensures { result ≡ is_still dy dx distortion }
 {
-    if signed::magnitude(dy) != 0 {
+    if dy != 0 {
         return false;
     }
-    if signed::magnitude(dx) != 0 {
+    if dx != 0 {
         return false;
     }
-    signed::magnitude(distortion) == 0
+    distortion == 0
 }

@@ -37,7 +37,7 @@ fn put_signed(out: &mut [u8], at: usize, z: i32, after: u8) -> usize
     requires { at ≤ 1000000900 }
     ensures { (Put out.old at (number_text z after) out.new result) × (result ≤ at + 22) }
 {
-    let n = signed::magnitude(z) as usize;
+    let n = z.unsigned_abs() as usize;
     if z < 0 {
         let k = put::put_byte(out, at, b'-');
         return put_field(out, k, n, after);

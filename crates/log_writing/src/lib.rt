@@ -54,7 +54,7 @@ fn block_size(list: &[i32], k: usize) -> usize
     requires entry { Entry (value_of list.now k 0) (value_of list.now k 1) (value_of list.now k 2) }
     ensures { (result ≡ length (block_bytes list.now k)) × (result ≤ 7) }
 {
-    let distortion = signed::magnitude(log_list::value(list, k, 2));
+    let distortion = log_list::value(list, k, 2).unsigned_abs();
     let size = log_command::size_by(log_command::block_number(distortion));
     if still_at(list, k) {
         return log_command::STILL_SIZE;
@@ -134,7 +134,7 @@ fn put_numbers(out: &mut [u8], at: usize, dy: i32, dx: i32, distortion: i32) -> 
     requires { (at < 100000000000) × Entry dy dx distortion }
     ensures { Put out.old at (numbers_bytes dy dx distortion) out.new result }
 {
-    let sum = signed::magnitude(distortion);
+    let sum = distortion.unsigned_abs();
     let a = put::put_byte(out, at, log_command::block_number(sum));
     let b = put::put_byte(out, a, signed::to_byte(dy));
     let c = put::put_byte(out, b, signed::to_byte(dx));

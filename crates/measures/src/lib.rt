@@ -30,13 +30,6 @@ pub fn most(measure: u32) -> u32
     65025
 }
 
-// |a - b| of two pels, as a byte: the compiler has its best code for a square of that.
-fn byte_difference(a: u8, b: u8) -> u8
-    ensures { result ≡ abs_diff a b }
-{
-    if a < b { b - a } else { a - b }
-}
-
 // How two pels differ.
 pub fn pel_difference(measure: u32, a: u8, b: u8) -> u32
     ensures { (result ≡ (measure_of measure).diff a b) × (result ≤ (measure_of measure).most) }
@@ -44,7 +37,7 @@ pub fn pel_difference(measure: u32, a: u8, b: u8) -> u32
     if measure == ABSOLUTE {
         return signed::abs_diff(a, b);
     }
-    let d = signed::wide_u8(byte_difference(a, b));
+    let d = u32::from(a.abs_diff(b)); // as a byte: the compiler has its best code for a square of that
     d * d
 }
 

@@ -147,16 +147,6 @@ module _ (c : ℕ) (d : ℤ) (h : c ≤ 32) where
       (sym (ne_eqb (up (unbias 16 y) + dn (unbias 16 c +ℤ d)) (up (unbias 16 c +ℤ d) + dn (unbias 16 y))
       (λ q. omega (arith, moved_out e, at_bias y l, parts (unbias 16 y), parts (unbias 16 c +ℤ d)))))
 
--- ---- p times an offset
-
-pub scaled_up : (p : ℕ) (d : ℤ) → dn d ≡ 0 → pos p *ℤ d ≡ pos (p * nat_abs d)
-scaled_up p (pos n) h = pos-*ℤ-pos p n
-scaled_up p (negsuc n) h = absurd (omega arith)
-
-pub scaled_down : (p : ℕ) (d : ℤ) → 0 < dn d → pos p *ℤ d ≡ neg_ℤ (pos (p * nat_abs d))
-scaled_down p (pos n) h = absurd (omega arith)
-scaled_down p (negsuc n) h = pos-*ℤ-negsuc p n
-
 -- ---- a table's pairs, one at a time
 
 pairs_more : (l : List (List ℤ)) (i : ℕ) → i < length l → pairs (drop i l) ≡ offset (get_or l i []) ∷ pairs (drop (i + 1) l)

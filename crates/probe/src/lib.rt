@@ -166,11 +166,7 @@ fn scaled(p: u32, d: i32) -> i32
     requires { (p ≤ 16) × (nat_abs d ≤ 16) }
     ensures { result ≡ pos p *ℤ d }
 {
-    let m = p * signed::magnitude(d);
-    if d < 0 {
-        return signed::negated(m as i32);
-    }
-    m as i32
+    p as i32 * d
 }
 
 // A pattern's points around the best by now, at step size p, in the table's order, but for those in the pattern `before` around (oy, ox).

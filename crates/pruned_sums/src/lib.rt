@@ -20,7 +20,7 @@ fn fill_row(frame: &[u8], from: usize, columns: usize, table: &mut [u32], above:
     let mut run: u32 = 0;
     for c in 0..columns {
         table[here + c] = table[above + c] + run;
-        run += signed::wide_u8(frame[from + c]);
+        run += u32::from(frame[from + c]);
     }
     table[here + columns] = table[above + columns] + run;
 }

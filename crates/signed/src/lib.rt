@@ -6,37 +6,12 @@
 ghost use Rattle.std.specs.Prelude.{◌≡◌, ◌≤◌, ◌<◌, leb, nat_abs, neg_ℤ, ◌+ℤ◌, ◌-ℤ◌};
 ghost use Rattle.signed.specs.Values.{abs_diff, shifted_by, moved_by, bias, unbias, doubled, signed_byte, byte_of};
 
-// A byte as a number.
-pub fn wide_u8(b: u8) -> u32
-    ensures { (result ≡ b) × (result < 256) }
-{
-    b as u32
-}
-
-// A number of 16 bits as a place.
-pub fn wide_u16(k: u16) -> usize
-    ensures { result ≡ k }
-{
-    k as usize
-}
-
-// |d|, also of the least i32.
-pub fn magnitude(d: i32) -> u32
-    ensures { result ≡ nat_abs d }
-{
-    if d < 0 {
-        (0 - (d as i64)) as u32
-    } else {
-        d as u32
-    }
-}
-
 // |a - b| of two sums of pels. By a signed difference: the compiler has its best code for that.
 pub fn abs_diff_u32(a: u32, b: u32) -> u32
     requires { (a ≤ 2147483647) × (b ≤ 2147483647) }
     ensures { result ≡ abs_diff a b }
 {
-    magnitude((a as i32) - (b as i32))
+    ((a as i32) - (b as i32)).unsigned_abs()
 }
 
 // |a - b| of two pels.
@@ -50,15 +25,7 @@ pub fn abs_diff(a: u8, b: u8) -> u32
 pub fn within(d: i32, w: usize) -> bool
     ensures { result ≡ leb (nat_abs d) w }
 {
-    magnitude(d) as usize <= w
-}
-
-// -d.
-pub fn negated(d: i32) -> i32
-    requires { nat_abs d ≤ 1000000 }
-    ensures { result ≡ neg_ℤ d }
-{
-    0 - d
+    d.unsigned_abs() as usize <= w
 }
 
 // A sum with one number more and one less.
@@ -73,7 +40,7 @@ pub fn exchanged(sum: i32, more: i32, less: i32) -> i32
 pub fn shift(at: usize, d: i32, last: usize) -> Option<usize>
     ensures { result ≡ shifted_by at d last }
 {
-    let m = magnitude(d) as usize;
+    let m = d.unsigned_abs() as usize;
     if d < 0 {
         if at < m {
             return None;

@@ -118,8 +118,8 @@ impl Track {
                     steps: self.steps + 1,
                     recent: recent::recent_more(
                         travels,
-                        signed::negated(a.dy),
-                        signed::negated(a.dx),
+                        -a.dy,
+                        -a.dx,
                     ),
                 },
             },

@@ -5,4 +5,4 @@ use Rattle.log_command.proofs.head_in.Goals as goal
 pub returns : goal.returns
 unfolding head_in
 returns c =
-    cc (c.two.ensures.0, c.two-2.ensures.0, c.wide_u8.ensures.0, c.wide_u8-2.ensures.0, c.wide_u8-3.ensures.0, c.measure_in.ensures)
+    cc (c.two.ensures.0, c.two-2.ensures.0, c.from.ensures, c.from-2.ensures, c.from-3.ensures, c.measure_in.ensures)

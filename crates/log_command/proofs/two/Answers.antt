@@ -1,11 +1,9 @@
 -- `two`: the definition's sum.
+use Prim.Native.Nat.{◌+◌}
 use native.Mathlib.Omega.{arith}
 use Rattle.log_command.specs.Numbers.{be2}
 use Rattle.log_command.proofs.two.Goals as goal
 
 pub returns : goal.returns
 unfolding be2
-returns c =
-    let e = c.wide_u8.ensures in
-    let f = c.wide_u8-2.ensures in
-    (rw (← e.0, ← f.0), omega (arith, e.1, f.1))
+returns c = (rw (← c.from.ensures, ← c.from-2.ensures), omega (arith, c.from.ensures, c.from-2.ensures, c.type_inv.log c.args.i, c.type_inv.log (c.args.i + 1)))

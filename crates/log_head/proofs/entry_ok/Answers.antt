@@ -34,5 +34,5 @@ pub returns : goal.returns
 returns c =
     let z = c.args.distortion in
     let kept : lt_z z (pos 0) ≡ false = simp (to_z-of_z c.ranges.distortion) at c.if-distortion-lt0.false in
-    let size : c.magnitude.result ≡ nat_abs z = simp (to_z-of_z c.ranges.distortion) at c.magnitude.ensures in
+    let size : c.unsigned_abs.result ≡ nat_abs z = simp (to_z-of_z c.ranges.distortion) at c.unsigned_abs.ensures.value in
     rw (size, as-size z kept, to_z-of_z c.ranges.dy, to_z-of_z c.ranges.dx) at c.block_ok.ensures

@@ -1,41 +1,35 @@
 -- `is_still`: the three tests in order.
-use Prim.Native.Nat.{ℕ}
-use mathlib.Core.Path.{◌≡◌, ap, sym, ◌∙◌}
+use mathlib.Core.Path.{◌≡◌, ap, sym, subst, ◌∙◌}
 use borrow.Author.Tests.{ne_eqb, eq-eqb}
+use lib.Dec.{T, eqb, eqb→eq}
+use lib.IntN.{ℤ, pos, negsuc}
 use mir.Facts.{to_z-of_z}
-use Rattle.log_head.specs.Heads.{is_still, zero_is}
-use lib.Dec.{eqb}
-use lib.IntN.{ℤ, nat_abs, pos}
 use mir.Syntax.{w32}
 use mir.Val.{SFits, to_z, of_z}
+use Rattle.base.specs.Tests.{iff_test}
 use Rattle.signed.specs.Int.{eq_z}
+use Rattle.log_head.specs.Heads.{is_still}
 use Rattle.log_head.proofs.is_still.Goals as goal
 
--- a part whose size is m is 0 where m is
-nought : {z : ℤ} {m : ℕ} → SFits w32 z → m ≡ nat_abs (to_z w32 (of_z w32 z)) → eq_z z (pos 0) ≡ eqb m 0
-nought {z} {m} f e = zero_is z ∙ ap (λ (k : ℕ). eqb k 0) (sym (rw (to_z-of_z f) at e))
+-- a number is 0 where its bits are
+zero : (z : ℤ) → T (eq_z z (pos 0)) → z ≡ pos 0
+zero (pos m) t = ap pos (eqb→eq m 0 t)
+zero (negsuc m) t = absurd t
 
-pub returns-then-magnitude-ne0 : goal.returns-then-magnitude-ne0
-unfolding is_still
-returns-then-magnitude-ne0 c = rw (nought c.ranges.dy c.magnitude.ensures, ne_eqb _ 0 c.if-magnitude-ne0.true)
+nought : {z : ℤ} → SFits w32 z → eq_z z (pos 0) ≡ eqb (of_z w32 z) 0
+nought {z} f =
+    iff_test (eq_z z (pos 0)) (eqb (of_z w32 z) 0) (λ t. subst (λ (x : ℤ). T (eqb (of_z w32 x) 0)) (sym (zero z t)) tt)
+    (λ t. subst (λ (x : ℤ). T (eq_z x (pos 0))) (ap (to_z w32) (sym (eqb→eq (of_z w32 z) 0 t)) ∙ to_z-of_z f) tt)
 
-pub returns-then-magnitude-ne0-2 : goal.returns-then-magnitude-ne0-2
+pub returns-then-dy-ne0 : goal.returns-then-dy-ne0
 unfolding is_still
-returns-then-magnitude-ne0-2 c =
-    rw (
-      nought c.ranges.dy c.magnitude.ensures,
-      eq-eqb _ 0 c.if-magnitude-ne0.false,
-      nought c.ranges.dx c.magnitude-2.ensures,
-      ne_eqb _ 0 c.if-magnitude-ne0-2.true,
-    )
+returns-then-dy-ne0 c = rw (nought c.ranges.dy, ne_eqb _ 0 c.if-dy-ne0.true)
+
+pub returns-then-dx-ne0 : goal.returns-then-dx-ne0
+unfolding is_still
+returns-then-dx-ne0 c = rw (nought c.ranges.dy, eq-eqb _ 0 c.if-dy-ne0.false, nought c.ranges.dx, ne_eqb _ 0 c.if-dx-ne0.true)
 
 pub returns : goal.returns
 unfolding is_still
 returns c =
-    rw (
-      nought c.ranges.dy c.magnitude.ensures,
-      eq-eqb _ 0 c.if-magnitude-ne0.false,
-      nought c.ranges.dx c.magnitude-2.ensures,
-      eq-eqb _ 0 c.if-magnitude-ne0-2.false,
-      nought c.ranges.distortion c.magnitude-3.ensures,
-    )
+    rw (nought c.ranges.dy, eq-eqb _ 0 c.if-dy-ne0.false, nought c.ranges.dx, eq-eqb _ 0 c.if-dx-ne0.false, nought c.ranges.distortion)

@@ -16,7 +16,7 @@ returns-then-z-lt0 c =
     let z = c.args.z in
     let below : lt_z z (pos 0) ≡ true = simp (to_z-of_z c.ranges.z) at c.if-z-lt0.true in
     let h : 0 < dn z = omega (arith, ints, parts z) in
-    let e : c.magnitude-n.result ≡ nat_abs z = simp (to_z-of_z c.ranges.z) at c.magnitude-n.ensures in
+    let e : c.unsigned_abs-n.result ≡ nat_abs z = simp (to_z-of_z c.ranges.z) at c.unsigned_abs-n.ensures.value in
     let sign = c.put_byte-k.ensures in
     (rw (number_below z c.args.after h) (put_then sign (rw (sym e) c.put_field.ensures.0)), omega (arith, sign.place))
 
@@ -25,5 +25,5 @@ returns c =
     let z = c.args.z in
     let kept : lt_z z (pos 0) ≡ false = simp (to_z-of_z c.ranges.z) at c.if-z-lt0.false in
     let h : dn z ≡ 0 = omega (arith, ints, parts z) in
-    let e : c.magnitude-n.result ≡ nat_abs z = simp (to_z-of_z c.ranges.z) at c.magnitude-n.ensures in
+    let e : c.unsigned_abs-n.result ≡ nat_abs z = simp (to_z-of_z c.ranges.z) at c.unsigned_abs-n.ensures.value in
     (rw (number_kept z c.args.after h, sym e) c.put_field-2.ensures.0, omega arith)

@@ -6,9 +6,9 @@ use Rattle.measures.specs.Measures.{measure_absolute, measure_squares}
 use Rattle.measures.proofs.pel_difference.Goals as goal
 
 -- the square of a byte
-fits : (c : goal.After-wide_u8-d) → c.wide_u8-d.result * c.wide_u8-d.result ≤ 65025
+fits : (c : goal.After-from-d) → c.from-d.result * c.from-d.result ≤ 65025
 fits c =
-    let h : c.wide_u8-d.result ≤ 255 = omega (arith, c.wide_u8-d.ensures) in
+    let h : c.from-d.result ≤ 255 = omega (arith, c.from-d.ensures) in
     mul-le-mul h h
 
 pub returns-then-measure-eq-ABSOLUTE : goal.returns-then-measure-eq-ABSOLUTE
@@ -19,6 +19,6 @@ overflow_mul-result c = omega (arith, fits c)
 
 pub returns : goal.returns
 returns c =
-    let b = c.before.byte_difference.ensures in
-    let w = c.wide_u8-d.ensures.0 in
+    let b = c.before.abs_diff-2.ensures in
+    let w = c.from-d.ensures in
     rw (measure_squares _ c.before.before.if-measure-eq-ABSOLUTE.false) (rw (w, b), omega (arith, fits c))

@@ -15,7 +15,7 @@ overflow_add-table-in-loop-c c =
 pub loop-c-preserved : goal.loop-c-preserved
 loop-c-preserved c =
     let a = c.args in
-    row-more _ _ _ _ _ _ (omega arith) (omega arith) _ _ _ c.loop-c.invariant c.wide_u8-run.result c.wide_u8-run.ensures.0
+    row-more _ _ _ _ _ _ (omega arith) (omega arith) _ _ _ c.loop-c.invariant c.from-run.result c.from-run.ensures
     (omega (arith, c.type_inv.frame (a.from + c.loop-c.c))) (omega arith)
 
 pub overflow_add-table-3 : goal.overflow_add-table-3

@@ -17,6 +17,6 @@ overflow_sub-a c =
 pub returns : goal.returns
 returns c =
     let s = c.before in
-    c.magnitude.ensures
+    c.unsigned_abs.ensures.value
     ∙ ap nat_abs (to_z-of_z (overflow_sub-a s))
     ∙ rw (to_z_pos w32 s.args.a (omega (arith, s.requires)), to_z_pos w32 s.args.b (omega (arith, s.requires))) (abs_diff_is s.args.a s.args.b)
