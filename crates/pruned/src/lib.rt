@@ -83,11 +83,7 @@ fn fill_counts(before: [u32; frame::COUNTS], from: usize, count: usize) -> [u32;
     ensures { result ≡ take from before ++ replicate (count_number - from) count }
 {
     let mut counts = before;
-    let mut slot = from;
-    while slot < frame::COUNTS {
-        counts[slot] = count as u32;
-        slot += 1;
-    }
+    counts[from..].fill(count as u32);
     counts
 }
 
@@ -109,7 +105,7 @@ fn fill_numbers(
     s: Setting,
     m: usize,
     span: usize,
-    numbers: &mut [u32; pruned_narrow::PLACES],
+    numbers: &mut [u32; boxes::PLACES],
 )
     requires { T (block_size_ok s.n) × Resolution s.n m × T (fits s m) × (span ≤ (s.n + 32) * 32 + 33) × (0 < span)
         × (5 * area s.n ≤ length boxes.now) × Filled s.n span boxes.now × (length numbers.old ≡ 2088) }
@@ -201,7 +197,7 @@ fn all_level(
     boxes: &[u16],
     m: usize,
     keys: &mut [u64],
-    numbers: &mut [u32; pruned_narrow::PLACES],
+    numbers: &mut [u32; boxes::PLACES],
     e: u32,
 ) -> Remaining
     requires { Search older.now newer.now b r boxes.now m × T (fits b.setting m) × (few < length keys.old) × (length numbers.old ≡ 2088) }
@@ -298,7 +294,7 @@ fn level(
     boxes: &[u16],
     m: usize,
     keys: &mut [u64],
-    numbers: &mut [u32; pruned_narrow::PLACES],
+    numbers: &mut [u32; boxes::PLACES],
     q: Remaining,
 ) -> Remaining
     requires { Search older.now newer.now b r boxes.now m × Facing older.now newer.now b m keys.old q × (few < length keys.old)
@@ -364,7 +360,7 @@ fn tests(
     ensures { result ≡ pruned_search (pair_of older.now newer.now b.setting) b.w b.y b.x }
 {
     let n = b.setting.n;
-    let mut numbers = [0u32; pruned_narrow::PLACES];
+    let mut numbers = [0u32; boxes::PLACES];
     let first = begin(b, r, e, keys);
     let total = first.count;
     let mut counts = [0u32; frame::COUNTS];
@@ -373,6 +369,7 @@ fn tests(
     let mut q = level(older, newer, b, r, boxes, n, keys, &mut numbers, first);
     slot += 1;
     let mut m = next(n, q.count);
+    // m is halved, and 1 as soon as one candidate remains: no range has these m.
     while m >= 2 {
         counts[slot] = q.count as u32;
         q = level(older, newer, b, r, boxes, m, keys, &mut numbers, q);
