@@ -1,8 +1,7 @@
 -- A row of squares by its runs, and the squares of a block.
 --   runs_fours     where k is not 1 and not 2 it is some times 4
---   four_more      a further run of 4 is inside
 --   place          where the squares of a run stand, own_place: and the newer ones; run_inside: a run lies inside the array
---   parts          a block of N is N / m squares a side, that are 1, 2, or some times 4
+--   parts          a block of N is N / m squares a side, that are 1, 2, or some times 4, and not 0
 --   turned_about   p times x rows of m, as so many places
 --   place_in       where a candidate stands; older_index, newer_index: its squares, and those of the block
 use Prim.Native.Nat.{ℕ, zero, suc, ◌+◌, ◌-◌, ◌*◌, ◌/◌, ◌^◌, ◌≤◌, ◌<◌}
@@ -12,7 +11,6 @@ use mathlib.Core.List.{List}
 use native.Mathlib.Nat.{mul_comm, mul_assoc, mul-add, mul-le-mul_left}
 use native.Mathlib.Omega.{arith}
 use lib.Dec.{T}
-use lib.ListN.{length}
 use Rattle.frame.specs.declared.SearchBlock.{SearchBlock}
 use Rattle.refusals.specs.Refusals.{block_size_ok, block_size_elim}
 use Rattle.reach.specs.Reach.{reach, InReach}
@@ -23,9 +21,6 @@ use Rattle.boxes.specs.Runs.{Fours, Runs, Inside}
 
 pub runs_fours : (k : ℕ) → Runs k → (k ≡ 1 → ⊥) → (k ≡ 2 → ⊥) → Fours k
 runs_fours k r one two = ⊎_elim (λ e. absurd (one e)) (λ s. ⊎_elim (λ e. absurd (two e)) (λ f. f) s) r
-
-pub four_more : (q k : ℕ) → Fours q → Fours k → q < k → q + 4 ≤ k
-four_more q k a b h = omega (arith, a.is, b.is)
 
 pub place : (m x t q i : ℕ) → x + m * q + t + m * i ≡ x + t + m * (q + i)
 place m x t q i = omega (arith, mul-add m q i)
@@ -45,41 +40,42 @@ run_inside boxes at own m k size inside q c h = record {
 
 pub record Parts (n m : ℕ) : Type 0 where
   pub runs : Runs (n / m)
+  pub some : 0 < n / m
   pub whole : n / m * m ≡ n
 
 fours : {k : ℕ} (n : ℕ) → k ≡ 4 * n → Runs k
 fours n e = inr (inr (record { fours = n; is = e }))
 
 parts_4 : (e : ℕ) → 2 ^ e ≤ 4 → e ≤ 4 → Parts 4 (2 ^ e)
-parts_4 zero h f = record { runs = fours 1 refl; whole = refl }
-parts_4 (suc zero) h f = record { runs = inr (inl refl); whole = refl }
-parts_4 (suc (suc zero)) h f = record { runs = inl refl; whole = refl }
+parts_4 zero h f = record { runs = fours 1 refl; some = omega arith; whole = refl }
+parts_4 (suc zero) h f = record { runs = inr (inl refl); some = omega arith; whole = refl }
+parts_4 (suc (suc zero)) h f = record { runs = inl refl; some = omega arith; whole = refl }
 parts_4 (suc (suc (suc zero))) h f = absurd (omega arith)
 parts_4 (suc (suc (suc (suc zero)))) h f = absurd (omega arith)
 parts_4 (suc (suc (suc (suc (suc e))))) h f = absurd (omega arith)
 
 parts_8 : (e : ℕ) → 2 ^ e ≤ 8 → e ≤ 4 → Parts 8 (2 ^ e)
-parts_8 zero h f = record { runs = fours 2 refl; whole = refl }
-parts_8 (suc zero) h f = record { runs = fours 1 refl; whole = refl }
-parts_8 (suc (suc zero)) h f = record { runs = inr (inl refl); whole = refl }
-parts_8 (suc (suc (suc zero))) h f = record { runs = inl refl; whole = refl }
+parts_8 zero h f = record { runs = fours 2 refl; some = omega arith; whole = refl }
+parts_8 (suc zero) h f = record { runs = fours 1 refl; some = omega arith; whole = refl }
+parts_8 (suc (suc zero)) h f = record { runs = inr (inl refl); some = omega arith; whole = refl }
+parts_8 (suc (suc (suc zero))) h f = record { runs = inl refl; some = omega arith; whole = refl }
 parts_8 (suc (suc (suc (suc zero)))) h f = absurd (omega arith)
 parts_8 (suc (suc (suc (suc (suc e))))) h f = absurd (omega arith)
 
 pub parts_16 : (e : ℕ) → e ≤ 4 → Parts 16 (2 ^ e)
-parts_16 zero f = record { runs = fours 4 refl; whole = refl }
-parts_16 (suc zero) f = record { runs = fours 2 refl; whole = refl }
-parts_16 (suc (suc zero)) f = record { runs = fours 1 refl; whole = refl }
-parts_16 (suc (suc (suc zero))) f = record { runs = inr (inl refl); whole = refl }
-parts_16 (suc (suc (suc (suc zero)))) f = record { runs = inl refl; whole = refl }
+parts_16 zero f = record { runs = fours 4 refl; some = omega arith; whole = refl }
+parts_16 (suc zero) f = record { runs = fours 2 refl; some = omega arith; whole = refl }
+parts_16 (suc (suc zero)) f = record { runs = fours 1 refl; some = omega arith; whole = refl }
+parts_16 (suc (suc (suc zero))) f = record { runs = inr (inl refl); some = omega arith; whole = refl }
+parts_16 (suc (suc (suc (suc zero)))) f = record { runs = inl refl; some = omega arith; whole = refl }
 parts_16 (suc (suc (suc (suc (suc e))))) f = absurd (omega arith)
 
 parts_32 : (e : ℕ) → e ≤ 4 → Parts 32 (2 ^ e)
-parts_32 zero f = record { runs = fours 8 refl; whole = refl }
-parts_32 (suc zero) f = record { runs = fours 4 refl; whole = refl }
-parts_32 (suc (suc zero)) f = record { runs = fours 2 refl; whole = refl }
-parts_32 (suc (suc (suc zero))) f = record { runs = fours 1 refl; whole = refl }
-parts_32 (suc (suc (suc (suc zero)))) f = record { runs = inr (inl refl); whole = refl }
+parts_32 zero f = record { runs = fours 8 refl; some = omega arith; whole = refl }
+parts_32 (suc zero) f = record { runs = fours 4 refl; some = omega arith; whole = refl }
+parts_32 (suc (suc zero)) f = record { runs = fours 2 refl; some = omega arith; whole = refl }
+parts_32 (suc (suc (suc zero))) f = record { runs = fours 1 refl; some = omega arith; whole = refl }
+parts_32 (suc (suc (suc (suc zero)))) f = record { runs = inr (inl refl); some = omega arith; whole = refl }
 parts_32 (suc (suc (suc (suc (suc e))))) f = absurd (omega arith)
 
 pub parts : (n : ℕ) → T (block_size_ok n) → (m : ℕ) → Cut n m → Parts n m

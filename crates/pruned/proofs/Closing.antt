@@ -4,7 +4,7 @@
 --   full_answer     full search finds the same
 use Prim.Native.Nat.{ℕ, ◌/◌, ◌%◌, ◌≤◌}
 use mathlib.Core.Path.{◌≡◌, ap, ◌∙◌}
-use mathlib.Core.Bool.{true, ◌&&◌}
+use mathlib.Core.Bool.{false, ◌&&◌}
 use mathlib.Core.List.{List}
 use native.Mathlib.Omega.{arith}
 use borrow.Author.Tests.{le-ltb}
@@ -22,16 +22,16 @@ use Rattle.pruned_rule.proofs.Spots.{spots_reach}
 use Rattle.pruned_list.specs.Listed.{spot_of, distance_of, SpotsIn, distortion_to, least_measured}
 use Rattle.pruned_list.proofs.Listed.{chosen_measured}
 use Rattle.pruned.specs.declared.Remaining.{Remaining}
-use Rattle.pruned.specs.Flow.{few, fits, Closing}
-use Rattle.pruned.proofs.Steps.{listed_grid, listed_in, must_list}
+use Rattle.pruned.specs.Flow.{few, fits, by_all, Closing}
+use Rattle.pruned.proofs.Steps.{listed_grid, listed_in}
 
 module _ {older newer : List ℕ} {b : SearchBlock} (ready : Ready older newer b) {keys : List ℕ} {q : Remaining} (c : Closing older newer b keys q)
     (low : q.count ≤ few) where
   abbrev standing : Standing b
   standing = ready_standing older newer b ready
 
-  abbrev listed : q.listed ≡ true
-  listed = must_list b c.m c.ts keys q c.held (ap (λ t. t && fits b.setting c.m) (le-ltb few q.count low))
+  abbrev listed : by_all b.setting c.m q.count ≡ false
+  listed = ap (λ t. t && fits b.setting c.m) (le-ltb few q.count low)
 
   pub closing_room : q.count ≤ length keys
   closing_room = (c.held.listed listed).0

@@ -84,6 +84,14 @@ all_finer s k m count h = go (ltb few count)
     go true u = fits_finer s k m h u
     go false u = u
 
+-- so what is not tested by the distances of all at a resolution is not at the coarser ones
+none_coarser : (s : Setting) (k m count : ℕ) → m ≤ k → by_all s m count ≡ false → by_all s k count ≡ false
+none_coarser s k m count h none = go (by_all s k count) refl
+  where
+    go : (t : Bool) → by_all s k count ≡ t → by_all s k count ≡ false
+    go true e = absurd (subst T none (all_finer s k m count h (subst T (sym e) tt)))
+    go false e = e
+
 -- ---- the counts
 
 pub record Slots (next : ℕ) (tested counts : List ℕ) (slot : ℕ) : Type 0 where
@@ -208,8 +216,7 @@ module _ (older newer : List ℕ) (b : SearchBlock) where
           ts = left_at older newer b g.k q.bound;
           held = record {
             many = g.held.many;
-            listed = g.held.listed;
-            unlisted = λ u. all_finer b.setting g.k next q.count coarser.0 (g.held.unlisted u);
+            listed = λ u. g.held.listed (none_coarser b.setting g.k next q.count coarser.0 u);
           };
           some = open_some g.stands;
           among = going_among;

@@ -3,7 +3,7 @@
 --   all_kept       so those of all candidates that are within the limit are those whose distance is
 --   resolved       a power of two up to N is a resolution of N
 use Prim.Native.Nat.{ℕ, ◌+◌, ◌-◌, ◌*◌, ◌/◌, ◌%◌, ◌^◌, ◌≤◌, ◌<◌, min}
-use mathlib.Core.Path.{◌≡◌, refl, sym, ap, ◌∙◌}
+use mathlib.Core.Path.{◌≡◌, refl, sym, ap, ◌∙◌, subst}
 use mathlib.Core.Logic.{⊎_elim, inl, inr}
 use mathlib.Core.Bool.{Bool, true, false, ◌&&◌, ◌||◌}
 use mathlib.Core.List.Memᴰ
@@ -83,15 +83,14 @@ reach_room b s r e =
 
 -- some spots that are not listed
 pub unlisted_held : (b : SearchBlock) (m : ℕ) (ts keys : List ℕ) (count bound : ℕ) → length ts ≡ count → T (by_all b.setting m count)
-    → Held b m ts keys (record { count = count; bound = bound; listed = false })
-unlisted_held b m ts keys count bound many all =
-    record { many = many; listed = λ e. absurd (true_T false e); unlisted = λ e. all }
+    → Held b m ts keys (record { count = count; bound = bound })
+unlisted_held b m ts keys count bound many all = record { many = many; listed = λ e. absurd (subst T e all) }
 
 -- some spots whose keys stand in front
 pub listed_held : (b : SearchBlock) (m : ℕ) (ts keys : List ℕ) (count bound : ℕ) (cost : Vector → ℕ) → length ts ≡ count → count ≤ length keys
-    → take count keys ≡ keys_of cost ts → Held b m ts keys (record { count = count; bound = bound; listed = true })
+    → take count keys ≡ keys_of cost ts → Held b m ts keys (record { count = count; bound = bound })
 listed_held b m ts keys count bound cost many room front =
-    record { many = many; listed = λ e. (room, (cost, front)); unlisted = λ e. absurd (true_T false (sym e)) }
+    record { many = many; listed = λ e. (room, (cost, front)) }
 
 -- room for the list of all candidates, where they are listed
 pub list_room : (s : Setting) (count room : ℕ) → by_all s s.n count ≡ false → Roomy s room → count ≤ 1089 → count ≤ room
@@ -115,12 +114,12 @@ module _ (b : SearchBlock) (s : Standing b) (m e : ℕ) (numbers : List ℕ) (sm
   left_is = rw (is, limit) (all_kept b s cost numbers small are (limit_of b m e))
 
   pub many_left : few < count → T (fits b.setting m) → (keys : List ℕ)
-      → Held b m left keys (record { count = count; bound = e; listed = false })
+      → Held b m left keys (record { count = count; bound = e })
   many_left h t keys = unlisted_held b m left keys count e (ap length (sym left_is) ∙ sym counted) (many_all b.setting m count h t)
 
   pub few_left : (keys : List ℕ) → count ≤ length keys
       → take count keys ≡ keys_of (λ v. 0) (within numbers (b.setting.n + 32) r most (spots r))
-      → Held b m left keys (record { count = count; bound = e; listed = true })
+      → Held b m left keys (record { count = count; bound = e })
   few_left keys room front =
       listed_held b m left keys count e (λ v. 0) (ap length (sym left_is) ∙ sym counted) room (front ∙ ap (keys_of (λ v. 0)) left_is)
 

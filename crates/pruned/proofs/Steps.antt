@@ -3,7 +3,7 @@
 --   listed_grid   spots that are listed stand in window 16; listed_in: their candidates are in reach
 --   near_at       the distances at m can be looked up
 --   listed-level  the test at m, of those listed
---   must_list     few candidates are listed; all_fits: the others' distances have 32 bits
+--   all_fits      what is tested by the distances of all has them in 32 bits
 --   size_small, side_small, region_small, resolution, span_few, span_some, span_filled, numbered_distances   what the distances of all ask for
 --   all_leveled   the test at m, of all
 use Prim.Native.Nat.{ℕ, ◌+◌, ◌-◌, ◌*◌, ◌≤◌, ◌<◌}
@@ -66,7 +66,7 @@ near_at {b = b} {boxes = boxes} {m = m} s =
     near_first boxes b.setting.n m s.exponent small s.power (power_few s.exponent (omega (arith, s.power, s.inside, small))) s.inside s.room
 
 module _ {older newer : List ℕ} {b : SearchBlock} {r : Region} {boxes : List ℕ} {m : ℕ} (s : Search older newer b r boxes m) {keys : List ℕ} {q : Remaining}
-    (f : Facing older newer b m keys q) (l : q.listed ≡ true) where
+    (f : Facing older newer b m keys q) (l : by_all b.setting m q.count ≡ false) where
   abbrev standing : Standing b
   standing = ready_standing older newer b s.ready
 
@@ -102,7 +102,7 @@ module _ {older newer : List ℕ} {b : SearchBlock} {r : Region} {boxes : List �
 
     pub listed_leveled : (e : ℕ) → e ≡ bound_by older newer b m (vector_on (spot_of (nearest_key mid q.count))) q.bound → (limit : ℕ) → limit ≡ limit_of b m e
         → (after : List ℕ) (count : ℕ) → KeptWithin limit mid q.count after count → length after ≡ length mid
-        → Leveled older newer b m q.bound after (record { count = count; bound = e; listed = true })
+        → Leveled older newer b m q.bound after (record { count = count; bound = e })
     listed_leveled e lowered limit is after count k kept-long =
         let inside : q.count ≤ length mid = omega (arith, long, room) in
         let fitting : count ≤ length after = omega (arith, k.many, parted_few (parted distance_of limit (take q.count mid)), length-take-le q.count mid inside) in
@@ -115,14 +115,6 @@ module _ {older newer : List ℕ} {b : SearchBlock} {r : Region} {boxes : List �
           bound = lowered ∙ bound_is;
           held = listed_held b m (left_at older newer b m e) after count e (dist_of older newer b m) (sym many) fitting front;
         }
-
--- few candidates are listed
-pub must_list : (b : SearchBlock) (m : ℕ) (ts keys : List ℕ) (q : Remaining) → Held b m ts keys q → by_all b.setting m q.count ≡ false → q.listed ≡ true
-must_list b m ts keys q h none = go q.listed refl
-  where
-    go : (t : Bool) → q.listed ≡ t → q.listed ≡ true
-    go true e = e
-    go false e = absurd (subst T none (h.unlisted e))
 
 -- ---- sizes
 

@@ -7,7 +7,7 @@
 --   Distances   an array has a cost of all candidates, at the places where their first boxes stand
 --   fits        distances at m have 32 bits: by absolute differences always, by squares where N × m is at most 256
 --   few         up to so many candidates are listed and looked up one by one; by_all: more are tested by the distances of all, where these fit
---   Held        the candidates of some spots are in memory: how many, and their keys, or else distances at m have 32 bits and there are many
+--   Held        the candidates of some spots are in memory: how many, and their keys, unless they are tested at m by the distances of all
 --   Facing      they are what the test at m may look at: the nearest of them is the nearest of all, and what it keeps of them it keeps of all
 --   Leveled     after the test at m
 --   Search      a block to be searched at m, with its boxes
@@ -91,8 +91,7 @@ blank_answer n total =
 
 pub record Held (b : SearchBlock) (m : ℕ) (ts keys : List ℕ) (q : Remaining) : Type 0 where
   pub many : length ts ≡ q.count
-  pub listed : q.listed ≡ true → (q.count ≤ length keys) × ((cost : Vector → ℕ) × (take q.count keys ≡ keys_of cost ts))
-  pub unlisted : q.listed ≡ false → T (by_all b.setting m q.count)
+  pub listed : by_all b.setting m q.count ≡ false → (q.count ≤ length keys) × ((cost : Vector → ℕ) × (take q.count keys ≡ keys_of cost ts))
 
 pub record Facing (older newer : List ℕ) (b : SearchBlock) (m : ℕ) (keys : List ℕ) (q : Remaining) : Type 0 where
   pub ts : List ℕ

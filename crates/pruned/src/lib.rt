@@ -3,7 +3,7 @@
 
 #![tactic(auto)]
 
-ghost use Rattle.std.specs.Prelude.{◌≡◌, true, ◌++◌, ℕ, ◌+◌, ◌-◌, ◌*◌, ◌≤◌, ◌<◌, min, T, length, get_or, take, replicate};
+ghost use Rattle.std.specs.Prelude.{◌≡◌, false, ◌++◌, ℕ, ◌+◌, ◌-◌, ◌*◌, ◌≤◌, ◌<◌, min, T, length, get_or, take, replicate};
 ghost use Rattle.measures.specs.Measures.{measure_of};
 ghost use Rattle.order.specs.declared.Vector.{Vector};
 ghost use Rattle.frame.specs.Pictures.{pair_of, count_number};
@@ -26,12 +26,11 @@ use search::SearchResult;
 // Up to so many candidates are listed and looked up one by one.
 pub const FEW: usize = 64;
 
-// The search between two resolutions: how many candidates remain, E, and whether the candidates are listed.
+// The search between two resolutions: how many candidates remain, and E. They are listed unless the next test is of all.
 #[derive(Clone, Copy)]
 pub struct Remaining {
     pub count: usize,
     pub bound: u32,
-    pub listed: bool,
 }
 
 // Whether distances at m have 32 bits.
@@ -39,10 +38,7 @@ fn fits(s: Setting, m: usize) -> bool
     requires { (s.n ≤ 32) × (m ≤ 32) }
     ensures { result ≡ fits s m }
 {
-    if s.measure == measures::ABSOLUTE {
-        return true;
-    }
-    s.n * m <= 256
+    s.measure == measures::ABSOLUTE || s.n * m <= 256
 }
 
 // Whether so many candidates are tested at m by the distances of all.
@@ -50,10 +46,7 @@ fn by_all(s: Setting, m: usize, count: usize) -> bool
     requires { (s.n ≤ 32) × (m ≤ 32) }
     ensures { result ≡ by_all s m count }
 {
-    if count > FEW {
-        return fits(s, m);
-    }
-    false
+    count > FEW && fits(s, m)
 }
 
 // How far a distance of 32 bits may go at m for E.
@@ -61,12 +54,7 @@ fn most(s: Setting, m: usize, e: u32) -> u32
     requires { m ≤ 32 }
     ensures { result ≡ min ((measure_of s.measure).limit m e) 4294967295 }
 {
-    let limit = measures::limit(s.measure, m, e);
-    if limit < 4294967295 {
-        limit as u32
-    } else {
-        4294967295
-    }
+    measures::limit(s.measure, m, e).min(4294967295) as u32
 }
 
 // Where the count of the tests at N stands among the six.
@@ -83,11 +71,7 @@ fn fill_counts(before: [u32; frame::COUNTS], from: usize, count: usize) -> [u32;
     ensures { result ≡ take from before ++ replicate (count_number - from) count }
 {
     let mut counts = before;
-    let mut slot = from;
-    while slot < frame::COUNTS {
-        counts[slot] = count as u32;
-        slot += 1;
-    }
+    counts[from..].fill(count as u32);
     counts
 }
 
@@ -109,7 +93,7 @@ fn fill_numbers(
     s: Setting,
     m: usize,
     span: usize,
-    numbers: &mut [u32; pruned_narrow::PLACES],
+    numbers: &mut [u32; boxes::PLACES],
 )
     requires { T (block_size_ok s.n) × Resolution s.n m × T (fits s m) × (span ≤ (s.n + 32) * 32 + 33) × (0 < span)
         × (5 * area s.n ≤ length boxes.now) × Filled s.n span boxes.now × (length numbers.old ≡ 2088) }
@@ -177,19 +161,10 @@ fn within_all(
     let limit = most(s, m, e);
     let mut counts = [0u32; reach::SIDE];
     let count = pruned_sift::within(numbers, pitch, r, least, limit, &mut counts);
-    if count > FEW {
-        return Remaining {
-            count,
-            bound: e,
-            listed: false,
-        };
+    if count <= FEW {
+        pruned_sift::list_within(numbers, pitch, r, &counts, limit, keys);
     }
-    pruned_sift::list_within(numbers, pitch, r, &counts, limit, keys);
-    Remaining {
-        count,
-        bound: e,
-        listed: true,
-    }
+    Remaining { count, bound: e }
 }
 
 // The test at m, where distances have 32 bits.
@@ -201,7 +176,7 @@ fn all_level(
     boxes: &[u16],
     m: usize,
     keys: &mut [u64],
-    numbers: &mut [u32; pruned_narrow::PLACES],
+    numbers: &mut [u32; boxes::PLACES],
     e: u32,
 ) -> Remaining
     requires { Search older.now newer.now b r boxes.now m × T (fits b.setting m) × (few < length keys.old) × (length numbers.old ≡ 2088) }
@@ -249,7 +224,7 @@ fn listed_level(
     keys: &mut [u64],
     q: Remaining,
 ) -> Remaining
-    requires { Search older.now newer.now b r boxes.now m × Facing older.now newer.now b m keys.old q × (q.listed ≡ true) }
+    requires { Search older.now newer.now b r boxes.now m × Facing older.now newer.now b m keys.old q × (by_all b.setting m q.count ≡ false) }
     ensures { Leveled older.now newer.now b m q.bound keys.new result
         × (length keys.new ≡ length keys.old) }
 {
@@ -257,11 +232,7 @@ fn listed_level(
     pruned_lookup::fill(boxes, s.measure, s.n, m, r, keys, q.count);
     let e = bound_of_listed(older, newer, b, &*keys, q.count, m, q.bound);
     let count = pruned_list::keep_within(keys, q.count, measures::limit(s.measure, m, e));
-    Remaining {
-        count,
-        bound: e,
-        listed: true,
-    }
+    Remaining { count, bound: e }
 }
 
 // ---- the search
@@ -274,19 +245,10 @@ fn begin(b: SearchBlock, r: Region, e: u32, keys: &mut [u64]) -> Remaining
 {
     let s = b.setting;
     let count = r.rows * r.columns;
-    if by_all(s, s.n, count) {
-        return Remaining {
-            count,
-            bound: e,
-            listed: false,
-        };
+    if !by_all(s, s.n, count) {
+        pruned_list::list_every(r, keys);
     }
-    pruned_list::list_every(r, keys);
-    Remaining {
-        count,
-        bound: e,
-        listed: true,
-    }
+    Remaining { count, bound: e }
 }
 
 // The test at m: of all candidates where many remain, or else of those listed.
@@ -298,7 +260,7 @@ fn level(
     boxes: &[u16],
     m: usize,
     keys: &mut [u64],
-    numbers: &mut [u32; pruned_narrow::PLACES],
+    numbers: &mut [u32; boxes::PLACES],
     q: Remaining,
 ) -> Remaining
     requires { Search older.now newer.now b r boxes.now m × Facing older.now newer.now b m keys.old q × (few < length keys.old)
@@ -364,7 +326,7 @@ fn tests(
     ensures { result ≡ pruned_search (pair_of older.now newer.now b.setting) b.w b.y b.x }
 {
     let n = b.setting.n;
-    let mut numbers = [0u32; pruned_narrow::PLACES];
+    let mut numbers = [0u32; boxes::PLACES];
     let first = begin(b, r, e, keys);
     let total = first.count;
     let mut counts = [0u32; frame::COUNTS];
@@ -373,6 +335,7 @@ fn tests(
     let mut q = level(older, newer, b, r, boxes, n, keys, &mut numbers, first);
     slot += 1;
     let mut m = next(n, q.count);
+    // m is halved, and 1 as soon as one candidate remains: no range has these m.
     while m >= 2 {
         counts[slot] = q.count as u32;
         q = level(older, newer, b, r, boxes, m, keys, &mut numbers, q);

@@ -11,8 +11,10 @@ use lib.ListN.{length, get_or}
 use Rattle.base.specs.Lists.{fill_to, fill_ext}
 use Rattle.base.specs.Sum.{sum_to, sum_to_none, sum_to_more}
 use Rattle.boxes.specs.declared.Level.{Level}
-use Rattle.pruned_wide.specs.Wide.{row_squares, Inside, Wide}
-use Rattle.pruned_wide.proofs.Sums.{filled_at, fill_again, next_le}
+use Rattle.boxes.proofs.Filled.{filled_at, fill_again}
+use Rattle.boxes.specs.Runs.{Inside}
+use Rattle.pruned_wide.specs.Wide.{row_squares, Wide}
+use Rattle.pruned_wide.proofs.Sums.{next_le}
 
 module _ (boxes : List ℕ) (l : Level) (span : ℕ) where
   abbrev below : ℕ

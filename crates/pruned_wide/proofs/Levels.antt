@@ -1,82 +1,28 @@
 -- The boxes of a block and its search window are what the loops need, and what they compute are its candidates' distances.
---   parts      a block of N is N / m squares a side, that are 1, 2, or some times 4
 --   wide       the squares of all candidates lie in the array, and their sums of squares have 32 bits
 --   numbered   distances in the array are those of the rules
-use Prim.Native.Nat.{ℕ, zero, suc, ◌+◌, ◌-◌, ◌*◌, ◌/◌, ◌^◌, ◌≤◌, ◌<◌}
-use mathlib.Core.Path.{◌≡◌, refl, sym, ap, ap₂, ◌∙◌, subst}
-use mathlib.Core.Logic.{inl, inr}
+use Prim.Native.Nat.{ℕ, ◌+◌, ◌-◌, ◌*◌, ◌/◌, ◌≤◌, ◌<◌}
+use mathlib.Core.Path.{◌≡◌, sym, ap, ap₂, ◌∙◌, subst}
 use mathlib.Core.List.{List}
-use native.Mathlib.Nat.{mul_comm, mul_assoc, mul-add, add-mul, mul-le-mul, mul-le-mul_left}
+use native.Mathlib.Nat.{mul_comm, mul_assoc, add-mul, mul-le-mul, mul-le-mul_left}
 use native.Mathlib.Omega.{arith}
-use lib.Dec.{T}
 use lib.ListN.{length, get_or}
 use Rattle.base.specs.Lists.{fill_to}
 use Rattle.base.specs.Sum.{sum_over_ext, sum_over_bound}
 use Rattle.measures.specs.Measures.{measure_of, diff_most}
 use Rattle.frame.specs.declared.SearchBlock.{SearchBlock}
-use Rattle.refusals.specs.Refusals.{block_size_ok, block_size_elim}
 use Rattle.search.specs.Exhaustive.{grid_vector}
 use Rattle.reach.specs.Reach.{reach, InReach}
 use Rattle.pruned_rule.specs.Distance.{distance_by}
 use Rattle.boxes.specs.Boxes.{Cut, area, level_at, own_at, span_of, window_places, own_places, level_of, Filled, Boxed}
 use Rattle.boxes.specs.Distances.{distance_to, Numbered}
 use Rattle.boxes.proofs.Rooms.{cut_some, square_small, square_inside}
+use Rattle.boxes.proofs.Runs.{turned_about, place_in, older_index, newer_index}
 use Rattle.boxes.proofs.Squares.{window_in_array, own_in_array}
-use Rattle.pruned_wide.specs.Wide.{squared, squares_at, Runs, Wide}
-use Rattle.pruned_wide.proofs.Sums.{filled_at}
+use Rattle.boxes.proofs.Filled.{filled_at}
+use Rattle.pruned_wide.specs.Wide.{squared, squares_at, Wide}
 
 -- ---- squares of a block
-
-pub record Parts (n m : ℕ) : Type 0 where
-  pub runs : Runs (n / m)
-  pub whole : n / m * m ≡ n
-
-fours : (k : ℕ) → 0 < k → Runs (4 * k)
-fours k h = inr (inr (record { fours = k; some = h; is = refl }))
-
-parts_4 : (e : ℕ) → 2 ^ e ≤ 4 → e ≤ 4 → Parts 4 (2 ^ e)
-parts_4 zero h f = record { runs = fours 1 (omega arith); whole = refl }
-parts_4 (suc zero) h f = record { runs = inr (inl refl); whole = refl }
-parts_4 (suc (suc zero)) h f = record { runs = inl refl; whole = refl }
-parts_4 (suc (suc (suc zero))) h f = absurd (omega arith)
-parts_4 (suc (suc (suc (suc zero)))) h f = absurd (omega arith)
-parts_4 (suc (suc (suc (suc (suc e))))) h f = absurd (omega arith)
-
-parts_8 : (e : ℕ) → 2 ^ e ≤ 8 → e ≤ 4 → Parts 8 (2 ^ e)
-parts_8 zero h f = record { runs = fours 2 (omega arith); whole = refl }
-parts_8 (suc zero) h f = record { runs = fours 1 (omega arith); whole = refl }
-parts_8 (suc (suc zero)) h f = record { runs = inr (inl refl); whole = refl }
-parts_8 (suc (suc (suc zero))) h f = record { runs = inl refl; whole = refl }
-parts_8 (suc (suc (suc (suc zero)))) h f = absurd (omega arith)
-parts_8 (suc (suc (suc (suc (suc e))))) h f = absurd (omega arith)
-
-parts_16 : (e : ℕ) → e ≤ 4 → Parts 16 (2 ^ e)
-parts_16 zero f = record { runs = fours 4 (omega arith); whole = refl }
-parts_16 (suc zero) f = record { runs = fours 2 (omega arith); whole = refl }
-parts_16 (suc (suc zero)) f = record { runs = fours 1 (omega arith); whole = refl }
-parts_16 (suc (suc (suc zero))) f = record { runs = inr (inl refl); whole = refl }
-parts_16 (suc (suc (suc (suc zero)))) f = record { runs = inl refl; whole = refl }
-parts_16 (suc (suc (suc (suc (suc e))))) f = absurd (omega arith)
-
-parts_32 : (e : ℕ) → e ≤ 4 → Parts 32 (2 ^ e)
-parts_32 zero f = record { runs = fours 8 (omega arith); whole = refl }
-parts_32 (suc zero) f = record { runs = fours 4 (omega arith); whole = refl }
-parts_32 (suc (suc zero)) f = record { runs = fours 2 (omega arith); whole = refl }
-parts_32 (suc (suc (suc zero))) f = record { runs = fours 1 (omega arith); whole = refl }
-parts_32 (suc (suc (suc (suc zero)))) f = record { runs = inr (inl refl); whole = refl }
-parts_32 (suc (suc (suc (suc (suc e))))) f = absurd (omega arith)
-
-pub parts : (n : ℕ) → T (block_size_ok n) → (m : ℕ) → Cut n m → Parts n m
-parts =
-    block_size_elim (λ n. (m : ℕ) → Cut n m → Parts n m)
-    (λ m c. subst (λ (x : ℕ). Parts 4 x) (sym c.power) (parts_4 c.exponent (rw (← c.power) c.inside) c.few))
-    (λ m c. subst (λ (x : ℕ). Parts 8 x) (sym c.power) (parts_8 c.exponent (rw (← c.power) c.inside) c.few))
-    (λ m c. subst (λ (x : ℕ). Parts 16 x) (sym c.power) (parts_16 c.exponent c.few))
-    (λ m c. subst (λ (x : ℕ). Parts 32 x) (sym c.power) (parts_32 c.exponent c.few))
-
--- p times x rows of m, as so many places
-turned_about : (p x m : ℕ) → p * (x * m) ≡ x * (p * m)
-turned_about p x m = sym (mul_assoc p x m) ∙ ap (λ (y : ℕ). y * m) (mul_comm p x) ∙ mul_assoc x p m
 
 module _ (n m span : ℕ) (boxes : List ℕ) (few : n ≤ 32) (cut : Cut n m) (all : n / m * m ≡ n) (product : n * m ≤ 256) (some : 0 < span)
     (short : span ≤ (n + 32) * 32 + 33) (room : 5 * area n ≤ length boxes) (f : Filled n span boxes) where
@@ -155,28 +101,13 @@ module _ (older newer : List ℕ) (b : SearchBlock) (boxes : List ℕ) (x : Boxe
   abbrev z : ℕ
   z = j - (reach b).left
 
-  place_in : (n + 32) * y + z < span_of n (reach b)
-  place_in =
-      omega (
-        arith,
-        mul-le-mul_left (n + 32) (let e : y ≤ (reach b).rows - 1 = omega (arith, h.top, h.bottom) in e),
-        h.left,
-        h.right,
-      )
-
-  older_index : (p q : ℕ) → level_at n m + p * ((n + 32) * m) + ((n + 32) * y + z) + m * q ≡ level_at n m + ((n + 32) * (y + p * m) + (z + q * m))
-  older_index p q = omega (arith, turned_about p (n + 32) m, mul-add (n + 32) y (p * m), mul_comm m q)
-
-  newer_index : (p q : ℕ) → own_at n m + p * (n * m) + m * q ≡ own_at n m + (n * (p * m) + q * m)
-  newer_index p q = omega (arith, turned_about p n m, mul_comm m q)
-
   distance_is : Cut n m → squares_at boxes n m ((n + 32) * y + z) ≡ distance_to older newer b 2 m (grid_vector i j)
   unfolding distance_by
   distance_is cut =
       sum_over_ext (n / m) (n / m) _ _ (λ p q hp hq.
       ap₂ (measure_of 2).diff
-      (ap (λ (u : ℕ). get_or boxes u 0) (newer_index p q) ∙ x.newer_square m p q cut hp hq)
-      (ap (λ (u : ℕ). get_or boxes u 0) (older_index p q) ∙ x.older_square i j m p q h cut hp hq))
+      (ap (λ (u : ℕ). get_or boxes u 0) (newer_index n m y z p q) ∙ x.newer_square m p q cut hp hq)
+      (ap (λ (u : ℕ). get_or boxes u 0) (older_index n m y z p q) ∙ x.older_square i j m p q h cut hp hq))
 
   distance-at : (d numbers : List ℕ) (span : ℕ) → span ≤ length d → (N : ℕ) → N ≡ n → Cut N m → numbers ≡ fill_to d 0 (squares_at boxes N m) span
       → span ≡ span_of N (reach b) → get_or numbers ((N + 32) * y + z) 0 ≡ distance_to older newer b 2 m (grid_vector i j)
@@ -187,7 +118,7 @@ module _ (older newer : List ℕ) (b : SearchBlock) (boxes : List ℕ) (x : Boxe
       (sym e)
       (λ cut g s.
       ap (λ (xs : List ℕ). get_or xs ((n + 32) * y + z) 0) g
-      ∙ filled_at d (squares_at boxes n m) span long ((n + 32) * y + z) (omega (arith, place_in, s))
+      ∙ filled_at d (squares_at boxes n m) span long ((n + 32) * y + z) (omega (arith, place_in b i j h, s))
       ∙ distance_is cut)
 
 pub numbered : (boxes d numbers : List ℕ) (n m span : ℕ) → Cut n m → span ≤ length d → numbers ≡ fill_to d 0 (squares_at boxes n m) span

@@ -6,89 +6,53 @@
 ghost use Rattle.std.specs.Prelude.{◌≡◌, ℕ, ◌+◌, ◌*◌, ◌≤◌, ◌<◌, T, length, get_or};
 ghost use Rattle.base.specs.Lists.{fill_to};
 ghost use Rattle.base.specs.Sum.{sum_to};
-ghost use Rattle.signed.specs.Values.{abs_diff};
 ghost use Rattle.refusals.specs.Refusals.{block_size_ok};
 ghost use Rattle.boxes.specs.Boxes.{Cut, area, Filled};
 ghost use Rattle.boxes.specs.Distances.{Numbered};
-ghost use Rattle.pruned_wide.specs.Wide.{places, squared, kept, row_squares, squares_of, squares_at, Runs, Inside, Wide};
+ghost use Rattle.boxes.specs.Runs.{places, carried, Runs, Inside};
+ghost use Rattle.pruned_wide.specs.Wide.{squared, row_squares, squares_of, squares_at, Wide};
 
-use boxes::Level;
+use boxes::{Level, PLACES};
 
-// Room for the places of all candidates, with N up to 32.
-pub const PLACES: usize = 64 * 32 + 40;
-
-// How far two sums differ.
-fn difference(a: u16, b: u16) -> u16
-    ensures { result ≡ abs_diff a b }
-{
-    if a < b { b - a } else { a - b }
-}
-
-// The square of that.
+// The square of how far two sums differ.
 fn square(older: u16, newer: u16) -> u32
     ensures { result ≡ squared newer older }
 {
-    let d = difference(newer, older) as u32;
+    let d = newer.abs_diff(older) as u32;
     d * d
 }
 
-// What stands at a place before a run of squares is added: nothing yet, where the run is the first.
-fn kept(fresh: bool, number: u32) -> u32
-    ensures { result ≡ kept fresh number }
-{
-    if fresh { 0 } else { number }
-}
-
-// Up to four sums in a row, m places apart.
-fn squares(boxes: &[u16], at: usize, m: usize, count: usize) -> [u16; 4]
-    requires { (count ≤ 4) × ((q : ℕ) → q < count → at + m * q < length boxes.now) }
-    ensures { (length result ≡ 4) × ((q : ℕ) → q < count → get_or result q 0 ≡ get_or boxes.now (at + m * q) 0) }
-{
-    let mut v = [0u16; 4];
-    let mut q: usize = 0;
-    while q < count {
-        v[q] = boxes[at + m * q];
-        q += 1;
-    }
-    v
-}
-
-// The squared differences of `count` squares in a row of an older block, the first at place `at`, and the newer ones, summed.
-fn run_at(boxes: &[u16], at: usize, m: usize, own: &[u16; 4], count: usize) -> u32
-    requires { (count ≤ 4) × ((q : ℕ) → q < count → at + m * q < length boxes.now) × (length own.now ≡ 4)
-        × (sum_to (λ q. squared (get_or own.now q 0) (get_or boxes.now (at + m * q) 0)) count ≤ 4294967295) }
-    ensures { result ≡ sum_to (λ q. squared (get_or own.now q 0) (get_or boxes.now (at + m * q) 0)) count }
+// The squared differences of COUNT squares in a row of an older block, the first at place `at`, and the newer ones, summed.
+fn run_at<const COUNT: usize>(boxes: &[u16], at: usize, m: usize, own: &[u16; COUNT]) -> u32
+    requires { ((q : ℕ) → q < COUNT → at + m * q < length boxes.now)
+        × (sum_to (λ q. squared (get_or own.now q 0) (get_or boxes.now (at + m * q) 0)) COUNT ≤ 4294967295) }
+    ensures { result ≡ sum_to (λ q. squared (get_or own.now q 0) (get_or boxes.now (at + m * q) 0)) COUNT }
 {
     let mut sum: u32 = 0;
-    let mut q: usize = 0;
-    while q < count {
+    for q in 0..COUNT {
         sum += square(boxes[at + m * q], own[q]);
-        q += 1;
     }
     sum
 }
 
 // Adds that of the older blocks of all candidates, or begins with it.
-fn add_run(
+fn add_run<const COUNT: usize>(
     boxes: &[u16],
     at: usize,
     own: usize,
     m: usize,
-    count: usize,
     fresh: bool,
     span: usize,
     numbers: &mut [u32; PLACES],
 )
-    requires { (span ≤ places) × (length numbers.old ≡ places) × (count ≤ 4) × (0 < count) × Inside boxes.now at own m count span
-        × ((t : ℕ) → t < span → kept fresh (get_or numbers.old t 0) + row_squares boxes.now (at + t) own m count ≤ 4294967295) }
+    requires { (span ≤ places) × (length numbers.old ≡ places) × (COUNT ≤ 4) × (0 < COUNT) × Inside boxes.now at own m COUNT span
+        × ((t : ℕ) → t < span → carried fresh (get_or numbers.old t 0) + row_squares boxes.now (at + t) own m COUNT ≤ 4294967295) }
     ensures { numbers.new ≡ fill_to numbers.old 0
-        (λ t. kept fresh (get_or numbers.old t 0) + row_squares boxes.now (at + t) own m count) span }
+        (λ t. carried fresh (get_or numbers.old t 0) + row_squares boxes.now (at + t) own m COUNT) span }
 {
-    let v = squares(boxes, own, m, count);
-    let mut t: usize = 0;
-    while t < span {
-        numbers[t] = kept(fresh, numbers[t]) + run_at(boxes, at + t, m, &v, count);
-        t += 1;
+    let v = boxes::run_of_squares::<COUNT>(boxes, own, m);
+    for t in 0..span {
+        numbers[t] = boxes::carried(fresh, numbers[t]) + run_at(boxes, at + t, m, &v);
     }
 }
 
@@ -103,38 +67,34 @@ fn add_row(
     span: usize,
     numbers: &mut [u32; PLACES],
 )
-    requires { (span ≤ places) × (length numbers.old ≡ places) × Runs k × Inside boxes.now at own m k span
-        × ((t : ℕ) → t < span → kept fresh (get_or numbers.old t 0) + row_squares boxes.now (at + t) own m k ≤ 4294967295) }
+    requires { (span ≤ places) × (length numbers.old ≡ places) × Runs k × (0 < k) × Inside boxes.now at own m k span
+        × ((t : ℕ) → t < span → carried fresh (get_or numbers.old t 0) + row_squares boxes.now (at + t) own m k ≤ 4294967295) }
     ensures { numbers.new ≡ fill_to numbers.old 0
-        (λ t. kept fresh (get_or numbers.old t 0) + row_squares boxes.now (at + t) own m k) span }
+        (λ t. carried fresh (get_or numbers.old t 0) + row_squares boxes.now (at + t) own m k) span }
 {
-    if k == 1 {
-        add_run(boxes, at, own, m, 1, fresh, span, numbers);
-        return;
-    }
-    if k == 2 {
-        add_run(boxes, at, own, m, 2, fresh, span, numbers);
-        return;
-    }
-    add_run(boxes, at, own, m, 4, fresh, span, numbers);
-    let mut q: usize = 4;
-    while q < k {
-        add_run(boxes, at + m * q, own + m * q, m, 4, false, span, numbers);
-        q += 4;
+    match k {
+        1 => add_run::<1>(boxes, at, own, m, fresh, span, numbers),
+        2 => add_run::<2>(boxes, at, own, m, fresh, span, numbers),
+        _ => {
+            add_run::<4>(boxes, at, own, m, fresh, span, numbers);
+            for run in 1..k / 4 {
+                let q = 4 * run;
+                add_run::<4>(boxes, at + m * q, own + m * q, m, false, span, numbers);
+            }
+        }
     }
 }
 
 // All rows of squares of one m.
 fn add_rows(boxes: &[u16], l: Level, span: usize, numbers: &mut [u32; PLACES])
-    requires { (span ≤ places) × (length numbers.old ≡ places) × Runs l.k × Wide boxes.now l span }
+    requires { (span ≤ places) × (length numbers.old ≡ places) × Runs l.k × (0 < l.k) × Wide boxes.now l span }
     ensures { numbers.new ≡ fill_to numbers.old 0
         (squares_of boxes.now l.at (l.pitch * l.m) l.own (l.n * l.m) l.m l.k) span }
 {
     add_row(boxes, l.at, l.own, l.m, l.k, true, span, numbers);
     let below = l.pitch * l.m;
     let under = l.n * l.m;
-    let mut p: usize = 1;
-    while p < l.k {
+    for p in 1..l.k {
         add_row(
             boxes,
             l.at + p * below,
@@ -145,7 +105,6 @@ fn add_rows(boxes: &[u16], l: Level, span: usize, numbers: &mut [u32; PLACES])
             span,
             numbers,
         );
-        p += 1;
     }
 }
 

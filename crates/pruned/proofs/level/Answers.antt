@@ -1,6 +1,6 @@
 -- `level`: of all, or of those listed.
 use mathlib.Core.Path.{sym, ◌∙◌}
-use Rattle.pruned.proofs.Steps.{size_small, side_small, all_fits, must_list}
+use Rattle.pruned.proofs.Steps.{size_small, side_small, all_fits}
 use Rattle.pruned.proofs.level.Goals as goal
 
 pub by_all-requires : goal.by_all-requires
@@ -17,7 +17,7 @@ returns-then-by_all c = c.all_level.ensures
 pub listed_level-requires : goal.listed_level-requires
 listed_level-requires c =
     let p = c.requires in
-    (p.0, p.1, must_list c.args.b c.args.m p.1.ts c.args.keys.now c.args.q p.1.held (sym c.by_all.ensures ∙ c.if-by_all.false))
+    (p.0, p.1, sym c.by_all.ensures ∙ c.if-by_all.false)
 
 pub returns : goal.returns
 returns c = let e = c.listed_level.ensures in (e.0, e.1, c.requires.3)

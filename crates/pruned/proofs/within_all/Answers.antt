@@ -23,33 +23,33 @@ most-limit-requires c = c.requires.3
 pub within-count-requires : goal.within-count-requires
 within-count-requires c = (laid_in (goal.at.within-count-requires c).Start, c.requires.7, refl)
 
-pub returns-then-count-gt-FEW : goal.returns-then-count-gt-FEW
-returns-then-count-gt-FEW c =
+pub returns-else-count-le-FEW : goal.returns-else-count-le-FEW
+returns-else-count-le-FEW c =
     let a = c.args in
     let p = c.requires in (
       refl,
       refl,
       λ cost are.
-          many_left a.b p.0 a.m a.e a.numbers.now (λ j. omega (arith, c.shared_slice_known-1.given j)) a.r p.2 _ _ c.most-limit.ensures c.within-count.ensures.0 cost are c.if-count-gt-FEW.true
+          many_left a.b p.0 a.m a.e a.numbers.now (λ j. omega (arith, c.type_inv.numbers j)) a.r p.2 _ _ c.most-limit.ensures c.within-count.ensures.0 cost are c.if-count-le-FEW.false
           p.4 _,
     )
 
 pub list_within-requires : goal.list_within-requires
 list_within-requires c =
-    (laid_in (goal.at.list_within-requires c).Start, c.within-count.ensures.1, omega (arith, c.within-count.ensures.0, c.if-count-gt-FEW.false, c.requires.6))
+    (laid_in (goal.at.list_within-requires c).Start, c.within-count.ensures.1, omega (arith, c.within-count.ensures.0, c.if-count-le-FEW.true, c.requires.6))
 
-pub returns : goal.returns
-returns c =
+pub returns-then-count-le-FEW : goal.returns-then-count-le-FEW
+returns-then-count-le-FEW c =
     let a = c.args in
     let p = c.requires in
     let long = c.list_within.auto.keys in
     let e = c.list_within.ensures in
-    let room : c.within-count.result ≤ length c.list_within.new.keys = omega (arith, long, c.if-count-gt-FEW.false, p.6) in
+    let room : c.within-count.result ≤ length c.list_within.new.keys = omega (arith, long, c.if-count-le-FEW.true, p.6) in
     let front : take c.within-count.result c.list_within.new.keys
     ≡ keys_of (λ v. 0) (within a.numbers.now (a.b.setting.n + 32) a.r c.most-limit.result (spots a.r)) =
     rw (c.within-count.ensures.0, ← e.0) e.1 in (
       refl,
       long,
       λ cost are.
-          few_left a.b p.0 a.m a.e a.numbers.now (λ j. omega (arith, c.shared_slice_known-1.given j)) a.r p.2 _ _ c.most-limit.ensures c.within-count.ensures.0 cost are _ room front,
+          few_left a.b p.0 a.m a.e a.numbers.now (λ j. omega (arith, c.type_inv.numbers j)) a.r p.2 _ _ c.most-limit.ensures c.within-count.ensures.0 cost are _ room front,
     )

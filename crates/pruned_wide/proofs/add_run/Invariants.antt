@@ -1,14 +1,12 @@
 -- `add_run`: after t turns the first t places have theirs.
-use Prim.Native.Nat.{◌+◌, ◌-◌, ◌≤◌}
+use Prim.Native.Nat.{◌+◌}
 use mathlib.Core.Path.{◌≡◌}
 use lib.ListN.{get_or}
 use Rattle.base.specs.Lists.{fill_to}
-use Rattle.pruned_wide.specs.Wide.{kept, row_squares}
+use Rattle.boxes.specs.Runs.{carried}
+use Rattle.pruned_wide.specs.Wide.{row_squares}
 use Rattle.pruned_wide.proofs.add_run.Given as goal
 
 abbrev pub invariant-loop-t : goal.invariant-loop-t
-invariant-loop-t l =
-    (l.t ≤ l.span) × (l.numbers ≡ fill_to l.initial.numbers 0 (λ i. kept l.fresh (get_or l.initial.numbers i 0) + row_squares l.boxes (l.at + i) l.own l.m l.count) l.t)
-
-abbrev pub decreases-loop-t : goal.decreases-loop-t
-decreases-loop-t l = l.span - l.t
+invariant-loop-t g l =
+    l.numbers ≡ fill_to l.initial.numbers 0 (λ i. carried l.fresh (get_or l.initial.numbers i 0) + row_squares l.boxes (l.at + i) l.own l.m g.row.COUNT) l.t
