@@ -8,7 +8,7 @@ ghost use Rattle.base.specs.Lists.{fill_to};
 ghost use Rattle.refusals.specs.Refusals.{block_size_ok};
 ghost use Rattle.search.specs.Target.{Ready};
 ghost use Rattle.reach.specs.Reach.{Standing, reach};
-ghost use Rattle.boxes.specs.Boxes.{block_pels, doubled, Cut, area, span_of, level_of, whole_of, Levels, Boxed};
+ghost use Rattle.boxes.specs.Boxes.{doubled, Cut, area, span_of, level_of, whole_of, Levels, Boxed};
 ghost use Rattle.boxes.specs.Runs.{carried};
 
 use frame::{Region, SearchBlock};
@@ -30,27 +30,6 @@ pub struct Level {
 }
 
 // ---- pels
-
-// The block, behind the window.
-fn copy_block(newer: &[u8], b: SearchBlock, boxes: &mut [u16])
-    requires { Standing b × (b.setting.n ≤ 32) × (b.setting.height * b.setting.width ≤ length newer.now)
-        × (area b.setting.n ≤ length boxes.old) }
-    ensures { boxes.new ≡ block_pels newer.now b boxes.old }
-{
-    let s = b.setting;
-    let n = s.n;
-    let width = s.width;
-    window_copy::copy_rows(
-        newer,
-        width,
-        b.y * width + b.x,
-        n,
-        n,
-        boxes,
-        (n + 32) * (n + 32),
-        n,
-    );
-}
 
 // ---- boxes
 
@@ -127,7 +106,7 @@ pub fn fill(older: &[u8], newer: &[u8], b: SearchBlock, r: Region, boxes: &mut [
 {
     let n = b.setting.n;
     window_copy::copy_window(older, b, r, boxes, 0, n + 32);
-    copy_block(newer, b, boxes);
+    window_copy::copy_block(newer, b, boxes, (n + 32) * (n + 32), n);
     fill_from_pels(boxes, n, span(n, r));
 }
 

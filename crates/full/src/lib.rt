@@ -157,22 +157,17 @@ fn by_rows(older: &[u8], newer: &[u8], b: SearchBlock, r: Region, first: u64) ->
     ensures { LeastKey (key_at older.now newer.now b) (reach b) result }
 {
     let s = b.setting;
-    let n = s.n;
-    let width = s.width;
     let mut window = [0u8; WINDOW];
     let mut block = [0u8; BLOCK];
     copy_window(older, b, r, &mut window);
-    window_copy::copy_rows(
-        newer,
-        width,
-        b.y * width + b.x,
-        n,
-        n,
-        &mut block,
-        0,
-        window_copy::ROW,
-    );
-    rows_least(&window, &block, distortion::kernel(s.measure, n), r, first)
+    window_copy::copy_block(newer, b, &mut block, 0, window_copy::ROW);
+    rows_least(
+        &window,
+        &block,
+        distortion::kernel(s.measure, s.n),
+        r,
+        first,
+    )
 }
 
 // ---- columns
@@ -266,14 +261,11 @@ fn by_columns(older: &[u8], newer: &[u8], b: SearchBlock, r: Region, first: u64)
         × (kernel_of b.setting.measure b.setting.n ≡ 8) }
     ensures { LeastKey (key_at older.now newer.now b) (reach b) result }
 {
-    let s = b.setting;
-    let width = s.width;
     let mut window = [0u8; WINDOW];
     let mut block = [0u8; TWICE];
     copy_window(older, b, r, &mut window);
-    let here = b.y * width + b.x;
-    window_copy::copy_rows(newer, width, here, 8, 8, &mut block, 0, 8);
-    window_copy::copy_rows(newer, width, here, 8, 8, &mut block, 64, 8);
+    window_copy::copy_block(newer, b, &mut block, 0, 8);
+    window_copy::copy_block(newer, b, &mut block, 64, 8);
     columns_least(&window, &block, r, first)
 }
 

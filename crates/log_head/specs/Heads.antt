@@ -119,7 +119,3 @@ entry h e k dy dx distortion ok =
     within : (z : ℤ) → T (distortion_ok h z) → (dn z ≡ 0) × (up z ≤ largest_in h)
     within (pos d) t = (refl, leb→le d (largest_in h) t)
     within (negsuc d) t = absurd t
-
-pub zero_is : (z : ℤ) → eq_z z (pos 0) ≡ eqb (nat_abs z) 0
-zero_is (pos n) = refl
-zero_is (negsuc n) = sym (ne_eqb (suc n) 0 (λ e. omega arith))

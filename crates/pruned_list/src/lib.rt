@@ -39,14 +39,7 @@ pub fn list_every(r: Region, keys: &mut [u64]) -> usize
 {
     let codes = reach::codes_of(1);
     for i in 0..r.rows {
-        list_row(
-            r.top + i,
-            r.left,
-            r.columns,
-            &codes,
-            keys,
-            i * r.columns,
-        );
+        list_row(r.top + i, r.left, r.columns, &codes, keys, i * r.columns);
     }
     r.rows * r.columns
 }

@@ -1,5 +1,6 @@
--- A block's search window inside its frame.
---   WindowIn     where it stands, and how large it is
+-- A block and its search window inside their frames.
+--   block_small  the block begins near enough; block_whole: its rows lie inside the frame
+--   WindowIn     where the window stands, and how large it is
 --   window_in    so it does; window_whole: its rows lie inside the frame
 use Prim.Native.Nat.{ℕ, ◌+◌, ◌-◌, ◌*◌, ◌≤◌, ◌<◌}
 use mathlib.Core.Path.{◌≡◌, sym, subst}
@@ -22,6 +23,15 @@ pub record WindowIn (b : SearchBlock) (r : Region) : Type 0 where
   pub last_row : b.y + r.top - 16 + (r.rows + b.setting.n - 1) ≤ b.setting.height
   pub last_column : b.x + r.left - 16 + (r.columns + b.setting.n - 1) ≤ b.setting.width
   pub small : (b.y + r.top - 16) * b.setting.width ≤ 1048576
+
+-- the block's own rows
+module _ (b : SearchBlock) (s : Standing b) where
+  pub block_small : b.y * b.setting.width ≤ 1048576
+  block_small = mul-le-mul {n₂ = 1024} {m₂ = 1024} (omega (arith, s.down, s.high)) s.wide
+
+  pub block_whole : (long : ℕ) → b.setting.height * b.setting.width ≤ long
+      → b.y * b.setting.width + b.x + b.setting.n * b.setting.width + b.setting.n ≤ long + b.setting.width
+  block_whole long whole = omega (arith, add-mul b.y b.setting.n b.setting.width, mul-le-mul_right b.setting.width s.down, s.across, whole)
 
 module _ (b : SearchBlock) (r : Region) (s : Standing b) (is : r ≡ reach b) where
   bounds : Bounds b r

@@ -99,6 +99,26 @@ pub fn copy_window<T: Pel>(
     );
 }
 
+// The block itself, likewise.
+pub fn copy_block<T: Pel>(newer: &[u8], b: SearchBlock, copy: &mut [T], at: usize, pitch: usize)
+    requires { Standing b × (b.setting.n ≤ 32) × (b.setting.height * b.setting.width ≤ length newer.now) × (pitch ≤ 64)
+        × (at + b.setting.n * pitch + b.setting.n ≤ length copy.old + pitch) }
+    ensures { copy.new ≡ stored_rows (λ i j. T.of_pel (get_or newer.now (b.y * b.setting.width + b.x + i * b.setting.width + j) 0)) b.setting.n copy.old at pitch
+        b.setting.n }
+{
+    let s = b.setting;
+    copy_rows(
+        newer,
+        s.width,
+        b.y * s.width + b.x,
+        s.n,
+        s.n,
+        copy,
+        at,
+        pitch,
+    );
+}
+
 // The distortion by absolute differences of a copied 16 × 16 block against the older block that begins at place `at` of a copied search window, as far
 // as the ceiling goes, which is looked at half way down.
 pub fn copy_sum(window: &[u8], block: &[u8], at: usize, ceiling: u32) -> u32

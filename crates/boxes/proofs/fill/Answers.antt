@@ -11,7 +11,7 @@ use Rattle.distortion.specs.Blocks.{Bytes}
 use Rattle.reach.specs.Reach.{Standing, reach}
 use Rattle.reach.proofs.Candidates.{Bounds, reach_bounds, ready_standing}
 use Rattle.boxes.specs.Boxes.{window_pels, block_pels, span_of}
-use Rattle.boxes.proofs.Rooms.{area_is}
+use Rattle.boxes.proofs.Rooms.{area_is, square_small}
 use Rattle.boxes.proofs.Squares.{span_short, first_small, boxed}
 use Rattle.boxes.proofs.fill.Goals as goal
 use Rattle.boxes.proofs.fill.Goals.{After-span, Start}
@@ -23,7 +23,7 @@ few : (s : Start) → s.args.b.setting.n ≤ 32
 few s = (block_size _ (s.requires.0).placed.paired.allowed).most
 
 bounds : (s : Start) → Bounds s.args.b s.args.r
-bounds s = subst (λ (r : Region). Bounds s.args.b r) (sym s.requires.1) (reach_bounds s.args.b (let standing : Standing s.args.b = ready_standing _ _ _ (s.requires.0) in standing))
+bounds s = subst (λ (r : Region). Bounds s.args.b r) (sym s.requires.1) (reach_bounds s.args.b (standing s))
 
 pub copy_window-requires : goal.copy_window-requires
 copy_window-requires c =
@@ -40,10 +40,15 @@ copy_window-requires c =
       omega (arith, mul-le-mul_right (n + 32) rows, area_is n, c.requires.2, k.rows, k.columns, k.few_rows, k.few_columns),
     )
 
+pub overflow_mul-n : goal.overflow_mul-n
+overflow_mul-n c = omega (arith, square_small (c.args.b.setting.n + 32) 64 (omega (arith, few (goal.at.overflow_mul-n c).Start)))
+
 pub copy_block-requires : goal.copy_block-requires
 copy_block-requires c =
+    let n = c.args.b.setting.n in
     let p = (c.requires.0).placed.paired in
-    (standing (goal.at.copy_block-requires c).Start, few (goal.at.copy_block-requires c).Start, omega (arith, p.newer_whole), omega (arith, c.requires.2, c.copy_window.auto.copy))
+    let f = few (goal.at.copy_block-requires c).Start in
+    (standing (goal.at.copy_block-requires c).Start, f, omega (arith, p.newer_whole), omega (arith, f), omega (arith, area_is n, c.requires.2, c.copy_window.auto.copy))
 
 pub span-requires : goal.span-requires
 span-requires c =
@@ -52,7 +57,7 @@ span-requires c =
 
 -- the pels as the two copies leave them
 pels-are : (c : After-span) → let a = c.args in
-    c.copy_block.new.boxes ≡ block_pels a.newer.now a.b (window_pels a.older.now a.b a.boxes.now)
+    c.copy_block.new.copy ≡ block_pels a.newer.now a.b (window_pels a.older.now a.b a.boxes.now)
 pels-are c =
     let a = c.args in
     c.copy_block.ensures
@@ -72,7 +77,7 @@ fill_from_pels-requires c =
     let p = pels-are c in (
       (c.requires.0).placed.paired.allowed,
       rw c.span.ensures (span_short c.args.b.setting.n c.args.r (omega (arith, k.few_rows)) (omega (arith, k.few_columns))),
-      omega (arith, c.requires.2, c.copy_window.auto.copy, c.copy_block.auto.boxes),
+      omega (arith, c.requires.2, c.copy_window.auto.copy, c.copy_block.auto.copy),
       λ u h.
           subst (λ (xs : List ℕ). get_or xs u 0 ≤ 255) (sym p)
           (first_small c.args.older.now c.args.newer.now c.args.b (c.requires.0) (bytes c).0 (bytes c).1 _ c.requires.2 c.requires.3 u h),

@@ -1,27 +1,21 @@
 -- `by_rows`: in reach the copies have the keys of the frames, so the least by the copies is the least.
 use mathlib.Core.Path.{refl, sym, ◌∙◌}
 use native.Mathlib.Omega.{arith}
-use Rattle.distortion.specs.Blocks.{begins, block-inside, kernel_is}
+use Rattle.distortion.specs.Blocks.{kernel_is}
 use Rattle.reach.proofs.Candidates.{ready_standing}
 use Rattle.full.proofs.Reached.{least_same}
 use Rattle.full.proofs.Copies.{copies_long, key-in-copy}
-use Rattle.full.proofs.Ready.{at_its_place, size, around, middle}
+use Rattle.full.proofs.Ready.{size, around, middle}
 use Rattle.full.proofs.by_rows.Goals as goal
 
 pub copy_window-requires : goal.copy_window-requires
 copy_window-requires c =
     (ready_standing _ _ _ c.requires.0, size _ _ _ c.requires.0, omega (arith, c.requires.0.placed.paired.older_whole), c.requires.1, refl)
 
-pub overflow_mul-b : goal.overflow_mul-b
-overflow_mul-b c = omega (arith, (begins _ _ _ _ _ _ _ (at_its_place _ _ _ c.requires.0)).0)
-
-pub overflow_add-b : goal.overflow_add-b
-overflow_add-b c = omega (arith, (begins _ _ _ _ _ _ _ (at_its_place _ _ _ c.requires.0)).0)
-
-pub copy_rows-requires : goal.copy_rows-requires
-copy_rows-requires c =
-    let k = block-inside _ _ _ _ _ _ _ (at_its_place _ _ _ c.requires.0) in
-    (k.in_newer, omega (arith, size _ _ _ c.requires.0), k.wide, omega arith, omega (arith, size _ _ _ c.requires.0))
+pub copy_block-requires : goal.copy_block-requires
+copy_block-requires c =
+    let n = size _ _ _ c.requires.0 in
+    (ready_standing _ _ _ c.requires.0, n, omega (arith, c.requires.0.placed.paired.newer_whole), omega arith, omega (arith, n))
 
 pub kernel-requires : goal.kernel-requires
 kernel-requires c = omega (arith, size _ _ _ c.requires.0)
@@ -31,7 +25,7 @@ rows_least-requires c =
     let p = c.requires in
     let t = ready_standing _ _ _ p.0 in
     let w = c.copy_window.ensures in
-    let b = c.copy_rows.ensures in
+    let b = c.copy_block.ensures in
     let k = kernel_is c.kernel.ensures p.0.placed.paired.allowed in
     let long = copies_long c.args.older.now c.args.newer.now c.args.b t (size _ _ _ c.requires.0) _ _ refl refl in (
       rw w long.0,
@@ -48,5 +42,5 @@ returns c =
     let p = c.requires in
     let t = ready_standing _ _ _ p.0 in
     let k = kernel_is c.kernel.ensures p.0.placed.paired.allowed in
-    let e = rw (c.copy_window.ensures, c.copy_rows.ensures, p.1) at c.rows_least.ensures in
+    let e = rw (c.copy_window.ensures, c.copy_block.ensures, p.1) at c.rows_least.ensures in
     least_same _ _ _ _ (key-in-copy _ _ _ t (size _ _ _ c.requires.0) _ _ refl refl _ k) e

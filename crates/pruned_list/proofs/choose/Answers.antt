@@ -22,11 +22,6 @@ pub loop-i-init : goal.loop-i-init
 unfolding least_of least_from list_to
 loop-i-init c = (omega arith, refl)
 
-pub lesser_measured-best-requires : goal.lesser_measured-best-requires
-lesser_measured-best-requires c =
-    let p = c.requires in
-    (p.0, p.3 c.loop-i.i (omega arith), c.loop-i.invariant.0)
-
 pub loop-i-preserved : goal.loop-i-preserved
 loop-i-preserved c =
     let l = c.loop-i in

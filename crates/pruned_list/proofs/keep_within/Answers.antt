@@ -1,7 +1,6 @@
 -- `keep_within`: of the keys passed those within the limit stand in front.
-use mathlib.Core.Path.{◌≡◌}
 use native.Mathlib.Omega.{arith}
-use Rattle.pruned_list.proofs.Turns.{sifting_first, sifting_yes, sifting_no, sifting_last}
+use Rattle.pruned_list.proofs.Turns.{sifting_first, sifting_yes, sifting_no}
 use Rattle.pruned_list.proofs.keep_within.Goals as goal
 use Rattle.pruned_list.proofs.keep_within.Goals.{then-key-limit, else-key-limit}
 
@@ -16,12 +15,3 @@ loop-from-preserved c =
       | then-key-limit w ↦ rw w.kept-is (sifting_yes l.invariant t (omega arith) (omega (arith, w.if-key-limit.true)))
       | else-key-limit w ↦ rw w.kept-is (sifting_no l.invariant t (omega arith) (omega (arith, w.if-key-limit.false)))
     ]
-
-pub shape_of-keys : goal.shape_of-keys
-shape_of-keys c = c.loop-from.invariant.long
-
-pub returns : goal.returns
-returns c =
-    let l = c.loop-from in
-    let e : l.from ≡ c.args.count = omega arith in
-    sifting_last (rw e at l.invariant)

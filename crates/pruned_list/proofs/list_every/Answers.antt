@@ -17,17 +17,10 @@ room l h = let r = l.args.r in omega (arith, row_fits l.loop-i.i r.rows r.column
 pub loop-i-init : goal.loop-i-init
 loop-i-init c = rowed_first _ _ _
 
-pub list_row-requires : goal.list_row-requires
-list_row-requires c =
-    (omega arith, omega arith, c.codes_of-codes.ensures, rw c.loop-i.invariant.long (room (goal.at.list_row-requires c).At-loop-i (omega arith)))
-
 pub loop-i-preserved : goal.loop-i-preserved
 loop-i-preserved c =
     let l = c.loop-i in
     rowed_more _ _ _ _ _ l.i _ l.invariant refl (rw l.invariant.long (room (goal.at.loop-i-preserved c).At-loop-i (omega arith))) c.list_row.ensures
-
-pub shape_of-keys : goal.shape_of-keys
-shape_of-keys c = c.loop-i.invariant.long
 
 pub returns : goal.returns
 returns c =

@@ -24,17 +24,8 @@ code-low : (l : At-loop-j) → l.args.left + l.loop-j.j < 33 → let a = l.args 
     l.code_of-down.result + get_or a.codes.now (a.left + l.loop-j.j) 0 < 262144
 code-low l h = rw (code_is l h) (code_small l.args.row (l.args.left + l.loop-j.j) l.requires.0 h)
 
-pub code_of-down-requires : goal.code_of-down-requires
-code_of-down-requires c = (omega arith, c.requires.0)
-
 pub loop-j-init : goal.loop-j-init
 loop-j-init c = (fill_none _ _ _, refl)
-
-pub overflow_add-keys : goal.overflow_add-keys
-overflow_add-keys c = omega arith
-
-pub bounds-codes-left : goal.bounds-codes-left
-bounds-codes-left c = omega arith
 
 pub overflow_add-keys-in-loop-j : goal.overflow_add-keys-in-loop-j
 overflow_add-keys-in-loop-j c = omega (arith, code-low (goal.at.overflow_add-keys-in-loop-j c).At-loop-j (omega arith))
@@ -47,9 +38,3 @@ loop-j-preserved c =
           ∙ fill_more a.keys.now a.at (λ i. order_code a.row (a.left + i)) l.j (omega arith),
       simp length-set (search rules),
     )
-
-pub returns : goal.returns
-returns c =
-    let l = c.loop-j in
-    let e : l.j ≡ c.args.columns = omega arith in
-    rw e at l.invariant.0

@@ -23,18 +23,8 @@ places c e = whole_places c.args.boxes.now c.args.m c.args.t c.args.l c.requires
 pub whole_32-requires : goal.whole_32-requires
 whole_32-requires c = (places (goal.at.whole_32-requires c).After-shared_slice_known-1 c.if-m-eq32.true).0
 
-pub overflow_add-l : goal.overflow_add-l
-overflow_add-l c = omega (arith, (places (goal.at.overflow_add-l c).After-shared_slice_known-1 c.if-m-eq32.true).1)
-
 pub whole_32-requires-then-m-eq32 : goal.whole_32-requires-then-m-eq32
 whole_32-requires-then-m-eq32 c = (places (goal.at.whole_32-requires-then-m-eq32 c).After-shared_slice_known-1 c.if-m-eq32.true).1
-
-pub sum_difference-requires : goal.sum_difference-requires
-sum_difference-requires c =
-    let a = c.args in (
-      omega (arith, c.whole_32.ensures, whole-low (goal.at.sum_difference-requires c).After-shared_slice_known-1 a.l.own 512),
-      omega (arith, c.whole_32-then-m-eq32.ensures, whole-low (goal.at.sum_difference-requires c).After-shared_slice_known-1 (a.l.at + a.t) 1024),
-    )
 
 pub returns-then-m-eq32 : goal.returns-then-m-eq32
 returns-then-m-eq32 c =

@@ -10,7 +10,6 @@ use Rattle.boxes.specs.Boxes.{level_of}
 use Rattle.reach.specs.Reach.{InReach}
 use Rattle.pruned_list.specs.Listed.{spot_of, renewed}
 use Rattle.pruned_lookup.specs.Lookup.{box_distance, side_of, place_on, looked_up}
-use Rattle.pruned_lookup.proofs.Places.{near_place}
 use Rattle.pruned_lookup.proofs.Looked.{distanced}
 use Rattle.pruned_lookup.proofs.fill.Goals as goal
 use Rattle.pruned_lookup.proofs.fill.Goals.{After-renewed, At-loop-i}
@@ -51,12 +50,6 @@ turn c =
     ∙ ap₂ (box_distance a.measure a.boxes.now a.m) (level-is l) place in
     c.renewed.ensures ∙ ap₂ (λ (k d : ℕ). renewed k d) key distance
 
-pub level_of-l-requires : goal.level_of-l-requires
-level_of-l-requires c = let k = c.requires.near.0 in (k.small, rw c.side_of.ensures k.cut)
-
-pub overflow_add-pitch : goal.overflow_add-pitch
-overflow_add-pitch c = omega (arith, c.requires.near.0.small)
-
 pub loop-i-init : goal.loop-i-init
 loop-i-init c = (fill_none _ _ _, refl)
 
@@ -64,14 +57,6 @@ pub place_of-t-requires : goal.place_of-t-requires
 place_of-t-requires c =
     let k = c.requires.near in
     (rw c.spot_of.ensures (near-is (goal.at.place_of-t-requires c).At-loop-i c.loop-i-test.true), k.1, k.2, omega (arith, k.0.small))
-
-pub distance_at-requires : goal.distance_at-requires
-distance_at-requires c =
-    let a = c.args in
-    rw (level-is (goal.at.distance_at-requires c).At-loop-i) (near_place a.boxes.now a.n a.m 0 _ c.requires.near.0 c.place_of-t.ensures.1, refl)
-
-pub renewed-requires : goal.renewed-requires
-renewed-requires c = c.distance_at.ensures.1
 
 pub loop-i-preserved : goal.loop-i-preserved
 loop-i-preserved c =
