@@ -10,8 +10,8 @@
 --   candidate_ok    the vector is a candidate of window w for grid block k; distortionOk: 0 to the largest
 --   entry_ok        both: what 16 asks of the three numbers of grid block k
 --   is_still        a still block: (0,0) with distortion 0
-use Rattle.std.specs.Prelude.{ℕ, suc, ◌*◌, ◌≤◌, ◌≡◌, refl, Bool, true, false, ◌&&◌, T, leb, eqb, ℤ, pos, negsuc, nat_abs}
-use Rattle.std.proofs.Common.{sym, le_trans, mul-le-mul, arith, ne_eqb, leb→le}
+use Rattle.std.specs.Prelude.{ℕ, ◌*◌, ◌≤◌, ◌≡◌, refl, Bool, true, false, ◌&&◌, T, leb, eqb, ℤ, pos, negsuc, nat_abs}
+use Rattle.std.proofs.Common.{le_trans, mul-le-mul, leb→le}
 use Rattle.base.specs.Tests.{and_left, and_right, le_both, true_T}
 use Rattle.signed.specs.Int.{eq_z, up, dn}
 use Rattle.measures.specs.Measures.{measure_ok, measure_of, squares, most_small}

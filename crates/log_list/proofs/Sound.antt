@@ -1,15 +1,10 @@
 -- What the verdict says: 0 just where head and list pass and every block does.
-use Prim.Native.Nat.{ℕ, ◌*◌, ◌^◌, ◌<◌}
+use Prim.Native.Nat.{ℕ, ◌*◌}
 use mathlib.Core.Path.{◌≡◌, refl, ◌∙◌}
 use mathlib.Core.Bool.{Bool, true, false, cond}
 use mathlib.Core.List.{List}
 use native.Mathlib.Omega.{arith}
-use borrow.Author.Rules.{sfits_of}
 use borrow.Author.Tests.{ltb-false, eqb-true, eqb-false, le-ltb, le-leb, eq-eqb}
-use mir.Facts.{to_z-of_z}
-use mir.Syntax.{w32}
-use mir.Val.{hbits, to_z, of_z}
-use lib.Signed.{mag}
 use lib.Dec.{leb, ltb, eqb, leb→le}
 use lib.IntN.{ℤ}
 use lib.ListN.{length}
@@ -53,7 +48,3 @@ module _ (h : Head) (list : List ℤ) where
       let r : list_refusal h (length list) ≡ 0 = fine ∙ rw (le-leb (3 * head_blocks h) (length list) p.listed.room) in
       let w : wrong ≡ head_blocks h = all_right (listed_ok h list) 0 (head_blocks h) (λ i a b. p.each i (omega arith)) ∙ omega arith in
       rw (eq-eqb (list_refusal h (length list)) 0 r, le-ltb wrong (head_blocks h) (omega arith))
-
--- a number of the list, as it was read, and as it is passed on
-pub through : {z v : ℤ} → mag z < 2 ^ hbits w32 → z ≡ v → to_z w32 (of_z w32 z) ≡ v
-through h e = to_z-of_z (sfits_of {w = w32} h) ∙ e

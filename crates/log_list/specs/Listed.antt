@@ -2,6 +2,7 @@
 -- 3, 4, 5, 10, then 16 with the block's number, from 0, as place": the head's numbers, the list's length, then each block.
 -- 02, request 1: 51 is "tested after 4".
 --   value_of       the number at place i of block k's three
+--   entry_of       block k's three, as the code reads them
 --   list_refusal   1 3 4 51 5 10
 --   listed_ok      16 lets block k pass: its three numbers are a candidate and its distortion
 --   list_verdict   the first that applies, or 0, with its place: a Verdict; verdict_of reads one from what the code answers
@@ -11,12 +12,20 @@ use Rattle.base.specs.FirstWrong.{first_wrong}
 use Rattle.refusals.specs.Refusals.{unless, first_refusal}
 use Rattle.log_head.specs.declared.Head.{Head}
 use Rattle.log_head.specs.Heads.{head_refusal, head_blocks, entry_ok}
+<<<<<<< HEAD
 use Rattle.refusals.specs.declared.Refusal.{Refusal}
 use Rattle.refusals.specs.Numbers.{number_of}
 use Rattle.log_list.specs.declared.Fault.{Fault}
+=======
+use Rattle.log_list.specs.declared.Entry.{Entry}
+use Rattle.log_list.specs.declared.Verdict.{Verdict}
+>>>>>>> ae97d4cb935f9dc8286121158ae5944abd3aabb0
 
 abbrev pub value_of : List ℤ → ℕ → ℕ → ℤ
 value_of list k i = get_or list (3 * k + i) (pos 0)
+
+abbrev pub entry_of : List ℤ → ℕ → Entry
+entry_of list k = record { dy = value_of list k 0; dx = value_of list k 1; distortion = value_of list k 2 }
 
 -- the list comes in by its length
 unfoldable pub list_refusal : Head → ℕ → ℕ

@@ -2,11 +2,18 @@
 
 #![tactic(auto)]
 
+<<<<<<< HEAD
 ghost use Rattle.std.specs.Prelude.{◌≡◌, ◌+◌, ◌*◌, ◌<◌, length, unwrap_or, IfSome};
 ghost use Rattle.base.specs.FirstWrong.{first_wrong};
 ghost use Rattle.log_head.specs.Heads.{head_blocks};
 ghost use Rattle.log_list.specs.Listed.{value_of, list_refusal, listed_ok, Writable, unplaced, verdict_of, list_verdict};
 ghost use Rattle.refusals.specs.Numbers.{number_in};
+=======
+ghost use Rattle.std.specs.Prelude.{◌≡◌, ◌+◌, ◌*◌, ◌≤◌, ◌<◌, length};
+ghost use Rattle.base.specs.FirstWrong.{first_wrong};
+ghost use Rattle.log_head.specs.Heads.{head_blocks};
+ghost use Rattle.log_list.specs.Listed.{entry_of, list_refusal, listed_ok, Writable, list_verdict};
+>>>>>>> ae97d4cb935f9dc8286121158ae5944abd3aabb0
 
 use log_head::Head;
 use refusals::Refusal;
@@ -18,6 +25,7 @@ pub struct Fault {
     pub place: usize,
 }
 
+<<<<<<< HEAD
 impl From<Refusal> for Fault {
     ghost from_gives = { λ r fault. fault ≡ unplaced r };
 
@@ -29,6 +37,19 @@ impl From<Refusal> for Fault {
 // The first of 1 3 4 51 5 10 that applies, if one does; the list by its length.
 fn list_refusal(head: Head, list: usize) -> Result<(), Refusal>
     ensures { number_in result ≡ list_refusal head list }
+=======
+// A block's three numbers, as a list has them.
+#[derive(Clone, Copy)]
+pub struct Entry {
+    pub dy: i32,
+    pub dx: i32,
+    pub distortion: i32,
+}
+
+// The first of 1 3 4 51 5 10 that applies, or 0; the list by its length.
+fn list_refusal(head: Head, list: usize) -> u32
+    ensures { result ≡ list_refusal head list }
+>>>>>>> ae97d4cb935f9dc8286121158ae5944abd3aabb0
 {
     log_head::head_refusal(head)?;
     if list < 3 * log_head::head_blocks(head) {
@@ -37,12 +58,16 @@ fn list_refusal(head: Head, list: usize) -> Result<(), Refusal>
     Ok(())
 }
 
-// The number at place i of block k's three.
-pub fn value(list: &[i32], k: usize, i: usize) -> i32
-    requires { (3 * k + i < length list.now) × (k < 1048576) × (i < 3) }
-    ensures { result ≡ value_of list.now k i }
+// The three numbers of block k.
+pub fn entry_at(list: &[i32], k: usize) -> Entry
+    requires { (3 * k + 3 ≤ length list.now) × (k < 1048576) }
+    ensures { result ≡ entry_of list.now k }
 {
-    list[3 * k + i]
+    Entry {
+        dy: list[3 * k],
+        dx: list[3 * k + 1],
+        distortion: list[3 * k + 2],
+    }
 }
 
 // 16 lets block k pass.
@@ -50,13 +75,8 @@ fn listed_ok(head: Head, list: &[i32], k: usize) -> bool
     requires { Writable head (length list.now) × (k < head_blocks head) }
     ensures { result ≡ listed_ok head list.now k }
 {
-    log_head::entry_ok(
-        head,
-        k,
-        value(list, k, 0),
-        value(list, k, 1),
-        value(list, k, 2),
-    )
+    let e = entry_at(list, k);
+    log_head::entry_ok(head, k, e.dy, e.dx, e.distortion)
 }
 
 // The first block that 16 turns away, if there is one.

@@ -8,7 +8,7 @@ ghost use Rattle.put.specs.Put.{Put};
 ghost use Rattle.refusals.specs.Numbers.{number_of};
 ghost use Rattle.log_command.specs.Numbers.{bytes2, bytes4};
 ghost use Rattle.log_command.specs.Commands.{carries, is_long};
-ghost use Rattle.log_head.specs.Heads.{head_refusal, head_blocks, is_still, Entry};
+ghost use Rattle.log_head.specs.Heads.{head_refusal, head_blocks, Entry};
 ghost use Rattle.log_command.specs.Logs.{log_of};
 ghost use Rattle.log_list.specs.Listed.{value_of, AllPass};
 ghost use Rattle.log_writing.specs.Writing.{write_result, refused_write, write_log};
@@ -36,30 +36,23 @@ fn refused_write(refusal: Refusal, place: usize) -> Written
     }
 }
 
-// Block k is a still block.
-fn still_at(list: &[i32], k: usize) -> bool
-    requires { (3 * k + 3 ≤ length list.now) × (k < 1048576) }
-    ensures { result ≡ is_still (value_of list.now k 0) (value_of list.now k 1) (value_of list.now k 2) }
-{
-    log_head::is_still(
-        log_list::value(list, k, 0),
-        log_list::value(list, k, 1),
-        log_list::value(list, k, 2),
-    )
-}
-
 // How many bytes block k takes.
 fn block_size(list: &[i32], k: usize) -> usize
     requires inside { (3 * k + 3 ≤ length list.now) × (k < 1048576) }
     requires entry { Entry (value_of list.now k 0) (value_of list.now k 1) (value_of list.now k 2) }
     ensures { (result ≡ length (block_bytes list.now k)) × (result ≤ 7) }
 {
+<<<<<<< HEAD
     let distortion = log_list::value(list, k, 2).unsigned_abs();
     let size = log_command::size_by(log_command::block_number(distortion));
     if still_at(list, k) {
+=======
+    let e = log_list::entry_at(list, k);
+    if log_head::is_still(e.dy, e.dx, e.distortion) {
+>>>>>>> ae97d4cb935f9dc8286121158ae5944abd3aabb0
         return log_command::STILL_SIZE;
     }
-    size
+    log_command::size_by(log_command::block_number(signed::magnitude(e.distortion)))
 }
 
 // How many bytes the log takes.
@@ -147,16 +140,11 @@ fn put_block(out: &mut [u8], at: usize, list: &[i32], k: usize) -> usize
     requires entry { Entry (value_of list.now k 0) (value_of list.now k 1) (value_of list.now k 2) }
     ensures { Put out.old at (block_bytes list.now k) out.new result × (result ≤ at + 7) }
 {
-    if still_at(list, k) {
+    let e = log_list::entry_at(list, k);
+    if log_head::is_still(e.dy, e.dx, e.distortion) {
         return put::put_byte(out, at, log_command::STILL);
     }
-    put_numbers(
-        out,
-        at,
-        log_list::value(list, k, 0),
-        log_list::value(list, k, 1),
-        log_list::value(list, k, 2),
-    )
+    put_numbers(out, at, e.dy, e.dx, e.distortion)
 }
 
 // All blocks.
