@@ -12,14 +12,10 @@ use Rattle.base.specs.FirstWrong.{first_wrong}
 use Rattle.refusals.specs.Refusals.{unless, first_refusal}
 use Rattle.log_head.specs.declared.Head.{Head}
 use Rattle.log_head.specs.Heads.{head_refusal, head_blocks, entry_ok}
-<<<<<<< HEAD
 use Rattle.refusals.specs.declared.Refusal.{Refusal}
 use Rattle.refusals.specs.Numbers.{number_of}
-use Rattle.log_list.specs.declared.Fault.{Fault}
-=======
 use Rattle.log_list.specs.declared.Entry.{Entry}
-use Rattle.log_list.specs.declared.Verdict.{Verdict}
->>>>>>> ae97d4cb935f9dc8286121158ae5944abd3aabb0
+use Rattle.log_list.specs.declared.Fault.{Fault}
 
 abbrev pub value_of : List ℤ → ℕ → ℕ → ℤ
 value_of list k i = get_or list (3 * k + i) (pos 0)

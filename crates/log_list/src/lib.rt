@@ -2,18 +2,11 @@
 
 #![tactic(auto)]
 
-<<<<<<< HEAD
-ghost use Rattle.std.specs.Prelude.{◌≡◌, ◌+◌, ◌*◌, ◌<◌, length, unwrap_or, IfSome};
+ghost use Rattle.std.specs.Prelude.{◌≡◌, ◌+◌, ◌*◌, ◌≤◌, ◌<◌, length, unwrap_or, IfSome};
 ghost use Rattle.base.specs.FirstWrong.{first_wrong};
-ghost use Rattle.log_head.specs.Heads.{head_blocks};
-ghost use Rattle.log_list.specs.Listed.{value_of, list_refusal, listed_ok, Writable, unplaced, verdict_of, list_verdict};
 ghost use Rattle.refusals.specs.Numbers.{number_in};
-=======
-ghost use Rattle.std.specs.Prelude.{◌≡◌, ◌+◌, ◌*◌, ◌≤◌, ◌<◌, length};
-ghost use Rattle.base.specs.FirstWrong.{first_wrong};
 ghost use Rattle.log_head.specs.Heads.{head_blocks};
-ghost use Rattle.log_list.specs.Listed.{entry_of, list_refusal, listed_ok, Writable, list_verdict};
->>>>>>> ae97d4cb935f9dc8286121158ae5944abd3aabb0
+ghost use Rattle.log_list.specs.Listed.{entry_of, list_refusal, listed_ok, Writable, unplaced, verdict_of, list_verdict};
 
 use log_head::Head;
 use refusals::Refusal;
@@ -25,7 +18,6 @@ pub struct Fault {
     pub place: usize,
 }
 
-<<<<<<< HEAD
 impl From<Refusal> for Fault {
     ghost from_gives = { λ r fault. fault ≡ unplaced r };
 
@@ -34,10 +26,6 @@ impl From<Refusal> for Fault {
     }
 }
 
-// The first of 1 3 4 51 5 10 that applies, if one does; the list by its length.
-fn list_refusal(head: Head, list: usize) -> Result<(), Refusal>
-    ensures { number_in result ≡ list_refusal head list }
-=======
 // A block's three numbers, as a list has them.
 #[derive(Clone, Copy)]
 pub struct Entry {
@@ -46,10 +34,9 @@ pub struct Entry {
     pub distortion: i32,
 }
 
-// The first of 1 3 4 51 5 10 that applies, or 0; the list by its length.
-fn list_refusal(head: Head, list: usize) -> u32
-    ensures { result ≡ list_refusal head list }
->>>>>>> ae97d4cb935f9dc8286121158ae5944abd3aabb0
+// The first of 1 3 4 51 5 10 that applies, if one does; the list by its length.
+fn list_refusal(head: Head, list: usize) -> Result<(), Refusal>
+    ensures { number_in result ≡ list_refusal head list }
 {
     log_head::head_refusal(head)?;
     if list < 3 * log_head::head_blocks(head) {

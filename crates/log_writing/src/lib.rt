@@ -42,17 +42,11 @@ fn block_size(list: &[i32], k: usize) -> usize
     requires entry { Entry (value_of list.now k 0) (value_of list.now k 1) (value_of list.now k 2) }
     ensures { (result ≡ length (block_bytes list.now k)) × (result ≤ 7) }
 {
-<<<<<<< HEAD
-    let distortion = log_list::value(list, k, 2).unsigned_abs();
-    let size = log_command::size_by(log_command::block_number(distortion));
-    if still_at(list, k) {
-=======
     let e = log_list::entry_at(list, k);
     if log_head::is_still(e.dy, e.dx, e.distortion) {
->>>>>>> ae97d4cb935f9dc8286121158ae5944abd3aabb0
         return log_command::STILL_SIZE;
     }
-    log_command::size_by(log_command::block_number(signed::magnitude(e.distortion)))
+    log_command::size_by(log_command::block_number(e.distortion.unsigned_abs()))
 }
 
 // How many bytes the log takes.
