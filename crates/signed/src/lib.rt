@@ -101,7 +101,7 @@ pub fn minus_travel(y: i32, d: i32) -> Option<i32>
 pub fn from_byte(b: u8) -> i32
     ensures { result ≡ signed_byte b }
 {
-    if b < 128 { b as i32 } else { (b as i32) - 256 }
+    i32::from(b.cast_signed())
 }
 
 // The two's complement of d in a byte.
@@ -109,5 +109,5 @@ pub fn to_byte(d: i32) -> u8
     requires { nat_abs d < 128 }
     ensures { result ≡ byte_of d }
 {
-    if d < 0 { (d + 256) as u8 } else { d as u8 }
+    (d as i8).cast_unsigned()
 }

@@ -1,27 +1,17 @@
 -- `to_byte`: d itself where it is not below 0, else d + 256; both are bytes.
-use native.Mathlib.Omega.{arith}
-use lib.IntN.{pos}
+use mathlib.Core.Path.{◌≡◌, refl, ◌∙◌}
+use borrow.Author.Rules.{rules}
+use lib.IntN.{ℤ, pos, negsuc}
+use mir.Syntax.{w8}
+use mir.Val.{of_z}
 use mir.Facts.{to_z-of_z}
-use Rattle.signed.specs.Int.{ints, added}
-use Rattle.signed.proofs.Machine.{read}
-use Rattle.signed.specs.Values.{byte_up, byte_down}
+use Rattle.signed.specs.Values.{byte_of}
 use Rattle.signed.proofs.to_byte.Goals as goal
 
-pub overflow_add-result : goal.overflow_add-result
-overflow_add-result c = rw (to_z-of_z c.before.ranges.d) (omega (arith, added c.before.args.d (pos 256)))
+byte : (d : ℤ) → of_z w8 d ≡ byte_of d
+unfolding byte_of
+byte (pos n) = refl
+byte (negsuc n) = refl
 
-pub overflow_cast-result : goal.overflow_cast-result
-overflow_cast-result c = rw (to_z-of_z (overflow_add-result c), to_z-of_z c.before.ranges.d) (omega (arith, ints, read c.before.ranges.d, added c.before.args.d (pos 256)))
-
-pub overflow_cast-result-else-d-lt0 : goal.overflow_cast-result-else-d-lt0
-overflow_cast-result-else-d-lt0 c = rw (to_z-of_z c.before.ranges.d) (omega (arith, ints, read c.before.ranges.d))
-
-pub returns-then-d-lt0 : goal.returns-then-d-lt0
-returns-then-d-lt0 c =
-    rw (to_z-of_z (overflow_add-result c), to_z-of_z c.before.ranges.d, byte_down c.before.args.d (omega (arith, ints, read c.before.ranges.d)))
-    (omega (arith, ints, read c.before.ranges.d, added c.before.args.d (pos 256)))
-
-pub returns-else-d-lt0 : goal.returns-else-d-lt0
-returns-else-d-lt0 c =
-    rw (to_z-of_z c.before.ranges.d, byte_up c.before.args.d (omega (arith, ints, read c.before.ranges.d)))
-    (omega (arith, ints, read c.before.ranges.d))
+pub returns : goal.returns
+returns c = (rw (to_z-of_z c.ranges.d, to_z-of_z {w = w8} {z = c.args.d} (search rules)) at c.cast_unsigned.ensures) ∙ byte c.args.d
