@@ -2,7 +2,7 @@
 
 #![tactic(auto)]
 
-ghost use Rattle.std.specs.Prelude.{◌≡◌, ◌*◌, ◌≤◌, ◌<◌, min};
+ghost use Rattle.std.specs.Prelude.{◌≡◌, ◌*◌, ◌≤◌, ◌<◌};
 ghost use Rattle.base.specs.Lists.{list_to};
 ghost use Rattle.signed.specs.Values.{abs_diff};
 ghost use Rattle.reach.specs.Reach.{Standing, reach};
@@ -13,13 +13,6 @@ use frame::{Region, SearchBlock};
 // The rows or columns of window 16.
 pub const SIDE: usize = 33;
 
-// The lesser of the two.
-fn lesser(a: usize, b: usize) -> usize
-    ensures { result ≡ min a b }
-{
-    if a < b { a } else { b }
-}
-
 // The rows and columns of window 16 whose vectors are the block's candidates.
 pub fn reach(b: SearchBlock) -> Region
     requires { Standing b }
@@ -29,10 +22,10 @@ pub fn reach(b: SearchBlock) -> Region
     let y = b.y;
     let x = b.x;
     let w = b.w;
-    let up = lesser(y, w);
-    let down = lesser(w, s.height - s.n - y);
-    let back = lesser(x, w);
-    let on = lesser(w, s.width - s.n - x);
+    let up = y.min(w);
+    let down = w.min(s.height - s.n - y);
+    let back = x.min(w);
+    let on = w.min(s.width - s.n - x);
     Region {
         top: 16 - up,
         left: 16 - back,

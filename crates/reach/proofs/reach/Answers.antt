@@ -8,7 +8,7 @@ use mir.Val.{Fits}
 use Rattle.frame.specs.declared.SearchBlock.{SearchBlock}
 use Rattle.reach.specs.Reach.{reach}
 use Rattle.reach.proofs.reach.Goals as goal
-use Rattle.reach.proofs.reach.Goals.{After-lesser-on}
+use Rattle.reach.proofs.reach.Goals.{After-min-on}
 
 at_most : (r a w : ℕ) → r ≡ min a w → w ≤ 16 → r ≤ 16
 at_most r a w e h = omega arith
@@ -29,18 +29,18 @@ unfolding reach
 region-is b up down back on e f g h = rw (e, f, g, h)
 
 -- how far the candidates go from (0,0): up, down, back and on
-module _ (c : After-lesser-on) where
-  up-most : c.before.lesser-up.result ≤ 16
-  up-most = at_most _ _ _ c.before.lesser-up.ensures (c.before.before.before).requires.window
+module _ (c : After-min-on) where
+  up-most : c.before.min-up.result ≤ 16
+  up-most = at_most _ _ _ c.before.min-up.ensures (c.before.before.before).requires.window
 
-  down-most : c.before.lesser-down.result ≤ 16
-  down-most = at-most-first _ _ _ c.before.lesser-down.ensures (c.before.before.before).requires.window
+  down-most : c.before.min-down.result ≤ 16
+  down-most = at-most-first _ _ _ c.before.min-down.ensures (c.before.before.before).requires.window
 
-  back-most : c.before.lesser-back.result ≤ 16
-  back-most = at_most _ _ _ c.before.lesser-back.ensures (c.before.before.before).requires.window
+  back-most : c.before.min-back.result ≤ 16
+  back-most = at_most _ _ _ c.before.min-back.ensures (c.before.before.before).requires.window
 
-  on-most : c.lesser-on.result ≤ 16
-  on-most = at-most-first _ _ _ c.lesser-on.ensures (c.before.before.before).requires.window
+  on-most : c.min-on.result ≤ 16
+  on-most = at-most-first _ _ _ c.min-on.ensures (c.before.before.before).requires.window
 
 pub overflow_sub-result : goal.overflow_sub-result
 overflow_sub-result c = up-most c
@@ -62,5 +62,5 @@ overflow_add-result-4 c = fits-three _ _ _ (back-most c) (on-most c) (search rul
 
 pub returns : goal.returns
 returns c =
-    region-is (c.before.before.before).args.b _ _ _ _ c.lesser-up.ensures c.lesser-down.ensures c.lesser-back.ensures
-    c.lesser-on.ensures
+    region-is (c.before.before.before).args.b _ _ _ _ c.min-up.ensures c.min-down.ensures c.min-back.ensures
+    c.min-on.ensures
