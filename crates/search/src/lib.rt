@@ -39,6 +39,15 @@ pub fn past(d: i32, at: usize, from: usize) -> usize
     signed::biased(d) + at - (16 + from)
 }
 
+// What a search goes through: two lent frames and a block of the newer one, for which it is ready.
+#[derive(Clone, Copy)]
+pub struct Hunt<'a> {
+    pub older: &'a [u8],
+    pub newer: &'a [u8],
+    pub block: SearchBlock,
+    ghost ready: { Ready older.now newer.now block },
+}
+
 // The distortion of a candidate under a ceiling, or nothing where a vector is none.
 #[derive(Clone, Copy)]
 pub enum MeasuredCandidate {
@@ -48,24 +57,17 @@ pub enum MeasuredCandidate {
 }
 
 // The distortion of (dy, dx) under the ceiling, where it is a candidate.
-pub fn measure_candidate(
-    older: &[u8],
-    newer: &[u8],
-    b: SearchBlock,
-    dy: i32,
-    dx: i32,
-    ceiling: u32,
-) -> MeasuredCandidate
-    requires { Ready older.now newer.now b }
-    ensures { result ≡ measure_candidate (target_of older.now newer.now b) ceiling (vec dy dx) }
+pub fn measure_candidate(hunt: Hunt, dy: i32, dx: i32, ceiling: u32) -> MeasuredCandidate
+    ensures { result ≡ measure_candidate (target_of hunt.entry.older.now hunt.entry.newer.now hunt.entry.block) ceiling (vec dy dx) }
 {
+    let b = hunt.block;
     let s = b.setting;
     let y = b.y;
     let x = b.x;
     let Some((r, c)) = frame::older_at(s, b.w, y, x, dy, dx) else {
         return MeasuredCandidate::NotCandidate;
     };
-    let Some(d) = distortion::block_up_to(older, newer, s, y, x, r, c, ceiling) else {
+    let Some(d) = distortion::block_up_to(hunt.older, hunt.newer, s, y, x, r, c, ceiling) else {
         return MeasuredCandidate::OverCeiling;
     };
     MeasuredCandidate::Distortion(d)

@@ -12,15 +12,15 @@ use Rattle.search.proofs.measure_candidate.Goals.{After-block_up_to, After-older
 
 -- what the call for the older block answers
 found : (o : After-older_at) →
-    o.older_at.result ≡ older_at o.args.b.setting o.args.b.w o.args.b.y o.args.b.x (vec o.args.dy o.args.dx)
+    o.older_at.result ≡ older_at o.args.hunt.block.setting o.args.hunt.block.w o.args.hunt.block.y o.args.hunt.block.x (vec o.args.dy o.args.dx)
 found o =
     rw (to_z-of_z o.ranges.dy, to_z-of_z o.ranges.dx) at o.older_at.ensures
 
 at-candidate : (k : In-Some) →
-    T (candidate k.args.b.setting k.args.b.w k.args.b.y k.args.b.x (vec k.args.dy k.args.dx))
-    × (k.in-Some.r ≡ older_row k.args.b.y (vec k.args.dy k.args.dx))
-    × (k.in-Some.c ≡ older_column k.args.b.x (vec k.args.dy k.args.dx))
-at-candidate k = older_is _ _ _ _ _ _ _ (sym (let found : k.older_at.result ≡ older_at k.args.b.setting k.args.b.w k.args.b.y k.args.b.x (vec k.args.dy k.args.dx) = rw (to_z-of_z k.ranges.dy, to_z-of_z k.ranges.dx) at k.older_at.ensures in found) ∙ k.in-Some.is)
+    T (candidate k.args.hunt.block.setting k.args.hunt.block.w k.args.hunt.block.y k.args.hunt.block.x (vec k.args.dy k.args.dx))
+    × (k.in-Some.r ≡ older_row k.args.hunt.block.y (vec k.args.dy k.args.dx))
+    × (k.in-Some.c ≡ older_column k.args.hunt.block.x (vec k.args.dy k.args.dx))
+at-candidate k = older_is _ _ _ _ _ _ _ (sym (let found : k.older_at.result ≡ older_at k.args.hunt.block.setting k.args.hunt.block.w k.args.hunt.block.y k.args.hunt.block.x (vec k.args.dy k.args.dx) = rw (to_z-of_z k.ranges.dy, to_z-of_z k.ranges.dx) at k.older_at.ensures in found) ∙ k.in-Some.is)
 
 pub returns-in_default : goal.returns-in_default
 unfolding measure_candidate
@@ -29,19 +29,19 @@ returns-in_default c =
 
 pub block_up_to-requires : goal.block_up_to-requires
 block_up_to-requires c =
-    let h = at-candidate c in
-    let i = candidate_older c.args.b.setting _ c.args.b.y c.args.b.x (vec c.args.dy c.args.dx) h.0 in
-    record { placed = c.requires.placed; down = rw h.1 i.down; across = rw h.2 i.across }
+    let h = at-candidate (goal.at.block_up_to-requires c).In-Some in
+    let i = candidate_older c.args.hunt.block.setting _ c.args.hunt.block.y c.args.hunt.block.x (vec c.args.dy c.args.dx) h.0 in
+    record { placed = c.args.hunt.ready.placed; down = rw h.1 i.down; across = rw h.2 i.across }
 
 -- the candidate's answer is what its block answers
 answer : (u : After-block_up_to) →
-    measure_candidate (target_of u.args.older.now u.args.newer.now u.args.b) u.args.ceiling (vec u.args.dy u.args.dx) ≡ of_candidate u.block_up_to.result
+    measure_candidate (target_of u.args.hunt.older.now u.args.hunt.newer.now u.args.hunt.block) u.args.ceiling (vec u.args.dy u.args.dx) ≡ of_candidate u.block_up_to.result
 unfolding measure_candidate distortion
 answer u =
-    let h = (let at-candidate : T (candidate u.args.b.setting u.args.b.w u.args.b.y u.args.b.x (vec u.args.dy u.args.dx))
-    × (u.in-Some.r ≡ older_row u.args.b.y (vec u.args.dy u.args.dx))
-    × (u.in-Some.c ≡ older_column u.args.b.x (vec u.args.dy u.args.dx)) = older_is _ _ _ _ _ _ _ (sym (let found : u.older_at.result ≡ older_at u.args.b.setting u.args.b.w u.args.b.y u.args.b.x (vec u.args.dy u.args.dx) = rw (to_z-of_z u.ranges.dy, to_z-of_z u.ranges.dx) at u.older_at.ensures in found) ∙ u.in-Some.is) in at-candidate) in
-    let yes = T_true (candidate u.args.b.setting u.args.b.w u.args.b.y u.args.b.x (vec u.args.dy u.args.dx)) h.0 in
+    let h = (let at-candidate : T (candidate u.args.hunt.block.setting u.args.hunt.block.w u.args.hunt.block.y u.args.hunt.block.x (vec u.args.dy u.args.dx))
+    × (u.in-Some.r ≡ older_row u.args.hunt.block.y (vec u.args.dy u.args.dx))
+    × (u.in-Some.c ≡ older_column u.args.hunt.block.x (vec u.args.dy u.args.dx)) = older_is _ _ _ _ _ _ _ (sym (let found : u.older_at.result ≡ older_at u.args.hunt.block.setting u.args.hunt.block.w u.args.hunt.block.y u.args.hunt.block.x (vec u.args.dy u.args.dx) = rw (to_z-of_z u.ranges.dy, to_z-of_z u.ranges.dx) at u.older_at.ensures in found) ∙ u.in-Some.is) in at-candidate) in
+    let yes = T_true (candidate u.args.hunt.block.setting u.args.hunt.block.w u.args.hunt.block.y u.args.hunt.block.x (vec u.args.dy u.args.dx)) h.0 in
     rw (u.block_up_to.ensures, h.1, h.2, yes)
 
 pub returns-in_default-block_up_to : goal.returns-in_default-block_up_to
