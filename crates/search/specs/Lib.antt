@@ -1,3 +1,4 @@
+pub mod Matchings
 pub mod Target
 pub mod SearchResult
 pub mod Exhaustive

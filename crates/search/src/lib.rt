@@ -6,7 +6,8 @@ ghost use Rattle.std.specs.Prelude.{◌≡◌, ◌-◌, ◌≤◌, pos, ◌+ℤ�
 ghost use Rattle.signed.specs.Int.{up};
 ghost use Rattle.order.specs.Vectors.{vec};
 ghost use Rattle.search.specs.SearchResult.{only_at_one};
-ghost use Rattle.search.specs.Target.{Ready, Past, target_of, measure_candidate};
+ghost use Rattle.search.specs.Matchings.{target_in};
+ghost use Rattle.search.specs.Target.{Ready, Past, measure_candidate};
 
 use frame::SearchBlock;
 
@@ -39,9 +40,9 @@ pub fn past(d: i32, at: usize, from: usize) -> usize
     signed::biased(d) + at - (16 + from)
 }
 
-// What a search goes through: two lent frames and a block of the newer one, for which it is ready.
+// A block matching: two lent frames, and a block of the newer one that a search is ready for.
 #[derive(Clone, Copy)]
-pub struct Hunt<'a> {
+pub struct Matching<'a> {
     pub older: &'a [u8],
     pub newer: &'a [u8],
     pub block: SearchBlock,
@@ -57,17 +58,17 @@ pub enum MeasuredCandidate {
 }
 
 // The distortion of (dy, dx) under the ceiling, where it is a candidate.
-pub fn measure_candidate(hunt: Hunt, dy: i32, dx: i32, ceiling: u32) -> MeasuredCandidate
-    ensures { result ≡ measure_candidate (target_of hunt.entry.older.now hunt.entry.newer.now hunt.entry.block) ceiling (vec dy dx) }
+pub fn measure_candidate(matching: Matching, dy: i32, dx: i32, ceiling: u32) -> MeasuredCandidate
+    ensures { result ≡ measure_candidate (target_in matching.entry) ceiling (vec dy dx) }
 {
-    let b = hunt.block;
+    let b = matching.block;
     let s = b.setting;
     let y = b.y;
     let x = b.x;
     let Some((r, c)) = frame::older_at(s, b.w, y, x, dy, dx) else {
         return MeasuredCandidate::NotCandidate;
     };
-    let Some(d) = distortion::block_up_to(hunt.older, hunt.newer, s, y, x, r, c, ceiling) else {
+    let Some(d) = distortion::block_up_to(matching.older, matching.newer, s, y, x, r, c, ceiling) else {
         return MeasuredCandidate::OverCeiling;
     };
     MeasuredCandidate::Distortion(d)

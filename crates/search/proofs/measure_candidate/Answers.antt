@@ -12,15 +12,15 @@ use Rattle.search.proofs.measure_candidate.Goals.{After-block_up_to, After-older
 
 -- what the call for the older block answers
 found : (o : After-older_at) →
-    o.older_at.result ≡ older_at o.args.hunt.block.setting o.args.hunt.block.w o.args.hunt.block.y o.args.hunt.block.x (vec o.args.dy o.args.dx)
+    o.older_at.result ≡ older_at o.args.matching.block.setting o.args.matching.block.w o.args.matching.block.y o.args.matching.block.x (vec o.args.dy o.args.dx)
 found o =
     rw (to_z-of_z o.ranges.dy, to_z-of_z o.ranges.dx) at o.older_at.ensures
 
 at-candidate : (k : In-Some) →
-    T (candidate k.args.hunt.block.setting k.args.hunt.block.w k.args.hunt.block.y k.args.hunt.block.x (vec k.args.dy k.args.dx))
-    × (k.in-Some.r ≡ older_row k.args.hunt.block.y (vec k.args.dy k.args.dx))
-    × (k.in-Some.c ≡ older_column k.args.hunt.block.x (vec k.args.dy k.args.dx))
-at-candidate k = older_is _ _ _ _ _ _ _ (sym (let found : k.older_at.result ≡ older_at k.args.hunt.block.setting k.args.hunt.block.w k.args.hunt.block.y k.args.hunt.block.x (vec k.args.dy k.args.dx) = rw (to_z-of_z k.ranges.dy, to_z-of_z k.ranges.dx) at k.older_at.ensures in found) ∙ k.in-Some.is)
+    T (candidate k.args.matching.block.setting k.args.matching.block.w k.args.matching.block.y k.args.matching.block.x (vec k.args.dy k.args.dx))
+    × (k.in-Some.r ≡ older_row k.args.matching.block.y (vec k.args.dy k.args.dx))
+    × (k.in-Some.c ≡ older_column k.args.matching.block.x (vec k.args.dy k.args.dx))
+at-candidate k = older_is _ _ _ _ _ _ _ (sym (let found : k.older_at.result ≡ older_at k.args.matching.block.setting k.args.matching.block.w k.args.matching.block.y k.args.matching.block.x (vec k.args.dy k.args.dx) = rw (to_z-of_z k.ranges.dy, to_z-of_z k.ranges.dx) at k.older_at.ensures in found) ∙ k.in-Some.is)
 
 pub returns-in_default : goal.returns-in_default
 unfolding measure_candidate
@@ -30,18 +30,18 @@ returns-in_default c =
 pub block_up_to-requires : goal.block_up_to-requires
 block_up_to-requires c =
     let h = at-candidate (goal.at.block_up_to-requires c).In-Some in
-    let i = candidate_older c.args.hunt.block.setting _ c.args.hunt.block.y c.args.hunt.block.x (vec c.args.dy c.args.dx) h.0 in
-    record { placed = c.args.hunt.ready.placed; down = rw h.1 i.down; across = rw h.2 i.across }
+    let i = candidate_older c.args.matching.block.setting _ c.args.matching.block.y c.args.matching.block.x (vec c.args.dy c.args.dx) h.0 in
+    record { placed = c.args.matching.ready.placed; down = rw h.1 i.down; across = rw h.2 i.across }
 
 -- the candidate's answer is what its block answers
 answer : (u : After-block_up_to) →
-    measure_candidate (target_of u.args.hunt.older.now u.args.hunt.newer.now u.args.hunt.block) u.args.ceiling (vec u.args.dy u.args.dx) ≡ of_candidate u.block_up_to.result
+    measure_candidate (target_of u.args.matching.older.now u.args.matching.newer.now u.args.matching.block) u.args.ceiling (vec u.args.dy u.args.dx) ≡ of_candidate u.block_up_to.result
 unfolding measure_candidate distortion
 answer u =
-    let h = (let at-candidate : T (candidate u.args.hunt.block.setting u.args.hunt.block.w u.args.hunt.block.y u.args.hunt.block.x (vec u.args.dy u.args.dx))
-    × (u.in-Some.r ≡ older_row u.args.hunt.block.y (vec u.args.dy u.args.dx))
-    × (u.in-Some.c ≡ older_column u.args.hunt.block.x (vec u.args.dy u.args.dx)) = older_is _ _ _ _ _ _ _ (sym (let found : u.older_at.result ≡ older_at u.args.hunt.block.setting u.args.hunt.block.w u.args.hunt.block.y u.args.hunt.block.x (vec u.args.dy u.args.dx) = rw (to_z-of_z u.ranges.dy, to_z-of_z u.ranges.dx) at u.older_at.ensures in found) ∙ u.in-Some.is) in at-candidate) in
-    let yes = T_true (candidate u.args.hunt.block.setting u.args.hunt.block.w u.args.hunt.block.y u.args.hunt.block.x (vec u.args.dy u.args.dx)) h.0 in
+    let h = (let at-candidate : T (candidate u.args.matching.block.setting u.args.matching.block.w u.args.matching.block.y u.args.matching.block.x (vec u.args.dy u.args.dx))
+    × (u.in-Some.r ≡ older_row u.args.matching.block.y (vec u.args.dy u.args.dx))
+    × (u.in-Some.c ≡ older_column u.args.matching.block.x (vec u.args.dy u.args.dx)) = older_is _ _ _ _ _ _ _ (sym (let found : u.older_at.result ≡ older_at u.args.matching.block.setting u.args.matching.block.w u.args.matching.block.y u.args.matching.block.x (vec u.args.dy u.args.dx) = rw (to_z-of_z u.ranges.dy, to_z-of_z u.ranges.dx) at u.older_at.ensures in found) ∙ u.in-Some.is) in at-candidate) in
+    let yes = T_true (candidate u.args.matching.block.setting u.args.matching.block.w u.args.matching.block.y u.args.matching.block.x (vec u.args.dy u.args.dx)) h.0 in
     rw (u.block_up_to.ensures, h.1, h.2, yes)
 
 pub returns-in_default-block_up_to : goal.returns-in_default-block_up_to
