@@ -10,7 +10,6 @@ ghost use Rattle.refusals.specs.Refusals.{block_size_ok};
 ghost use Rattle.search.specs.Target.{Ready};
 ghost use Rattle.reach.specs.Reach.{Standing, reach};
 ghost use Rattle.boxes.specs.Boxes.{doubled, Cut, area, span_of, level_of, whole_of, Levels, Boxed};
-ghost use Rattle.boxes.specs.Runs.{carried};
 
 use frame::{Region, SearchBlock};
 
