@@ -12,7 +12,13 @@ use refusals::{Refusal, Request};
 use search::SearchResult;
 
 // The first of 1 2 3 4 51 5 6 7 that applies, if one does.
-pub fn search_refusal(older: usize, newer: usize, q: Request, y: usize, x: usize) -> Result<(), Refusal>
+pub fn search_refusal(
+    older: usize,
+    newer: usize,
+    q: Request,
+    y: usize,
+    x: usize,
+) -> Result<(), Refusal>
     ensures { number_in result ≡ search_refusal older newer q y x }
 {
     refusals::request_refusal(older, newer, q)?;

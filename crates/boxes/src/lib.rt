@@ -5,11 +5,11 @@
 
 ghost use Rattle.std.specs.Prelude.{◌≡◌, ℕ, ◌+◌, ◌-◌, ◌*◌, ◌≤◌, ◌<◌, T, length, get_or};
 ghost use Rattle.base.specs.Lists.{fill_to};
+ghost use Rattle.boxes.specs.Runs.{carried};
 ghost use Rattle.refusals.specs.Refusals.{block_size_ok};
 ghost use Rattle.search.specs.Target.{Ready};
 ghost use Rattle.reach.specs.Reach.{Standing, reach};
 ghost use Rattle.boxes.specs.Boxes.{doubled, Cut, area, span_of, level_of, whole_of, Levels, Boxed};
-ghost use Rattle.boxes.specs.Runs.{carried};
 
 use frame::{Region, SearchBlock};
 

@@ -134,9 +134,13 @@ pub fn field(
     ensures { field_result result list.new table.new
         ≡ field older.now newer.now q list.old table.old }
 {
-    if let Err(refusal) =
-        field_rules::field_refusal(older.len(), newer.len(), q, list.len(), table.len())
-    {
+    if let Err(refusal) = field_rules::field_refusal(
+        older.len(),
+        newer.len(),
+        q,
+        list.len(),
+        table.len(),
+    ) {
         return refused_field(refusal);
     }
     fill(older, newer, q, list, table)

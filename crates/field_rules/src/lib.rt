@@ -9,7 +9,13 @@ ghost use Rattle.field_rules.specs.Rules.{field_refusal};
 use refusals::{Refusal, Request};
 
 // The first of 1 2 3 4 51 5 6 9 10 that applies, if one does; list and table by their lengths.
-pub fn field_refusal(older: usize, newer: usize, q: Request, list: usize, table: usize) -> Result<(), Refusal>
+pub fn field_refusal(
+    older: usize,
+    newer: usize,
+    q: Request,
+    list: usize,
+    table: usize,
+) -> Result<(), Refusal>
     ensures { number_in result ≡ field_refusal older newer q list table }
 {
     refusals::request_refusal(older, newer, q)?;

@@ -104,7 +104,14 @@ fn part_at(at: usize, d: i32, w: usize, n: usize, side: usize) -> Option<usize>
 }
 
 // Row and column of the older block that (dy, dx) compares with the newer block at row y, column x, where (dy, dx) is a candidate for window w.
-pub fn older_at(s: Setting, w: usize, y: usize, x: usize, dy: i32, dx: i32) -> Option<(usize, usize)>
+pub fn older_at(
+    s: Setting,
+    w: usize,
+    y: usize,
+    x: usize,
+    dy: i32,
+    dx: i32,
+) -> Option<(usize, usize)>
     ensures { result ≡ older_at s w y x (vec dy dx) }
 {
     let row = part_at(y, dy, w, s.n, s.height)?;

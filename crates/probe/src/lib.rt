@@ -112,10 +112,7 @@ fn is_at(y: usize, x: usize, cy: usize, cx: usize, dy: i32, dx: i32) -> bool
     requires { (y ≤ 32) × (x ≤ 32) × (cy ≤ 32) × (cx ≤ 32) }
     ensures { result ≡ same? (point y x) (plus (point cy cx) (vec dy dx)) }
 {
-    if is_from(y, cy, dy) {
-        return is_from(x, cx, dx);
-    }
-    false
+    is_from(y, cy, dy) && is_from(x, cx, dx)
 }
 
 // The point (y, x) is one of the pattern around (cy, cx).

@@ -15,7 +15,6 @@ use borrow.Author.Tests.{lt-ltb, le-leb, lt-leb, ne_eqb}
 use lib.Dec.{T, eqb, leb, leb→le}
 use lib.Pow.{pow-lt}
 use lib.ListN.{length, get_or, take}
-use Rattle.base.specs.Tests.{true_T}
 use Rattle.base.specs.Least.{◌∈◌}
 use Rattle.order.specs.declared.Vector.{Vector}
 use Rattle.frame.specs.declared.Region.{Region}

@@ -16,7 +16,7 @@
 --   next_of      the resolution after m, with so many candidates: 1 where one remains
 --   first_slot   where the count at N stands among the six: they end with that, those at the resolutions after N and the one at m = 1
 --   Roomy       so many keys are room for the list: for few, and for all candidates where distances at N have no 32 bits
-use Rattle.std.specs.Prelude.{ℕ, ◌+◌, ◌-◌, ◌*◌, ◌/◌, ◌^◌, ◌≤◌, ◌<◌, min, ◌≡◌, Bool, true, false, cond, ◌||◌, ◌&&◌, List, ◌++◌, T, eqb, leb, ltb, pos, length, take, replicate}
+use Rattle.std.specs.Prelude.{ℕ, ◌+◌, ◌-◌, ◌*◌, ◌/◌, ◌^◌, ◌≤◌, ◌<◌, min, ◌≡◌, Bool, false, cond, ◌||◌, ◌&&◌, List, ◌++◌, eqb, leb, ltb, pos, length, take, replicate}
 use Rattle.base.specs.Least.{◌∈◌}
 use Rattle.measures.specs.Measures.{measure_of}
 use Rattle.order.specs.declared.Vector.{Vector}

@@ -35,51 +35,49 @@ fn run_at<const COUNT: usize>(boxes: &[u16], at: usize, m: usize, own: &[u16; CO
     sum
 }
 
-// Adds that of the older blocks of all candidates, or begins with it.
-fn add_run<const COUNT: usize>(
+// Adds that of the older blocks of all candidates, or begins with it, where the numbers start afresh.
+fn add_run<const COUNT: usize, const FRESH: bool>(
     boxes: &[u16],
     at: usize,
     own: usize,
     m: usize,
-    fresh: bool,
     span: usize,
     numbers: &mut [u32; PLACES],
 )
     requires { (span ≤ places) × (length numbers.old ≡ places) × (COUNT ≤ 4) × (0 < COUNT) × Inside boxes.now at own m COUNT span
-        × ((t : ℕ) → t < span → carried fresh (get_or numbers.old t 0) + row_squares boxes.now (at + t) own m COUNT ≤ 4294967295) }
+        × ((t : ℕ) → t < span → carried FRESH (get_or numbers.old t 0) + row_squares boxes.now (at + t) own m COUNT ≤ 4294967295) }
     ensures { numbers.new ≡ fill_to numbers.old 0
-        (λ t. carried fresh (get_or numbers.old t 0) + row_squares boxes.now (at + t) own m COUNT) span }
+        (λ t. carried FRESH (get_or numbers.old t 0) + row_squares boxes.now (at + t) own m COUNT) span }
 {
     let v = boxes::run_of_squares::<COUNT>(boxes, own, m);
     for t in 0..span {
-        numbers[t] = boxes::carried(fresh, numbers[t]) + run_at(boxes, at + t, m, &v);
+        numbers[t] = boxes::carried(FRESH, numbers[t]) + run_at(boxes, at + t, m, &v);
     }
 }
 
 // The same for k squares: for 1, 2 and 4 at a time the compiler makes code of its own.
-fn add_row(
+fn add_row<const FRESH: bool>(
     boxes: &[u16],
     at: usize,
     own: usize,
     m: usize,
     k: usize,
-    fresh: bool,
     span: usize,
     numbers: &mut [u32; PLACES],
 )
     requires { (span ≤ places) × (length numbers.old ≡ places) × Runs k × (0 < k) × Inside boxes.now at own m k span
-        × ((t : ℕ) → t < span → carried fresh (get_or numbers.old t 0) + row_squares boxes.now (at + t) own m k ≤ 4294967295) }
+        × ((t : ℕ) → t < span → carried FRESH (get_or numbers.old t 0) + row_squares boxes.now (at + t) own m k ≤ 4294967295) }
     ensures { numbers.new ≡ fill_to numbers.old 0
-        (λ t. carried fresh (get_or numbers.old t 0) + row_squares boxes.now (at + t) own m k) span }
+        (λ t. carried FRESH (get_or numbers.old t 0) + row_squares boxes.now (at + t) own m k) span }
 {
     match k {
-        1 => add_run::<1>(boxes, at, own, m, fresh, span, numbers),
-        2 => add_run::<2>(boxes, at, own, m, fresh, span, numbers),
+        1 => add_run::<1, FRESH>(boxes, at, own, m, span, numbers),
+        2 => add_run::<2, FRESH>(boxes, at, own, m, span, numbers),
         _ => {
-            add_run::<4>(boxes, at, own, m, fresh, span, numbers);
+            add_run::<4, FRESH>(boxes, at, own, m, span, numbers);
             for run in 1..k / 4 {
                 let q = 4 * run;
-                add_run::<4>(boxes, at + m * q, own + m * q, m, false, span, numbers);
+                add_run::<4, false>(boxes, at + m * q, own + m * q, m, span, numbers);
             }
         }
     }
@@ -91,17 +89,16 @@ fn add_rows(boxes: &[u16], l: Level, span: usize, numbers: &mut [u32; PLACES])
     ensures { numbers.new ≡ fill_to numbers.old 0
         (squares_of boxes.now l.at (l.pitch * l.m) l.own (l.n * l.m) l.m l.k) span }
 {
-    add_row(boxes, l.at, l.own, l.m, l.k, true, span, numbers);
+    add_row::<true>(boxes, l.at, l.own, l.m, l.k, span, numbers);
     let below = l.pitch * l.m;
     let under = l.n * l.m;
     for p in 1..l.k {
-        add_row(
+        add_row::<false>(
             boxes,
             l.at + p * below,
             l.own + p * under,
             l.m,
             l.k,
-            false,
             span,
             numbers,
         );

@@ -26,25 +26,25 @@ pub struct Request {
 // Why a call is turned away, by the paper's numbers: `number_of` of specs/Numbers.antt.
 #[derive(Clone, Copy, Debug, PartialEq, Eq)]
 pub enum Refusal {
-    Side,       // 1: width or height
-    Length,     // 2: of a frame
-    BlockSize,  // 3: N
-    Search,     // 4
-    Window,     // 5: w
-    Threshold,  // 6: T
-    Place,      // 7: of a block or a row view
-    Vector,     // 8: no candidate
-    Table,      // 9: too short
-    List,       // 10: too short
-    Homing,     // 11: the place
-    ViewSide,   // 12: of a row view
-    Entry,      // 16: a block in a list
-    Buffer,     // 19: shorter than the log
-    NotHomed,   // 31
-    NoStep,     // 32: the steps have ended, or the travels held are at fault
+    Side, // 1: width or height
+    Length, // 2: of a frame
+    BlockSize, // 3: N
+    Search, // 4
+    Window, // 5: w
+    Threshold, // 6: T
+    Place, // 7: of a block or a row view
+    Vector, // 8: no candidate
+    Table, // 9: too short
+    List, // 10: too short
+    Homing, // 11: the place
+    ViewSide, // 12: of a row view
+    Entry, // 16: a block in a list
+    Buffer, // 19: shorter than the log
+    NotHomed, // 31
+    NoStep, // 32: the steps have ended, or the travels held are at fault
     OutOfRange, // 33: the new place
-    Measure,    // 51
-    NoVoter,    // 52
+    Measure, // 51
+    NoVoter, // 52
 }
 
 impl From<Refusal> for u32 {

@@ -116,11 +116,7 @@ impl Track {
                     y: row,
                     x: column,
                     steps: self.steps + 1,
-                    recent: recent::recent_more(
-                        travels,
-                        -a.dy,
-                        -a.dx,
-                    ),
+                    recent: recent::recent_more(travels, -a.dy, -a.dx),
                 },
             },
         }
@@ -138,9 +134,13 @@ impl Track {
         ensures { step_result result list.new table.new
             ≡ track_step self older.now newer.now q list.old table.old }
     {
-        if let Err(refusal) =
-            self.step_refusal(older.len(), newer.len(), q, list.len(), table.len())
-        {
+        if let Err(refusal) = self.step_refusal(
+            older.len(),
+            newer.len(),
+            q,
+            list.len(),
+            table.len(),
+        ) {
             return unmoved(refusal, self);
         }
         let answer = field::field(older, newer, q, list, table);

@@ -1,6 +1,6 @@
 -- `fill`: the table of sums is made, and each block searched; then the reading is that of all votes.
 use borrow.Author.Rules.{rules}
-use mathlib.Core.Path.{refl, ◌∙◌}
+use mathlib.Core.Path.{◌∙◌}
 use mir.Facts.{to_z-of_z}
 use Rattle.frame.specs.Pictures.{pair_of}
 use Rattle.refusals.specs.Refusals.{setting_of, requested}
@@ -14,11 +14,6 @@ fill_table-requires c =
     let r = c.requires in
     let p = (requested _ _ _ r.fine).paired in
     record { wide = p.fitting.wide; high = p.fitting.high; whole = p.older_whole; room = r.table_room }
-
-pub fill_list-total-requires : goal.fill_list-total-requires
-fill_list-total-requires c =
-    let r = c.requires in
-    record { fine = r.fine; room = (r.list_room, refl) }
 
 pub returns : goal.returns
 returns c =

@@ -23,9 +23,6 @@ pub loop-k-init : goal.loop-k-init
 loop-k-init c =
     (c.block_count-n.ensures ∙ ap blocks c.setting_of-s.ensures, filled_first _ _ _ _ c.requires.room.1)
 
-pub search_at-f-requires : goal.search_at-f-requires
-search_at-f-requires c = (c.requires.fine, omega (arith, c.loop-k.invariant.0))
-
 -- a turn stores inside the list, and there are not too many
 room : (c : After-search_at-f) → let k = c.loop-k.k in
     (3 * k + 3 ≤ length c.args.list.now) × (k < 1048576)
@@ -37,13 +34,6 @@ room c =
 votes : (c : After-is_voter_at-voting) → let a = c.args in
     c.is_voter_at-voting.result ≡ voting (pair_of a.older.now a.newer.now (setting_of a.q)) c.loop-k.k
 votes c = rw c.setting_of-s.ensures at c.is_voter_at-voting.ensures
-
-pub overflow_mul-k : goal.overflow_mul-k
-overflow_mul-k c = omega (arith, room (goal.at.overflow_mul-k c).After-search_at-f)
-
-pub put_entry-requires : goal.put_entry-requires
-put_entry-requires c =
-    (omega (arith, room (goal.at.put_entry-requires c).After-search_at-f, c.loop-k.invariant.1.long), omega (arith, c.search_at-f.ensures.1.distortion))
 
 pub is_voter_at-voting-requires : goal.is_voter_at-voting-requires
 is_voter_at-voting-requires c =
@@ -76,12 +66,3 @@ loop-k-preserved c =
       )
           (filled_more _ _ _ _ _ _ _ l.1 _ _ c.search_at-f.ensures.0 (votes (goal.at.loop-k-preserved c).After-is_voter_at-voting) c.search_at-f.ensures.1 (room (goal.at.loop-k-preserved c).After-search_at-f).0),
     )
-
-pub shape_of-list : goal.shape_of-list
-shape_of-list c = c.loop-k.invariant.1.long
-
-pub returns : goal.returns
-returns c =
-    let l = c.loop-k in
-    let e : l.k ≡ blocks (setting_of c.args.q) = omega (arith, l.invariant.0) in
-    rw e at l.invariant.1

@@ -5,7 +5,7 @@ use mathlib.Core.List.{List}
 use native.Mathlib.Nat.{le_refl}
 use native.Mathlib.Omega.{arith}
 use lib.ListN.{get_or, drop_of_length-le}
-use Rattle.base.specs.Tests.{byte_one, one_le}
+use Rattle.base.specs.Tests.{byte_one}
 use Rattle.base.specs.Lists.{list_to, length_list_to, fill_to, fill_none, fill_zero, fill_front, front_behind}
 use Rattle.frame.specs.Pictures.{count_number}
 use Rattle.field_block.proofs.join.Goals as goal
@@ -33,10 +33,6 @@ loop-i-preserved c =
     let l = c.loop-i in
     let h = c.requires.0.long in
     rw (next-is c, l.invariant) (fill_front _ _ l.i (omega (arith, h)))
-
-pub overflow_add-result-2 : goal.overflow_add-result-2
-overflow_add-result-2 c =
-    omega (arith, c.requires.0.voters, byte_one c.args.voting, one_le c.args.voting)
 
 pub returns : goal.returns
 unfolding list_to

@@ -2,19 +2,8 @@
 use Prim.Native.Nat.{◌+◌, ◌-◌}
 use mathlib.Core.Path.{◌≡◌}
 use native.Mathlib.Omega.{arith}
-use Rattle.full.proofs.Reached.{lowered_none, lowered_row}
+use Rattle.full.proofs.Reached.{lowered_row}
 use Rattle.full.proofs.row_in_reach.Goals as goal
-
-pub returns-then-i-r : goal.returns-then-i-r
-returns-then-i-r c = lowered_none _ _ _ _ (λ j h. absurd (omega (arith, h.top, c.if-i-r.true)))
-
-pub returns-then-i-r-2 : goal.returns-then-i-r-2
-returns-then-i-r-2 c = lowered_none _ _ _ _ (λ j h. absurd (omega (arith, h.bottom, c.if-i-r-2.true)))
-
-pub row_least-requires : goal.row_least-requires
-row_least-requires c =
-    let p = c.requires in
-    (p.0, p.1, p.2, p.3, omega (arith, p.4.few_rows), omega arith, omega (arith, p.4.few_columns), p.5, p.6)
 
 pub returns : goal.returns
 returns c =

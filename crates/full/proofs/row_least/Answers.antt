@@ -34,31 +34,14 @@ code-low l h = rw ((let code_is : l.loop-j.j < 33 → let a = l.args in
 low : (l : At-loop-j) → l.loop-j.least ≤ l.args.best
 low l = let a = l.args in omega (arith, l.loop-j.invariant, least_low a.best (key_in_copy (measure_by a.kernel) (size_by a.kernel) a.window.now a.block.now a.i) a.from (l.loop-j.j - a.from))
 
-pub code_of-down-requires : goal.code_of-down-requires
-code_of-down-requires c = (omega arith, c.requires.4)
-
 pub loop-j-init : goal.loop-j-init
 loop-j-init c =
     let a = c.args in
     let e : a.from - a.from ≡ 0 = omega arith in
     rw e (least_first _ _ _)
 
-pub overflow_mul-i : goal.overflow_mul-i
-overflow_mul-i c = omega arith
-
-pub overflow_add-i : goal.overflow_add-i
-overflow_add-i c = omega arith
-
 pub overflow_cast-least : goal.overflow_cast-least
 overflow_cast-least c = Fits-under w32 _ 4294967296 (omega (arith, low (goal.at.overflow_cast-least c).At-loop-j)) tt
-
-pub sum_at-d-requires : goal.sum_at-d-requires
-sum_at-d-requires c =
-    let p = c.requires in
-    (p.0, p.1, p.2, p.3, omega arith)
-
-pub bounds-codes-j : goal.bounds-codes-j
-bounds-codes-j c = omega arith
 
 pub overflow_add-down : goal.overflow_add-down
 overflow_add-down c = omega (arith, code-low (goal.at.overflow_add-down c).At-loop-j (omega arith))
@@ -77,8 +60,3 @@ loop-j-preserved c =
     c.lesser_key-least.ensures
     ∙ least_enough c.loop-j.least _ _ _ (code-low (goal.at.loop-j-preserved c).At-loop-j (omega arith)) u
     ∙ rw (more, least_more, here, ← c.loop-j.invariant, code_is (goal.at.loop-j-preserved c).At-loop-j (omega arith)) refl
-
-pub returns : goal.returns
-returns c =
-    let e : c.loop-j.j ≡ c.args.to = omega arith in
-    rw e at c.loop-j.invariant

@@ -22,12 +22,6 @@ few k =
     let d = reach_bounds k.args.b (ready_standing _ _ _ k.requires) in
     rw k.reach-r.ensures (omega (arith, d.few_rows), mul-le-mul {n₂ = 33} {m₂ = 33} (omega (arith, d.few_rows)) (omega (arith, d.few_columns)))
 
-pub reach-r-requires : goal.reach-r-requires
-reach-r-requires c = ready_standing _ _ _ c.requires
-
-pub least_key-key-requires : goal.least_key-key-requires
-least_key-key-requires c = (c.requires, c.reach-r.ensures)
-
 pub unbiased-requires : goal.unbiased-requires
 unbiased-requires c = omega (arith, (answer c).row)
 

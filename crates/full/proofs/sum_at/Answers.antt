@@ -4,9 +4,6 @@ use Rattle.refusals.specs.Refusals.{block_size}
 use Rattle.window_copy.proofs.Half.{copy-up-to}
 use Rattle.full.proofs.sum_at.Goals as goal
 
-pub copy_sum-requires : goal.copy_sum-requires
-copy_sum-requires c = omega arith
-
 pub returns-then-kernel-eq16 : goal.returns-then-kernel-eq16
 returns-then-kernel-eq16 c =
     let a = c.args in
@@ -17,6 +14,3 @@ distortion_from-requires c =
     let p = c.requires in
     let n = (block_size _ p.3).most in
     (p.2, record { in_newer = omega (arith, n); in_older = omega (arith, n); wide = omega arith; allowed = p.3 })
-
-pub returns : goal.returns
-returns c = c.distortion_from.ensures.up_to

@@ -2,7 +2,7 @@
 use mathlib.Core.Path.{◌≡◌, refl}
 use lib.ListN.{replicate}
 use Rattle.measures.specs.Measures.{measure_of}
-use Rattle.distortion.specs.Blocks.{kernel_is, kernel_sum, size_small}
+use Rattle.distortion.specs.Blocks.{kernel_is, kernel_sum}
 use Rattle.half_pel.specs.HalfPel.{half_rows}
 use Rattle.half_pel.proofs.Values.{half_rows_inside, half-distortion}
 use Rattle.half_pel.proofs.half_sum.Goals as goal
@@ -12,9 +12,6 @@ use Rattle.half_pel.proofs.half_sum.Goals.{After-half_block}
 half_is : (h : After-half_block) → let a = h.args in
     h.half_block.new.half ≡ half_rows a.frame.now a.s.width a.p a.q (replicate 1024 0) a.s.n
 half_is h = h.half_block.ensures
-
-pub kernel-kernel-requires : goal.kernel-kernel-requires
-kernel-kernel-requires c = size_small _ c.requires.1
 
 pub distortion_from-requires : goal.distortion_from-requires
 distortion_from-requires c =

@@ -1,5 +1,5 @@
 -- `value_row`: after j turns the first j values are stored.
-use mathlib.Core.Path.{◌≡◌, refl}
+use mathlib.Core.Path.{refl}
 use native.Mathlib.Omega.{arith}
 use borrow.Author.Rules.{rules}
 use lib.ListN.{length-set}
@@ -13,9 +13,3 @@ pub loop-j-preserved : goal.loop-j-preserved
 loop-j-preserved c =
     let l = c.loop-j in
     (rw (l.invariant.0, c.value.ensures) (fill_more _ _ _ l.j (omega arith)), simp length-set (search rules))
-
-pub returns : goal.returns
-returns c =
-    let l = c.loop-j in
-    let e : l.j ≡ c.args.n = omega arith in
-    rw e at l.invariant.0

@@ -9,11 +9,5 @@ pub returns-then-place-eq0 : goal.returns-then-place-eq0
 unfolding unbias
 returns-then-place-eq0 c = rw c.if-place-eq0.true refl
 
-pub overflow_add-result : goal.overflow_add-result
-overflow_add-result c = omega arith
-
-pub overflow_add-result-2 : goal.overflow_add-result-2
-overflow_add-result-2 c = omega arith
-
 pub returns : goal.returns
 returns c = rw (place_at c.args.place (omega arith)) refl

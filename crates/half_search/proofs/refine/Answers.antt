@@ -5,7 +5,6 @@ use mathlib.Core.List.{List}
 use native.Mathlib.Omega.{arith}
 use borrow.Author.Rules.{sfits_of}
 use lib.IntN.{nat_abs}
-use lib.ListN.{length}
 use mir.Facts.{to_z-of_z}
 use Rattle.signed.specs.Int.{up, dn}
 use Rattle.signed.proofs.Machine.{through}
@@ -13,7 +12,6 @@ use Rattle.frame.specs.Pictures.{pair_of}
 use Rattle.refusals.specs.Refusals.{block_size}
 use Rattle.search.specs.SearchResult.{vector_in}
 use Rattle.half_search.specs.Half.{neighbour_count, counts, costs}
-use Rattle.half_pel.proofs.Values.{half_long}
 use Rattle.half_search.specs.Steps.{Refining, try_at}
 use Rattle.half_search.proofs.Best.{centre_distortion, centre_tried}
 use Rattle.half_search.proofs.Leading.{leading_first, leading_next, leading_few, try_is, refined_is, past_of}
@@ -45,22 +43,6 @@ column-is c =
 small : (c : After-past-column) → c.args.s.n ≤ 32
 small c = (block_size _ (refining c).placed.paired.allowed).most
 
-pub past-row-requires : goal.past-row-requires
-past-row-requires c =
-    let q = c.requires in
-    rw (through c.args.found.dy q.own.chosen.window.down) (past_of _ _ _ _ _ _ q).0
-
-pub past-column-requires : goal.past-column-requires
-past-column-requires c =
-    let q = c.requires in
-    rw (through c.args.found.dx q.own.chosen.window.across) (past_of _ _ _ _ _ _ q).1
-
-pub overflow_mul-y : goal.overflow_mul-y
-overflow_mul-y c = let p = (refining c).placed in omega (arith, p.down, p.paired.fitting.high)
-
-pub overflow_mul-x : goal.overflow_mul-x
-overflow_mul-x c = let p = (refining c).placed in omega (arith, p.across, p.paired.fitting.wide)
-
 pub half_block-requires : goal.half_block-requires
 half_block-requires c =
     let p = (refining (goal.at.half_block-requires c).After-past-column).placed in (
@@ -81,30 +63,6 @@ loop-k-init c =
     let p = pair_of a.older.now a.newer.now a.s in
     leading_first _ _ _ (centre_tried p 16 _ _ _ own.chosen) (own.reported ∙ sym (centre_distortion p _ _ _))
 
-pub neighbour-o-requires : goal.neighbour-o-requires
-neighbour-o-requires c = omega arith
-
-pub overflow_mul-row : goal.overflow_mul-row
-overflow_mul-row c = omega (arith, c.past-row.ensures.1)
-
-pub overflow_add-row : goal.overflow_add-row
-overflow_add-row c = omega (arith, c.past-row.ensures.1, c.neighbour-o.ensures.1)
-
-pub overflow_mul-column : goal.overflow_mul-column
-overflow_mul-column c = omega (arith, c.past-column.ensures.1)
-
-pub overflow_add-column : goal.overflow_add-column
-overflow_add-column c = omega (arith, c.past-column.ensures.1, c.neighbour-o.ensures.2)
-
-pub try_at-best-requires : goal.try_at-best-requires
-try_at-best-requires c =
-    let o = c.neighbour-o.ensures in
-    let p = (refining (goal.at.try_at-best-requires c).After-past-column).placed.paired in (
-      record { whole = p.older_whole; fitting = p.fitting; allowed = p.allowed; stored = ap length c.half_block.ensures ∙ half_long _ _ _ _ _ _ refl (small (goal.at.try_at-best-requires c).After-past-column) },
-      omega (arith, c.past-row.ensures.1, o.1),
-      omega (arith, c.past-column.ensures.1, o.2),
-    )
-
 pub loop-k-preserved : goal.loop-k-preserved
 loop-k-preserved c =
     let a = c.args in
@@ -120,14 +78,6 @@ loop-k-preserved c =
 
 pub neighbour-o-requires-2 : goal.neighbour-o-requires-2
 neighbour-o-requires-2 c = omega (arith, leading_few c.loop-k.invariant)
-
-pub half_part-requires : goal.half_part-requires
-half_part-requires c =
-    (rw (through c.args.found.dy (down-near (goal.at.half_part-requires c).After-past-column)) (down-near (goal.at.half_part-requires c).After-past-column), c.neighbour-o-2.ensures.1)
-
-pub half_part-requires-2 : goal.half_part-requires-2
-half_part-requires-2 c =
-    (rw (through c.args.found.dx (across-near (goal.at.half_part-requires-2 c).After-past-column)) (across-near (goal.at.half_part-requires-2 c).After-past-column), c.neighbour-o-2.ensures.2)
 
 pub returns : goal.returns
 returns c =

@@ -1,14 +1,9 @@
 -- `try_at`: a neighbour that does not count, or is no less, leaves the winner.
-use Prim.Native.Nat.{ℕ, ◌≤◌}
 use mathlib.Core.Path.{◌≡◌}
-use mathlib.Core.List.{List}
 use mathlib.Core.Bool.{true}
-use native.Mathlib.Omega.{arith}
 use Rattle.base.specs.Tests.{told}
 use Rattle.signed.specs.Values.{unbias}
-use Rattle.frame.specs.declared.Setting.{Setting}
 use Rattle.refusals.specs.Refusals.{block_size}
-use Rattle.half_search.specs.Steps.{Trying}
 use Rattle.half_pel.specs.HalfPel.{half_inside}
 use Rattle.half_search.proofs.Leading.{place_inside, try_above, try_beside, try_less, try_kept}
 use Rattle.half_search.proofs.try_at.Goals as goal
@@ -20,17 +15,8 @@ above c = told c.inside.ensures c.if-not-inside.false
 beside : (c : Else-not-inside-2) → let a = c.args in half_inside (unbias 1 a.q) a.s.n a.s.width ≡ true
 beside c = told c.inside-2.ensures c.if-not-inside-2.false
 
-small : {older block : List ℕ} {s : Setting} → Trying older block s → s.n ≤ 1024
-small t = omega (arith, (block_size _ t.allowed).most)
-
-pub inside-requires : goal.inside-requires
-inside-requires c = let q = c.requires in (q.1, small q.0)
-
 pub returns-then-not-inside : goal.returns-then-not-inside
 returns-then-not-inside c = try_above _ _ _ _ _ _ _ (told c.inside.ensures c.if-not-inside.true)
-
-pub inside-requires-2 : goal.inside-requires-2
-inside-requires-2 c = let q = c.requires in (q.2, small q.0)
 
 pub returns-then-not-inside-2 : goal.returns-then-not-inside-2
 returns-then-not-inside-2 c =

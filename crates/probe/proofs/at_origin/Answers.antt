@@ -3,8 +3,5 @@ use native.Mathlib.Omega.{arith}
 use Rattle.probe.proofs.Looks.{at_origin_is}
 use Rattle.probe.proofs.at_origin.Goals as goal
 
-pub block_distortion-requires : goal.block_distortion-requires
-block_distortion-requires c = let q = c.requires.placed in record { placed = q; down = q.down; across = q.across }
-
 pub returns : goal.returns
 returns c = record { is = at_origin_is _ _ _ _ _ c.block_distortion.ensures; down = omega arith; across = omega arith; few = omega arith }

@@ -23,9 +23,6 @@ tested c =
     let o = get_or c.args.offsets.now c.loop-dy.dy-index [] in
     rw (to_z-of_z {w = w32} {z = get_or o 0 (pos 0)} (search rules), to_z-of_z {w = w32} {z = get_or o 1 (pos 0)} (search rules)) at c.is_at.ensures
 
-pub loop-dy-init : goal.loop-dy-init
-loop-dy-init c = missing_first _ _ _ _ _
-
 pub returns-then-is_at : goal.returns-then-is_at
 returns-then-is_at c = missing_hit _ _ _ _ _ _ c.loop-dy.invariant (omega arith) (sym (tested (goal.at.returns-then-is_at c).After-is_at) ∙ c.if-is_at.true)
 

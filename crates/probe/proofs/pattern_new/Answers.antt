@@ -18,11 +18,6 @@ use Rattle.probe.proofs.Looks.{going_first, going_near, going_more, going_last}
 use Rattle.probe.proofs.pattern_new.Goals as goal
 use Rattle.probe.proofs.pattern_new.Goals.{After-scaled-across, After-scaled-down, In-loop-dy}
 
-pub loop-dy-init : goal.loop-dy-init
-loop-dy-init c =
-    let q = c.requires in
-    going_first _ _ _ _ _ _ _ q.1.near q.0.down q.0.across
-
 -- the two offsets are small, and reach probe_new as p times what the table has
 abbrev entry : List (List ℤ) → ℕ → Vector
 entry offsets i = offset (get_or offsets i [])
@@ -45,18 +40,6 @@ scaled-down-requires c = (omega arith, rw (to_z-of_z {w = w32} {z = (entry c.arg
 
 pub scaled-across-requires : goal.scaled-across-requires
 scaled-across-requires c = (omega arith, rw (to_z-of_z {w = w32} {z = (entry c.args.offsets.now c.loop-dy.dy-index).dx} (search rules)) (small (goal.at.scaled-across-requires c).In-loop-dy).across)
-
-pub probe_new-best-requires : goal.probe_new-best-requires
-probe_new-best-requires c =
-    let q = c.requires in
-    let g = c.loop-dy.invariant in (
-      record { ready = q.0.ready; down = g.down; across = g.across; room = omega arith },
-      q.0.down,
-      q.0.across,
-      q.3,
-      q.4,
-      q.5,
-    )
 
 pub loop-dy-preserved : goal.loop-dy-preserved
 loop-dy-preserved c =

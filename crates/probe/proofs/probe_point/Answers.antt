@@ -4,9 +4,6 @@ use native.Mathlib.Omega.{arith}
 use Rattle.probe.proofs.Looks.{holds_same, holds_more, probe_point_none, probe_point_over, probe_point_less, probe_point_more}
 use Rattle.probe.proofs.probe_point.Goals as goal
 
-pub against-requires : goal.against-requires
-against-requires c = let p = c.requires in (p.0.ready, p.1, p.2)
-
 pub returns-then-d-s : goal.returns-then-d-s
 returns-then-d-s c =
     let q = c.requires in

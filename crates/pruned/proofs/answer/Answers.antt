@@ -11,9 +11,6 @@ use mir.Syntax.{w32}
 use Rattle.pruned.proofs.answer.Goals as goal
 use Rattle.pruned.proofs.answer.Goals.{After-spot_of-spot, Else-q-gt-FEW}
 
-pub search-f-requires : goal.search-f-requires
-search-f-requires c = c.requires.0
-
 pub returns-then-q-gt-FEW : goal.returns-then-q-gt-FEW
 returns-then-q-gt-FEW c =
     let a = c.args in
@@ -42,9 +39,6 @@ unbiased-requires c = (chosen c).0
 
 pub unbiased-requires-2 : goal.unbiased-requires-2
 unbiased-requires-2 c = (chosen (goal.at.unbiased-requires-2 c).After-spot_of-spot).1
-
-pub overflow_cast-result : goal.overflow_cast-result
-overflow_cast-result c = omega (arith, c.choose-key.ensures.1)
 
 pub returns : goal.returns
 returns c =

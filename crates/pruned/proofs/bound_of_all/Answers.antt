@@ -22,9 +22,6 @@ laid_in s =
     let p = s.requires in
     rw p.1 (laid s.args.b (ready_standing _ _ _ p.0) s.args.b.setting.n (let small : s.args.b.setting.n ≤ 32 = (block_size s.args.b.setting.n s.requires.0.placed.paired.allowed).most in small) s.args.numbers.now p.2)
 
-pub overflow_add-n : goal.overflow_add-n
-overflow_add-n c = omega (arith, small (goal.at.overflow_add-n c).Start)
-
 pub nearest-key-requires : goal.nearest-key-requires
 nearest-key-requires c = (laid_in (goal.at.nearest-key-requires c).Start, c.requires.4 c.if-m-n.true)
 

@@ -1,9 +1,8 @@
 -- `is_blank`: the search window lies inside the frame.
 use Prim.Native.Nat.{◌+◌, ◌-◌, ◌*◌, ◌≤◌, ◌<◌}
-use mathlib.Core.Path.{◌≡◌, refl, sym, subst}
+use mathlib.Core.Path.{sym, subst}
 use native.Mathlib.Omega.{arith}
 use native.Mathlib.Nat.{mul-le-mul, mul-le-mul_right, add-mul}
-use borrow.Author.Tests.{eq-eqb, ne_eqb}
 use lib.ListN.{length}
 use Rattle.refusals.specs.Refusals.{block_size}
 use Rattle.frame.specs.declared.Region.{Region}
@@ -51,9 +50,6 @@ near s =
     let n = block_size s.args.b.setting.n s.requires.1 in
     omega (arith, k.first_row, k.first_column, k.last_row, k.last_column, k.rows, k.columns, k.few_rows, k.few_columns, p.high, p.wide, n.least, n.most)
 
-pub returns-then-e-ne0 : goal.returns-then-e-ne0
-returns-then-e-ne0 c = rw (ne_eqb c.args.e 0 (λ q. omega (arith, c.if-e-ne0.true))) refl
-
 pub overflow_add-row : goal.overflow_add-row
 overflow_add-row c = omega (arith, near (goal.at.overflow_add-row c).Start)
 
@@ -88,8 +84,3 @@ pub one_grey-requires : goal.one_grey-requires
 one_grey-requires c =
     let k = near (goal.at.one_grey-requires c).Start in
     (omega (arith, k), omega (arith, k), inside (goal.at.one_grey-requires c).Start, c.requires.0.wide, omega (arith, k), omega (arith, k))
-
-pub returns : goal.returns
-returns c =
-    let none : c.args.e ≡ 0 = omega (arith, c.if-e-ne0.false) in
-    rw (← c.requires.2, eq-eqb c.args.e 0 none) c.one_grey.ensures

@@ -4,9 +4,6 @@ use native.Mathlib.Omega.{arith}
 use Rattle.pruned_sift.proofs.Rows.{leasts_bound, zeros_bound}
 use Rattle.pruned.proofs.leasts_below.Goals as goal
 
-pub overflow_add-n : goal.overflow_add-n
-overflow_add-n c = omega arith
-
 pub leasts-requires : goal.leasts-requires
 leasts-requires c = c.requires.1
 

@@ -1,15 +1,10 @@
 -- `level`: of all, or of those listed.
 use mathlib.Core.Path.{sym, ◌∙◌}
-use Rattle.pruned.proofs.Steps.{size_small, side_small, all_fits}
+use Rattle.pruned.proofs.Steps.{size_small, side_small}
 use Rattle.pruned.proofs.level.Goals as goal
 
 pub by_all-requires : goal.by_all-requires
 by_all-requires c = let s = c.requires.0 in (size_small s, side_small s)
-
-pub all_level-requires : goal.all_level-requires
-all_level-requires c =
-    let p = c.requires in
-    (p.0, all_fits c.args.b.setting c.args.m c.args.q.count (sym c.by_all.ensures ∙ c.if-by_all.true), p.2, p.3)
 
 pub returns-then-by_all : goal.returns-then-by_all
 returns-then-by_all c = c.all_level.ensures

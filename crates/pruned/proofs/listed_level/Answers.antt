@@ -1,7 +1,7 @@
 -- `listed_level`: the distances of those listed, E lowered, and those within its limit.
 use mathlib.Core.Path.{◌∙◌}
 use native.Mathlib.Omega.{arith}
-use Rattle.pruned.proofs.Steps.{side_small, region_small, near_at, facing_in, nearest_in, listed_leveled}
+use Rattle.pruned.proofs.Steps.{region_small, near_at, facing_in, nearest_in, listed_leveled}
 use Rattle.pruned.proofs.listed_level.Goals as goal
 
 pub fill-requires : goal.fill-requires
@@ -17,14 +17,6 @@ bound_of_listed-e-requires c =
     let f = c.fill in
     let long = f.auto.keys in
     (p.0.ready, p.1.some, omega (arith, long, (p.1.held.listed p.2).0), nearest_in p.0 p.1 p.2 _ long f.ensures.1)
-
-pub limit-requires : goal.limit-requires
-limit-requires c = omega (arith, side_small c.requires.0)
-
-pub keep_within-count-requires : goal.keep_within-count-requires
-keep_within-count-requires c =
-    let p = c.requires in
-    omega (arith, c.fill.auto.keys, (p.1.held.listed p.2).0)
 
 pub returns : goal.returns
 returns c =

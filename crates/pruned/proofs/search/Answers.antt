@@ -1,6 +1,6 @@
 -- `search`: blank paper at once, or else memory of zeros, as large as N asks for.
 use Prim.Native.Nat.{ℕ, ◌*◌, ◌≤◌, ◌<◌}
-use mathlib.Core.Path.{◌≡◌, refl, sym, ap, ◌∙◌}
+use mathlib.Core.Path.{◌≡◌, sym, ap, ◌∙◌}
 use mathlib.Core.Bool.{false}
 use native.Mathlib.Omega.{arith}
 use lib.ListN.{get_or, replicate, get_or-replicate}
@@ -30,11 +30,6 @@ first-is : (c : After-block_distortion-e) → let a = c.args in
     c.block_distortion-e.result ≡ still_distortion (pair_of a.older.now a.newer.now a.b.setting) a.b.y a.b.x
 first-is c = c.block_distortion-e.ensures ∙ sym (still_cost _ _ _)
 
-pub is_blank-requires : goal.is_blank-requires
-is_blank-requires c =
-    let p = c.requires in
-    (ready_standing _ _ _ p, p.placed.paired.allowed, c.reach-r.ensures, omega (arith, p.placed.paired.older_whole))
-
 pub blank_answer-requires : goal.blank_answer-requires
 blank_answer-requires c =
     let d = reach_bounds c.args.b (ready_standing _ _ _ c.requires) in
@@ -51,26 +46,11 @@ returns-then-is_blank c =
 zeros : (k m : ℕ) → 5 * m ≤ k → (u : ℕ) → u < m → get_or {A = ℕ} (replicate k 0) u 0 ≤ 255
 zeros k m h u l = omega (arith, get_or-replicate {A = ℕ} k u 0 0 (omega arith))
 
-pub slice_bounds-search_with-end : goal.slice_bounds-search_with-end
-slice_bounds-search_with-end c = refl
-
-pub slice_bounds-search_with-end-then-s-eq32 : goal.slice_bounds-search_with-end-then-s-eq32
-slice_bounds-search_with-end-then-s-eq32 c = refl
-
 pub search_with-requires : goal.search_with-requires
 search_with-requires c =
     let n = c.args.b.setting.n in
     let h = array_large n (block_size n c.requires.placed.paired.allowed).most in
     (c.requires, c.reach-r.ensures, h, zeros 25600 (area n) h, (omega arith, λ e. omega arith), first-is (goal.at.search_with-requires c).After-block_distortion-e)
-
-pub returns-then-s-eq32 : goal.returns-then-s-eq32
-returns-then-s-eq32 c = c.search_with.ensures
-
-pub slice_bounds-search_with-end-2 : goal.slice_bounds-search_with-end-2
-slice_bounds-search_with-end-2 c = refl
-
-pub slice_bounds-search_with-end-3 : goal.slice_bounds-search_with-end-3
-slice_bounds-search_with-end-3 c = refl
 
 pub search_with-requires-2 : goal.search_with-requires-2
 search_with-requires-2 c =
@@ -84,6 +64,3 @@ search_with-requires-2 c =
       (omega arith, λ e. absurd (true_T false (sym e ∙ small_fits c.args.b.setting low))),
       first-is (goal.at.search_with-requires-2 c).After-block_distortion-e,
     )
-
-pub returns : goal.returns
-returns c = c.search_with-2.ensures

@@ -8,7 +8,7 @@ use Rattle.reach.proofs.Candidates.{ready_standing}
 use Rattle.pruned_rule.specs.Spots.{places_of}
 use Rattle.pruned.proofs.Flow.{first_facing}
 use Rattle.pruned.proofs.Steps.{size_small}
-use Rattle.pruned.proofs.Rounds.{next_either, total_places, places_few, turning_first, turning_search, turning_facing, turning_slot, turning_more, turning_few}
+use Rattle.pruned.proofs.Rounds.{next_either, total_places, places_few, turning_first, turning_search, turning_facing, turning_more, turning_few}
 use Rattle.pruned.proofs.Rounds.{turning_closing, turning_last}
 use Rattle.pruned.proofs.tests.Goals as goal
 use Rattle.pruned.proofs.tests.Goals.{After-begin-first}
@@ -26,12 +26,6 @@ first_slot-slot-requires c = c.requires.0.ready.placed.paired.allowed
 pub overflow_cast-counts : goal.overflow_cast-counts
 overflow_cast-counts c = omega (arith, total-is (goal.at.overflow_cast-counts c).After-begin-first, places_few c.requires.0)
 
-pub offset_bounds-counts-slot : goal.offset_bounds-counts-slot
-offset_bounds-counts-slot c = omega (arith, c.first_slot-slot.ensures)
-
-pub bounds-counts-slot : goal.bounds-counts-slot
-bounds-counts-slot c = omega (arith, c.first_slot-slot.ensures)
-
 pub level-q-requires : goal.level-q-requires
 level-q-requires c =
     let e = c.begin-first.ensures in (
@@ -40,9 +34,6 @@ level-q-requires c =
       omega (arith, e.2, c.requires.1.0),
       length-replicate {A = ℕ} 2088 0,
     )
-
-pub overflow_add-slot : goal.overflow_add-slot
-overflow_add-slot c = omega (arith, c.first_slot-slot.ensures)
 
 pub loop-m-init : goal.loop-m-init
 loop-m-init c =
@@ -55,20 +46,11 @@ loop-m-init c =
 pub overflow_cast-counts-in-loop-m : goal.overflow_cast-counts-in-loop-m
 overflow_cast-counts-in-loop-m c = let t = c.loop-m.invariant.0 in omega (arith, turning_few t, places_few t.block)
 
-pub offset_bounds-counts-slot-in-loop-m : goal.offset_bounds-counts-slot-in-loop-m
-offset_bounds-counts-slot-in-loop-m c = omega (arith, turning_slot c.loop-m.invariant.0 (omega (arith, c.loop-m-test.true)))
-
-pub bounds-counts-slot-in-loop-m : goal.bounds-counts-slot-in-loop-m
-bounds-counts-slot-in-loop-m c = omega (arith, turning_slot c.loop-m.invariant.0 (omega (arith, c.loop-m-test.true)))
-
 pub level-q-requires-in-loop-m : goal.level-q-requires-in-loop-m
 level-q-requires-in-loop-m c =
     let t = c.loop-m.invariant.0 in
     let h : 2 ≤ c.loop-m.m = omega (arith, c.loop-m-test.true) in
     (turning_search t h, turning_facing t h, t.room, t.numbers_long)
-
-pub overflow_add-slot-in-loop-m : goal.overflow_add-slot-in-loop-m
-overflow_add-slot-in-loop-m c = omega (arith, turning_slot c.loop-m.invariant.0 (omega (arith, c.loop-m-test.true)))
 
 pub loop-m-smaller : goal.loop-m-smaller
 loop-m-smaller c =

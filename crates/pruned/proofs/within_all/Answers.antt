@@ -14,9 +14,6 @@ use Rattle.pruned.proofs.within_all.Goals.{Start}
 laid_in : (s : Start) → Laid s.args.numbers.now (s.args.b.setting.n + 32) s.args.r
 laid_in s = let p = s.requires in rw p.2 (laid s.args.b p.0 s.args.b.setting.n p.1 s.args.numbers.now p.5)
 
-pub overflow_add-pitch : goal.overflow_add-pitch
-overflow_add-pitch c = omega (arith, c.requires.1)
-
 pub most-limit-requires : goal.most-limit-requires
 most-limit-requires c = c.requires.3
 

@@ -1,6 +1,8 @@
 -- `add_run`: after t turns the first t places have theirs.
+use Rattle.std.proofs.Common.{nat_eq}
 use Prim.Native.Nat.{ℕ, ◌+◌, ◌*◌, ◌<◌}
 use mathlib.Core.Path.{◌≡◌, refl, ap, ap₂, ◌∙◌}
+use mathlib.Core.Bool.{not}
 use native.Mathlib.Omega.{arith}
 use lib.ListN.{get_or}
 use mathlib.Core.List.{List}
@@ -15,12 +17,12 @@ use Rattle.pruned_wide.proofs.add_run.Goals.{At-loop-t}
 
 module _ (g : Over) (l : At-loop-t g) where
   -- place t is as it was
-  next : l.loop-t.t < l.args.span → (r : ℕ) → r ≡ carried l.args.fresh (get_or l.loop-t.numbers l.loop-t.t 0)
-      → r ≡ carried l.args.fresh (get_or l.args.numbers.now l.loop-t.t 0)
+  next : l.loop-t.t < l.args.span → (r : ℕ) → r ≡ carried (not (nat_eq g.row.FRESH 0)) (get_or l.loop-t.numbers l.loop-t.t 0)
+      → r ≡ carried (not (nat_eq g.row.FRESH 0)) (get_or l.args.numbers.now l.loop-t.t 0)
   next h r e =
       e
-      ∙ ap (λ (xs : List ℕ). carried l.args.fresh (get_or xs l.loop-t.t 0)) l.loop-t.invariant
-      ∙ ap (carried l.args.fresh) (filled_next _ _ l.loop-t.t (omega (arith, l.requires.0, l.requires.1)))
+      ∙ ap (λ (xs : List ℕ). carried (not (nat_eq g.row.FRESH 0)) (get_or xs l.loop-t.t 0)) l.loop-t.invariant
+      ∙ ap (carried (not (nat_eq g.row.FRESH 0))) (filled_next _ _ l.loop-t.t (omega (arith, l.requires.0, l.requires.1)))
 
   -- the block's own squares are those of the array
   same : (r : ℕ) → let a = l.args in
@@ -49,6 +51,6 @@ pub loop-t-preserved : goal.loop-t-preserved
 loop-t-preserved g c =
     let a = c.args in
     let l = (goal.at.loop-t-preserved g c).At-loop-t in
-    fill_turn _ _ (λ i. carried a.fresh (get_or a.numbers.now i 0) + row_squares a.boxes.now (a.at + i) a.own a.m g.row.COUNT) c.loop-t.t _ c.loop-t.invariant
+    fill_turn _ _ (λ i. carried (not (nat_eq g.row.FRESH 0)) (get_or a.numbers.now i 0) + row_squares a.boxes.now (a.at + i) a.own a.m g.row.COUNT) c.loop-t.t _ c.loop-t.invariant
     (ap₂ ◌+◌ (next g l (omega arith) _ c.carried.ensures) (same g l _ c.run_at.ensures))
     (omega (arith, c.requires.0, c.requires.1))

@@ -1,4 +1,4 @@
--- `counted`: the test is that of the definition.
+-- `counted`: a part inside is at most 32 with its 16.
 use Prim.Native.Nat.{◌≤◌}
 use mathlib.Core.Path.{◌≡◌, sym, ap, ◌∙◌}
 use native.Mathlib.Omega.{arith}
@@ -9,17 +9,10 @@ use mir.Facts.{to_z-of_z}
 use Rattle.signed.specs.Int.{parts}
 use Rattle.signed.specs.Values.{bias, bias_is}
 use Rattle.recent.proofs.counted.Goals as goal
-use Rattle.recent.proofs.counted.Goals.{After-biased, After-within, Then-within}
-
--- a part comes back from its bits unchanged
-test-is : (c : After-within) → c.within.result ≡ leb (nat_abs c.args.z) 16
-test-is c = c.within.ensures ∙ ap (λ (z : ℤ). leb (nat_abs z) 16) (to_z-of_z c.ranges.z)
+use Rattle.recent.proofs.counted.Goals.{After-biased, Then-within}
 
 small : (c : Then-within) → nat_abs c.args.z ≤ 16
-small c = leb-true _ 16 (sym (let test-is : c.within.result ≡ leb (nat_abs c.args.z) 16 = c.within.ensures ∙ ap (λ (z : ℤ). leb (nat_abs z) 16) (to_z-of_z c.ranges.z) in test-is) ∙ c.if-within.true)
-
-pub biased-requires : goal.biased-requires
-biased-requires c = rw (to_z-of_z c.ranges.z) (small c)
+small c = leb-true _ 16 (sym (c.within.ensures ∙ ap (λ (z : ℤ). leb (nat_abs z) 16) (to_z-of_z c.ranges.z)) ∙ c.if-within.true)
 
 biased-is : (c : After-biased) → c.biased.result ≡ bias 16 c.args.z
 biased-is c = c.biased.ensures ∙ ap (bias 16) (to_z-of_z c.ranges.z)
@@ -27,10 +20,5 @@ biased-is c = c.biased.ensures ∙ ap (bias 16) (to_z-of_z c.ranges.z)
 pub overflow_cast-result : goal.overflow_cast-result
 overflow_cast-result c =
     let z = c.args.z in
-    omega (arith, biased-is c, bias_is 16 z (small (goal.at.overflow_cast-result c).Then-within), parts z, small (goal.at.overflow_cast-result c).Then-within)
-
-pub returns-then-within : goal.returns-then-within
-returns-then-within c = rw (sym (test-is (goal.at.returns-then-within c).After-within) ∙ c.if-within.true) (biased-is c)
-
-pub returns-else-within : goal.returns-else-within
-returns-else-within c = rw (sym (test-is (goal.at.returns-else-within c).After-within) ∙ c.if-within.false)
+    let h = small (goal.at.overflow_cast-result c).Then-within in
+    omega (arith, biased-is c, bias_is 16 z h, parts z, h)

@@ -18,9 +18,6 @@ use Rattle.recent.proofs.parts_ok.Goals.{After-counted-total, After-loop-k, Afte
 pub loop-k-init : goal.loop-k-init
 loop-k-init c = sym (sum_to_none _)
 
-pub bounds-places-k : goal.bounds-places-k
-bounds-places-k c = omega arith
-
 -- one place more; the part comes back from its bits unchanged
 next : (c : After-counted-total) →
     c.loop-k.total + c.counted-total.result ≡ counted_to c.args.places.now (c.loop-k.k + 1)
@@ -35,9 +32,6 @@ overflow_add-total c =
 
 pub loop-k-preserved : goal.loop-k-preserved
 loop-k-preserved c = next c
-
-pub overflow_mul-held : goal.overflow_mul-held
-overflow_mul-held c = omega (arith, c.requires.1)
 
 -- the sum comes back from its bits unchanged
 shift_is : (c : After-shift) →
@@ -56,11 +50,6 @@ total-is c =
 pub returns-in_default : goal.returns-in_default
 returns-in_default c =
     sym (sum_out _ c.requires.0 _ _ c.requires.1 (sym (shift_is (goal.at.returns-in_default c).After-shift) ∙ c.in_default.is))
-
-pub overflow_cast-result : goal.overflow_cast-result
-overflow_cast-result c =
-    let a = c.args in
-    omega (arith, total-is (goal.at.overflow_cast-result c).After-loop-k, counted_few a.places.now a.held)
 
 pub returns : goal.returns
 returns c =

@@ -1,14 +1,14 @@
 -- `arrive`: the place after the travel, and that travel held; or 52 or 33 and the old track.
-use Prim.Native.Nat.{◌+◌, ◌<◌}
+use Prim.Native.Nat.{◌+◌, ◌≤◌, ◌<◌}
 use mathlib.Core.Path.{◌≡◌, refl, ap, ◌∙◌}
 use mathlib.Core.Bool.{true, not}
 use native.Mathlib.Omega.{arith}
 use borrow.Author.Rules.{rules, sfits_of}
 use borrow.Author.Tests.{ne_eqb, not-true, leb-false}
 use lib.Dec.{T, leb}
-use lib.IntN.{neg_ℤ}
+use lib.IntN.{ℤ, pos, nat_abs, neg_ℤ, ◌-ℤ◌, +ℤ_idl}
 use mir.Syntax.{w32}
-use mir.Val.{to_z, of_z}
+use mir.Val.{SFits, to_z, of_z}
 use mir.Facts.{to_z-of_z}
 use Rattle.base.specs.Tests.{and_left, and_right, T_true}
 use Rattle.order.specs.Vectors.{turned_within}
@@ -19,7 +19,7 @@ use Rattle.refusals.specs.Numbers.{number_of, number_some}
 use Rattle.track_rules.specs.Rules.{may_step, arrival_refusal, Arrival, refused_arrival, arrive}
 use Rattle.track.specs.Track.{moved_to, unmoved, travel_of, arrived}
 use Rattle.track.proofs.Track.arrive.Goals as goal
-use Rattle.track.proofs.Track.arrive.Goals.{In-Err, In-Ok, After-negated, After-negated-in-Ok, After-recent_more}
+use Rattle.track.proofs.Track.arrive.Goals.{In-Err, In-Ok, After-recent_more}
 
 -- the rules' answer, as the track's
 module _ (t : Track) (a : FieldAnswer) (r : Arrival) (e : r ≡ arrive t.y t.x a.dy a.dx a.voters) where
@@ -77,31 +77,22 @@ pub overflow_add-result : goal.overflow_add-result
 overflow_add-result c =
     omega (arith, (may-step c.args.self c.requires.0).0)
 
--- a part of the travel comes back from its bits unchanged: it is that of the reading, which does too, turned
-dy-is : (c : After-negated) → to_z w32 (of_z w32 c.negated.result) ≡ neg_ℤ c.args.a.dy
-dy-is c = to_z-of_z (sfits_of {w = w32} c.negated.type_inv) ∙ c.negated.ensures ∙ ap neg_ℤ (to_z-of_z (sfits_of {w = w32} c.struct_told-in-Ok-1.given.1.0.1))
-
-dx-is : (c : After-negated-in-Ok) → to_z w32 (of_z w32 c.negated-in-Ok.result) ≡ neg_ℤ c.args.a.dx
-dx-is c = to_z-of_z (sfits_of {w = w32} c.negated-in-Ok.type_inv) ∙ c.negated-in-Ok.ensures ∙ ap neg_ℤ (to_z-of_z (sfits_of {w = w32} c.struct_told-in-Ok-2-1.given.1.1.0.1))
-
-pub negated-requires : goal.negated-requires
-negated-requires c = rw (to_z-of_z (sfits_of {w = w32} c.struct_told-in-Ok-1.given.1.0.1)) (omega (arith, c.requires.1.down))
-
-pub negated-requires-in-Ok : goal.negated-requires-in-Ok
-negated-requires-in-Ok c = rw (to_z-of_z (sfits_of {w = w32} c.struct_told-in-Ok-2-1.given.1.1.0.1)) (omega (arith, c.requires.1.across))
+-- a part of the travel: that of the reading turned
+part : (z : ℤ) → SFits w32 z → nat_abs z ≤ 16 → to_z w32 (of_z w32 (pos 0 -ℤ to_z w32 (of_z w32 z))) ≡ neg_ℤ z
+part z f h = rw (to_z-of_z f, to_z-of_z {w = w32} {z = pos 0 -ℤ z} (search rules)) (+ℤ_idl _)
 
 pub recent_more-requires : goal.recent_more-requires
 recent_more-requires c =
-    rw (dy-is (goal.at.recent_more-requires c).After-negated, dx-is c) ((may-step c.args.self c.requires.0).1, turned_within c.requires.1)
+    let a = c.args.a in
+    rw (part a.dy (sfits_of {w = w32} c.struct_told-in-Ok-1.given.1.0.1) c.requires.1.down, part a.dx (sfits_of {w = w32} c.struct_told-in-Ok-2-1.given.1.1.0.1) c.requires.1.across)
+    ((may-step c.args.self c.requires.0).1, turned_within c.requires.1)
 
 recent-is : (c : After-recent_more) →
     let a = c.args in
     c.recent_more.result ≡ recent_more a.self.recent (travel_of a.a)
 recent-is c =
-    rw (
-      to_z-of_z (sfits_of {w = w32} c.negated.type_inv) ∙ c.negated.ensures ∙ ap neg_ℤ (to_z-of_z {z = c.args.a.dy} (sfits_of {w = w32} c.struct_told-in-Ok-1.given.1.0.1)),
-      to_z-of_z (sfits_of {w = w32} c.negated-in-Ok.type_inv) ∙ c.negated-in-Ok.ensures ∙ ap neg_ℤ (to_z-of_z {z = c.args.a.dx} (sfits_of {w = w32} c.struct_told-in-Ok-2-1.given.1.1.0.1)),
-    )
+    let a = c.args.a in
+    rw (part a.dy (sfits_of {w = w32} c.struct_told-in-Ok-1.given.1.0.1) c.requires.1.down, part a.dx (sfits_of {w = w32} c.struct_told-in-Ok-2-1.given.1.1.0.1) c.requires.1.across)
     at c.recent_more.ensures
 
 pub returns-in-Ok : goal.returns-in-Ok
