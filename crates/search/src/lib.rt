@@ -2,14 +2,16 @@
 
 #![tactic(auto)]
 
+mod matching;
+
 ghost use Rattle.std.specs.Prelude.{◌≡◌, ◌-◌, ◌≤◌, pos, ◌+ℤ◌};
 ghost use Rattle.signed.specs.Int.{up};
 ghost use Rattle.order.specs.Vectors.{vec};
 ghost use Rattle.search.specs.SearchResult.{only_at_one};
 ghost use Rattle.search.specs.Matchings.{target_in};
-ghost use Rattle.search.specs.Target.{Ready, Past, measure_candidate};
+ghost use Rattle.search.specs.Target.{Past, measure_candidate};
 
-use frame::SearchBlock;
+pub use matching::Matching;
 
 // What a search answers: a vector, its distortion, six counts for m = 32, 16, 8, 4, 2, 1, and the number dropped.
 #[repr(C)]
@@ -38,15 +40,6 @@ pub fn past(d: i32, at: usize, from: usize) -> usize
     ensures { (result ≡ up (pos at +ℤ d) - from) × (result ≤ 1024) }
 {
     signed::biased(d) + at - (16 + from)
-}
-
-// A block matching: two lent frames, and a block of the newer one that a search is ready for.
-#[derive(Clone, Copy)]
-pub struct Matching<'a> {
-    pub older: &'a [u8],
-    pub newer: &'a [u8],
-    pub block: SearchBlock,
-    ghost ready: { Ready older.now newer.now block },
 }
 
 // The distortion of a candidate under a ceiling, or nothing where a vector is none.
