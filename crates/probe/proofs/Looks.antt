@@ -21,7 +21,6 @@ use Rattle.order.specs.Vectors.{vec, Within, same?, in_window}
 use Rattle.frame.specs.Pictures.{Pair}
 use Rattle.frame.specs.Candidates.{candidate, candidate_older}
 use Rattle.distortion.specs.Blocks.{block_at, newer_block, measure_in, distortion_by}
-use Rattle.frame.specs.declared.SearchBlock.{SearchBlock}
 use Rattle.search.specs.declared.MeasuredCandidate.TheVariants.{Distortion, OverCeiling, NotCandidate}
 use Rattle.search.specs.Target.{Target, target, measure_candidate, measure_candidate_none, measure_candidate_some, measure_candidate_over, still_cost}
 use Rattle.probe.specs.declared.BestSoFar.{BestSoFar}
@@ -34,12 +33,12 @@ pub holds_by : {r : BestSoFar} {s t : Seen} {m n : ℕ} → Holds r s m → s �
 holds_by h e l = record { is = h.is ∙ e; down = h.down; across = h.across; few = let f = h.few in omega arith }
 
 -- the best so far may stay as it is
-pub holds_same : {older newer : List ℕ} {b : SearchBlock} {s : BestSoFar} {n : ℕ} {q : Seen} → Ongoing older newer b s n → seen_of s ≡ q
+pub holds_same : {s : BestSoFar} {n : ℕ} {q : Seen} → Ongoing s n → seen_of s ≡ q
     → Holds s q (s.count + 1)
 holds_same o e = record { is = e; down = o.down; across = o.across; few = omega arith }
 
 -- or with one more counted
-pub holds_more : {older newer : List ℕ} {b : SearchBlock} {s r : BestSoFar} {q : Seen} → Ongoing older newer b s 1 → r ≡ one_more s → seen_of (one_more s) ≡ q
+pub holds_more : {s r : BestSoFar} {q : Seen} → Ongoing s 1 → r ≡ one_more s → seen_of (one_more s) ≡ q
     → Holds r q (s.count + 1)
 holds_more o e f = rw e (record { is = f; down = o.down; across = o.across; few = omega arith })
 

@@ -4,16 +4,15 @@
 --   offset     the vector of a pair [dy, dx]; pairs: those of a table of pairs
 --   Pattern    a table of at most nine offset pairs, each in window 2
 --   probe_new   a point is tried, where it is not among those of a list
---   Ongoing    what a step asks: a block that can be searched, a best in window 16, and room in the count for so many more
+--   Ongoing    what a step asks: a best in window 16, and room in the count for so many more
 --   Holds      what a step promises: it holds what the definition says, the best in window 16, and at most so many measured
 --   result_of   the answer. 01: "Searches 3 and 4 count at m = 1."
 use Rattle.std.specs.Prelude.{ℕ, ◌+◌, ◌≤◌, ◌<◌, ◌≡◌, cond, List, [], ◌∷◌, ℤ, pos, length, get_or}
 use Rattle.signed.specs.Values.{unbias}
 use Rattle.order.specs.declared.Vector.{Vector}
 use Rattle.order.specs.Vectors.{vec, Within}
-use Rattle.frame.specs.declared.SearchBlock.{SearchBlock}
 use Rattle.search.specs.declared.SearchResult.{SearchResult}
-use Rattle.search.specs.Target.{Target, Ready}
+use Rattle.search.specs.Target.{Target}
 use Rattle.search.specs.SearchResult.{search_result, only_at_one}
 use Rattle.base.specs.Lists.{Each}
 use Rattle.probe.specs.declared.BestSoFar.{BestSoFar}
@@ -42,8 +41,7 @@ pub record Pattern (offsets : List (List ℤ)) : Type 0 where
 unfoldable pub probe_new : Target → List Vector → Seen → Vector → Seen
 probe_new t before s v = cond (is_in v before) s (probe_point t s v)
 
-pub record Ongoing (older newer : List ℕ) (b : SearchBlock) (s : BestSoFar) (n : ℕ) : Type 0 where
-  pub ready : Ready older newer b
+pub record Ongoing (s : BestSoFar) (n : ℕ) : Type 0 where
   pub down : s.y ≤ 32
   pub across : s.x ≤ 32
   pub room : s.count + n < 4294967296

@@ -6,12 +6,12 @@ ghost use Rattle.std.specs.Prelude.{◌≡◌, ◌+◌, ◌≤◌, ◌<◌, pos,
 ghost use Rattle.signed.specs.Int.{eq_z};
 ghost use Rattle.signed.specs.Values.{unbias};
 ghost use Rattle.order.specs.Vectors.{vec, same?};
-ghost use Rattle.search.specs.Target.{Ready, target_of, measure_candidate};
+ghost use Rattle.search.specs.Matchings.{target_in};
+ghost use Rattle.search.specs.Target.{measure_candidate};
 ghost use Rattle.probe.specs.Probe.{plus, probe_point, probe, at_origin, around, widened, is_in, fresh};
 ghost use Rattle.probe.specs.BestSoFar.{point, seen_of, one_more, pairs, probe_new, Pattern, Ongoing, Holds, result_of};
 
-use frame::SearchBlock;
-use search::{MeasuredCandidate, SearchResult};
+use search::{Matching, MeasuredCandidate, SearchResult};
 
 // The best vector seen by now, its parts kept as dy + 16 and dx + 16, with its distortion and the number measured.
 #[derive(Clone, Copy)]
@@ -23,35 +23,32 @@ pub struct BestSoFar {
 }
 
 // (0,0), measured.
-pub fn at_origin(older: &[u8], newer: &[u8], b: SearchBlock) -> BestSoFar
-    requires { Ready older.now newer.now b }
-    ensures { Holds result (at_origin (target_of older.now newer.now b)) 1 }
+pub fn at_origin(matching: Matching) -> BestSoFar
+    ensures { Holds result (at_origin (target_in matching.entry)) 1 }
 {
-    let y = b.y;
-    let x = b.x;
+    let y = matching.block.y;
+    let x = matching.block.x;
     BestSoFar {
         y: 16,
         x: 16,
-        least: distortion::block_distortion(older, newer, b.setting, y, x, y, x),
+        least: distortion::block_distortion(matching.older, matching.newer, matching.block.setting, y, x, y, x),
         count: 1,
     }
 }
 
 // The point (y, x), measured with the least so far as ceiling, where it is a candidate.
 fn against(
-    older: &[u8],
-    newer: &[u8],
-    b: SearchBlock,
+    matching: Matching,
     s: BestSoFar,
     y: usize,
     x: usize,
 ) -> MeasuredCandidate
-    requires { Ready older.now newer.now b × (y ≤ 32) × (x ≤ 32) }
-    ensures { result ≡ measure_candidate (target_of older.now newer.now b) s.least (point y x) }
+    requires { (y ≤ 32) × (x ≤ 32) }
+    ensures { result ≡ measure_candidate (target_in matching.entry) s.least (point y x) }
 {
     let dy = signed::unbiased(y);
     let dx = signed::unbiased(x);
-    search::measure_candidate(older, newer, b, dy, dx, s.least)
+    search::measure_candidate(matching, dy, dx, s.least)
 }
 
 // The best so far stays, and one more is counted.
@@ -69,17 +66,15 @@ fn one_more(s: BestSoFar) -> BestSoFar
 
 // The point (y, x) is tried: where it is a candidate it is measured, and only strictly smaller replaces.
 fn probe_point(
-    older: &[u8],
-    newer: &[u8],
-    b: SearchBlock,
+    matching: Matching,
     s: BestSoFar,
     y: usize,
     x: usize,
 ) -> BestSoFar
-    requires { Ongoing older.now newer.now b s 1 × (y ≤ 32) × (x ≤ 32) }
-    ensures { Holds result (probe_point (target_of older.now newer.now b) (seen_of s) (point y x)) (s.count + 1) }
+    requires { Ongoing s 1 × (y ≤ 32) × (x ≤ 32) }
+    ensures { Holds result (probe_point (target_in matching.entry) (seen_of s) (point y x)) (s.count + 1) }
 {
-    match against(older, newer, b, s, y, x) {
+    match against(matching, s, y, x) {
         MeasuredCandidate::NotCandidate => s,
         MeasuredCandidate::OverCeiling => one_more(s),
         MeasuredCandidate::Distortion(d) => {
@@ -130,9 +125,7 @@ pub fn is_in(y: usize, x: usize, cy: usize, cx: usize, offsets: &[[i32; 2]]) -> 
 
 // The point (dy, dx) from the centre (cy, cx) is tried, where it was not in the pattern `before` around (oy, ox).
 fn probe_new(
-    older: &[u8],
-    newer: &[u8],
-    b: SearchBlock,
+    matching: Matching,
     s: BestSoFar,
     cy: usize,
     cx: usize,
@@ -142,8 +135,8 @@ fn probe_new(
     ox: usize,
     before: &[[i32; 2]],
 ) -> BestSoFar
-    requires { Ongoing older.now newer.now b s 1 × (cy ≤ 32) × (cx ≤ 32) × (oy ≤ 32) × (ox ≤ 32) × (length before.now ≤ 9) }
-    ensures { Holds result (probe_new (target_of older.now newer.now b) (around (point oy ox) (pairs before.now)) (seen_of s)
+    requires { Ongoing s 1 × (cy ≤ 32) × (cx ≤ 32) × (oy ≤ 32) × (ox ≤ 32) × (length before.now ≤ 9) }
+    ensures { Holds result (probe_new (target_in matching.entry) (around (point oy ox) (pairs before.now)) (seen_of s)
         (plus (point cy cx) (vec dy dx))) (s.count + 1) }
 {
     let Some(y) = signed::shift(cy, dy, 32) else {
@@ -155,7 +148,7 @@ fn probe_new(
     if is_in(y, x, oy, ox, before) {
         return s;
     }
-    probe_point(older, newer, b, s, y, x)
+    probe_point(matching, s, y, x)
 }
 
 // p times an offset.
@@ -168,9 +161,7 @@ fn scaled(p: u32, d: i32) -> i32
 
 // A pattern's points around the best by now, at step size p, in the table's order, but for those in the pattern `before` around (oy, ox).
 pub fn pattern_new(
-    older: &[u8],
-    newer: &[u8],
-    b: SearchBlock,
+    matching: Matching,
     s: BestSoFar,
     offsets: &[[i32; 2]],
     p: u32,
@@ -178,8 +169,8 @@ pub fn pattern_new(
     ox: usize,
     before: &[[i32; 2]],
 ) -> BestSoFar
-    requires { Ongoing older.now newer.now b s 9 × Pattern offsets.now × (p ≤ 8) × (oy ≤ 32) × (ox ≤ 32) × (length before.now ≤ 9) }
-    ensures { Holds result (probe (target_of older.now newer.now b) (seen_of s)
+    requires { Ongoing s 9 × Pattern offsets.now × (p ≤ 8) × (oy ≤ 32) × (ox ≤ 32) × (length before.now ≤ 9) }
+    ensures { Holds result (probe (target_in matching.entry) (seen_of s)
         (fresh (around (point oy ox) (pairs before.now))
         (around (point s.y s.x) (widened p (pairs offsets.now))))) (s.count + 9) }
 {
@@ -189,25 +180,23 @@ pub fn pattern_new(
     for &[dy, dx] in offsets {
         let down = scaled(p, dy);
         let across = scaled(p, dx);
-        best = probe_new(older, newer, b, best, cy, cx, down, across, oy, ox, before);
+        best = probe_new(matching, best, cy, cx, down, across, oy, ox, before);
     }
     best
 }
 
 // A pattern's points around the best by now, at step size p, in the table's order: none was in a pattern before.
 pub fn pattern(
-    older: &[u8],
-    newer: &[u8],
-    b: SearchBlock,
+    matching: Matching,
     s: BestSoFar,
     offsets: &[[i32; 2]],
     p: u32,
 ) -> BestSoFar
-    requires { Ongoing older.now newer.now b s 9 × Pattern offsets.now × (p ≤ 8) }
-    ensures { Holds result (probe (target_of older.now newer.now b) (seen_of s)
+    requires { Ongoing s 9 × Pattern offsets.now × (p ≤ 8) }
+    ensures { Holds result (probe (target_in matching.entry) (seen_of s)
         (around (point s.y s.x) (widened p (pairs offsets.now)))) (s.count + 9) }
 {
-    pattern_new(older, newer, b, s, offsets, p, 16, 16, &offsets[0..0])
+    pattern_new(matching, s, offsets, p, 16, 16, &offsets[0..0])
 }
 
 // The answer: the parts without their 16.

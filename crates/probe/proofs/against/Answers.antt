@@ -4,9 +4,6 @@ use mir.Facts.{to_z-of_z}
 use mir.Syntax.{w32}
 use Rattle.probe.proofs.against.Goals as goal
 
-pub measure_candidate-requires : goal.measure_candidate-requires
-measure_candidate-requires c = c.requires.0
-
 pub returns : goal.returns
 returns c =
     rw (

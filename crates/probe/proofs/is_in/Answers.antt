@@ -9,7 +9,7 @@ use mir.Facts.{to_z-of_z}
 use Rattle.order.specs.Vectors.{same?}
 use Rattle.probe.specs.Probe.{plus}
 use Rattle.probe.specs.BestSoFar.{point, offset}
-use Rattle.probe.proofs.Looks.{missing_first, missing_hit, missing_more, missing_last}
+use Rattle.probe.proofs.Looks.{missing_hit, missing_more, missing_last}
 use mir.Syntax.{w32}
 use Rattle.probe.proofs.is_in.Goals as goal
 use Rattle.probe.proofs.is_in.Goals.{After-is_at}

@@ -1,7 +1,7 @@
 -- `pattern`: no point is in a pattern without offsets.
 use mathlib.Core.Path.{ap}
 use native.Mathlib.Omega.{arith}
-use Rattle.search.specs.Target.{target_of}
+use Rattle.search.specs.Matchings.{target_in}
 use Rattle.probe.specs.Probe.{probe, around}
 use Rattle.probe.specs.BestSoFar.{seen_of, pairs}
 use Rattle.probe.proofs.Probe.{fresh_none}
@@ -12,4 +12,4 @@ pub returns : goal.returns
 unfolding pairs around
 returns c =
     let a = c.args in
-    holds_by c.pattern_new.ensures (ap (probe (target_of a.older.now a.newer.now a.b) (seen_of a.s)) (fresh_none _)) (omega arith)
+    holds_by c.pattern_new.ensures (ap (probe (target_in a.matching) (seen_of a.s)) (fresh_none _)) (omega arith)

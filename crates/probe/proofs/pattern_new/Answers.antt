@@ -14,7 +14,7 @@ use Rattle.order.specs.declared.Vector.{Vector}
 use Rattle.order.specs.Vectors.{Within}
 use Rattle.probe.specs.BestSoFar.{offset}
 use Rattle.probe.proofs.Probe.{within_more}
-use Rattle.probe.proofs.Looks.{going_first, going_near, going_more, going_last}
+use Rattle.probe.proofs.Looks.{going_near, going_more, going_last}
 use Rattle.probe.proofs.pattern_new.Goals as goal
 use Rattle.probe.proofs.pattern_new.Goals.{After-scaled-across, After-scaled-down, In-loop-dy}
 

@@ -5,7 +5,7 @@ use native.Mathlib.Omega.{arith}
 use mir.Facts.{to_z-of_z}
 use Rattle.signed.specs.Values.{shifted_by, shifted_is}
 use Rattle.order.specs.Vectors.{vec}
-use Rattle.search.specs.Target.{target_of}
+use Rattle.search.specs.Matchings.{target_in}
 use Rattle.probe.specs.Probe.{plus, around}
 use Rattle.probe.specs.BestSoFar.{point, seen_of, pairs, probe_new, Holds}
 use Rattle.probe.proofs.Looks.{holds_same, moved_at, moved_out, far_down, far_across, new_in, new_out, holds_by}
@@ -39,14 +39,14 @@ pub returns-in_default : goal.returns-in_default
 returns-in_default c =
     let a = c.args in
     let q = c.requires in
-    holds_same q.0 (far_down _ _ _ _ q.0.ready.window _ _ _ (moved_out a.cy a.dy q.1 (sym (row (goal.at.returns-in_default c).After-shift) ∙ c.in_default.is)))
+    holds_same q.0 (far_down _ _ _ _ a.matching.ready.window _ _ _ (moved_out a.cy a.dy q.1 (sym (row (goal.at.returns-in_default c).After-shift) ∙ c.in_default.is)))
 
 pub returns-in_default-shift : goal.returns-in_default-shift
 returns-in_default-shift c =
     let a = c.args in
     let q = c.requires in
     holds_same q.0
-    (far_across _ _ _ _ q.0.ready.window _ _ _ (moved_out a.cx a.dx q.2 (sym (column (goal.at.returns-in_default-shift c).After-shift-2) ∙ c.in_default-shift.is)))
+    (far_across _ _ _ _ a.matching.ready.window _ _ _ (moved_out a.cx a.dx q.2 (sym (column (goal.at.returns-in_default-shift c).After-shift-2) ∙ c.in_default-shift.is)))
 
 pub is_in-requires : goal.is_in-requires
 is_in-requires c = ((placed c).0, (placed c).1, omega arith, omega arith, omega arith)
@@ -62,6 +62,6 @@ pub returns : goal.returns
 returns c =
     let a = c.args in
     let before = around (point a.oy a.ox) (pairs a.before.now) in
-    let t = target_of a.older.now a.newer.now a.b in
+    let t = target_in a.matching in
     subst (λ v. Holds c.probe_point.result (probe_new t before (seen_of a.s) v) (a.s.count + 1)) (placed (goal.at.returns c).In-Some-shift).2
     (holds_by c.probe_point.ensures (new_out t (seen_of a.s) _ before (sym c.is_in.ensures ∙ c.if-is_in.false)) (omega arith))
