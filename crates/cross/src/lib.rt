@@ -4,13 +4,12 @@
 
 ghost use Rattle.std.specs.Prelude.{◌≡◌, ◌+◌, ◌/◌, ◌≤◌, T};
 ghost use Rattle.refusals.specs.Cross.{cross_window};
-ghost use Rattle.search.specs.Target.{Ready, target_of};
+ghost use Rattle.search.specs.Matchings.{target_in};
 ghost use Rattle.probe.specs.BestSoFar.{point, seen_of, Ongoing, Holds, result_of};
 ghost use Rattle.cross.specs.Cross.{pass, all_passes, on_diagonal, ended, finished, cross};
 
-use frame::SearchBlock;
 use probe::BestSoFar;
-use search::SearchResult;
+use search::{Matching, SearchResult};
 
 // The tables of offset pairs, dy and dx: the ends of a St. Andrew's cross (X) and of a Greek cross (+), and step 6's points.
 const DIAGONAL_CROSS: [[i32; 2]; 4] = [[-1, -1], [-1, 1], [1, -1], [1, 1]];
@@ -20,23 +19,23 @@ const PLUS_CROSS: [[i32; 2]; 4] = [[-1, 0], [0, -1], [1, 0], [0, 1]];
 const DIAGONAL: [[i32; 2]; 3] = [[0, 0], [-1, -1], [1, 1]];
 
 // Steps 3 and 4, at step size p.
-fn pass_at(older: &[u8], newer: &[u8], b: SearchBlock, s: BestSoFar, p: u32) -> BestSoFar
-    requires { Ongoing older.now newer.now b s 9 × (p ≤ 8) }
-    ensures { Holds result (pass (target_of older.now newer.now b) p (seen_of s)) (s.count + 9) }
+fn pass_at(matching: Matching, s: BestSoFar, p: u32) -> BestSoFar
+    requires { Ongoing s 9 × (p ≤ 8) }
+    ensures { Holds result (pass (target_in matching.entry) p (seen_of s)) (s.count + 9) }
 {
     let t = DIAGONAL_CROSS;
-    probe::pattern(older, newer, b, s, &t, p)
+    probe::pattern(matching, s, &t, p)
 }
 
 // Steps 2 to 5: passes at w / 2, w / 4 and so on, down to 2. w is halved log2 w times, the last time to 1.
-fn all_passes(older: &[u8], newer: &[u8], b: SearchBlock, s: BestSoFar) -> BestSoFar
-    requires { Ongoing older.now newer.now b s 27 × T (cross_window b.w) }
-    ensures { Holds result (all_passes b.w (target_of older.now newer.now b) (b.w / 2) (seen_of s)) (s.count + 27) }
+fn all_passes(matching: Matching, s: BestSoFar) -> BestSoFar
+    requires { Ongoing s 27 × T (cross_window matching.block.w) }
+    ensures { Holds result (all_passes matching.entry.block.w (target_in matching.entry) (matching.entry.block.w / 2) (seen_of s)) (s.count + 27) }
 {
     let mut best = s;
-    let mut p = (b.w / 2) as u32;
-    for _pass in 1..refusals::log2_window(b.w) {
-        best = pass_at(older, newer, b, best, p);
+    let mut p = (matching.block.w / 2) as u32;
+    for _pass in 1..refusals::log2_window(matching.block.w) {
+        best = pass_at(matching, best, p);
         p /= 2;
     }
     best
@@ -52,37 +51,37 @@ fn on_diagonal(iy: usize, ix: usize, my: usize, mx: usize) -> bool
 }
 
 // Steps 7 and 8.
-fn end(older: &[u8], newer: &[u8], b: SearchBlock, s: BestSoFar, plus_cross: bool) -> BestSoFar
-    requires { Ongoing older.now newer.now b s 9 }
-    ensures { Holds result (ended (target_of older.now newer.now b) plus_cross (seen_of s)) (s.count + 9) }
+fn end(matching: Matching, s: BestSoFar, plus_cross: bool) -> BestSoFar
+    requires { Ongoing s 9 }
+    ensures { Holds result (ended (target_in matching.entry) plus_cross (seen_of s)) (s.count + 9) }
 {
     if plus_cross {
         let t = PLUS_CROSS;
-        return probe::pattern(older, newer, b, s, &t, 1);
+        return probe::pattern(matching, s, &t, 1);
     }
-    pass_at(older, newer, b, s, 1)
+    pass_at(matching, s, 1)
 }
 
 // The pass at p = 1, then steps 6 to 8.
-fn finish(older: &[u8], newer: &[u8], b: SearchBlock, s: BestSoFar) -> BestSoFar
-    requires { Ongoing older.now newer.now b s 18 }
-    ensures { Holds result (finished (target_of older.now newer.now b) (seen_of s)) (s.count + 18) }
+fn finish(matching: Matching, s: BestSoFar) -> BestSoFar
+    requires { Ongoing s 18 }
+    ensures { Holds result (finished (target_in matching.entry) (seen_of s)) (s.count + 18) }
 {
-    let q = pass_at(older, newer, b, s, 1);
+    let q = pass_at(matching, s, 1);
     let plus_cross = on_diagonal(s.y, s.x, q.y, q.x);
-    end(older, newer, b, q, plus_cross)
+    end(matching, q, plus_cross)
 }
 
 // The search: step 1, then the rest.
-pub fn search(older: &[u8], newer: &[u8], b: SearchBlock, t: u32) -> SearchResult
-    requires { Ready older.now newer.now b × T (cross_window b.w) }
-    ensures { result ≡ result_of (cross (target_of older.now newer.now b) t b.w) }
+pub fn search(matching: Matching, t: u32) -> SearchResult
+    requires { T (cross_window matching.block.w) }
+    ensures { result ≡ result_of (cross (target_in matching.entry) t matching.entry.block.w) }
 {
-    let s = probe::at_origin(older, newer, b);
+    let s = probe::at_origin(matching);
     if s.least < t {
         return probe::result_of(s);
     }
-    let q = all_passes(older, newer, b, s);
-    let r = finish(older, newer, b, q);
+    let q = all_passes(matching, s);
+    let r = finish(matching, q);
     probe::result_of(r)
 }

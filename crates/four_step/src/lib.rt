@@ -4,14 +4,13 @@
 #![tactic(auto)]
 
 ghost use Rattle.std.specs.Prelude.{◌≡◌, ◌+◌, ◌≤◌};
-ghost use Rattle.search.specs.Target.{Ready, target_of};
+ghost use Rattle.search.specs.Matchings.{target_in};
 ghost use Rattle.order.specs.Vectors.{same?};
 ghost use Rattle.probe.specs.BestSoFar.{point, seen_of, Ongoing, Holds, result_of};
 ghost use Rattle.four_step.specs.FourStep.{step1, step23, step4, from3, from2, four_step};
 
-use frame::SearchBlock;
 use probe::BestSoFar;
-use search::SearchResult;
+use search::{Matching, SearchResult};
 
 // The tables of offset pairs, dy and dx: centre, then the eight around it, row by row, at distance 2; the eight at distance 1.
 const SQUARE: [[i32; 2]; 9] = [
@@ -38,38 +37,35 @@ const RING: [[i32; 2]; 8] = [
 ];
 
 // Step 1: (0,0), then the eight around it.
-fn step_one(older: &[u8], newer: &[u8], b: SearchBlock) -> BestSoFar
-    requires { Ready older.now newer.now b }
-    ensures { Holds result (step1 (target_of older.now newer.now b)) 10 }
+fn step_one(matching: Matching) -> BestSoFar
+    ensures { Holds result (step1 (target_in matching.entry)) 10 }
 {
-    let s = probe::at_origin(older, newer, b);
+    let s = probe::at_origin(matching);
     let t = SQUARE;
-    probe::pattern(older, newer, b, s, &t[1..9], 1)
+    probe::pattern(matching, s, &t[1..9], 1)
 }
 
 // Steps 2 and 3, after a pattern around (cy, cx).
 fn step_on(
-    older: &[u8],
-    newer: &[u8],
-    b: SearchBlock,
+    matching: Matching,
     s: BestSoFar,
     cy: usize,
     cx: usize,
 ) -> BestSoFar
-    requires { Ongoing older.now newer.now b s 9 × (cy ≤ 32) × (cx ≤ 32) }
-    ensures { Holds result (step23 (target_of older.now newer.now b) (point cy cx) (seen_of s)) (s.count + 9) }
+    requires { Ongoing s 9 × (cy ≤ 32) × (cx ≤ 32) }
+    ensures { Holds result (step23 (target_in matching.entry) (point cy cx) (seen_of s)) (s.count + 9) }
 {
     let t = SQUARE;
-    probe::pattern_new(older, newer, b, s, &t, 1, cy, cx, &t)
+    probe::pattern_new(matching, s, &t, 1, cy, cx, &t)
 }
 
 // Step 4.
-fn step_last(older: &[u8], newer: &[u8], b: SearchBlock, s: BestSoFar) -> BestSoFar
-    requires { Ongoing older.now newer.now b s 9 }
-    ensures { Holds result (step4 (target_of older.now newer.now b) (seen_of s)) (s.count + 9) }
+fn step_last(matching: Matching, s: BestSoFar) -> BestSoFar
+    requires { Ongoing s 9 }
+    ensures { Holds result (step4 (target_in matching.entry) (seen_of s)) (s.count + 9) }
 {
     let t = RING;
-    probe::pattern(older, newer, b, s, &t, 1)
+    probe::pattern(matching, s, &t, 1)
 }
 
 // The centre (cy, cx) stays: it is still the best.
@@ -84,48 +80,43 @@ fn stays(s: BestSoFar, cy: usize, cx: usize) -> bool
 
 // From step 3 on, after a pattern around (cy, cx): a centre that stays leads to step 4, and so does step 3.
 fn from_three(
-    older: &[u8],
-    newer: &[u8],
-    b: SearchBlock,
+    matching: Matching,
     s: BestSoFar,
     cy: usize,
     cx: usize,
 ) -> BestSoFar
-    requires { Ongoing older.now newer.now b s 18 × (cy ≤ 32) × (cx ≤ 32) }
-    ensures { Holds result (from3 (target_of older.now newer.now b) (point cy cx) (seen_of s)) (s.count + 18) }
+    requires { Ongoing s 18 × (cy ≤ 32) × (cx ≤ 32) }
+    ensures { Holds result (from3 (target_in matching.entry) (point cy cx) (seen_of s)) (s.count + 18) }
 {
     if stays(s, cy, cx) {
-        return step_last(older, newer, b, s);
+        return step_last(matching, s);
     }
-    let t = step_on(older, newer, b, s, cy, cx);
-    step_last(older, newer, b, t)
+    let t = step_on(matching, s, cy, cx);
+    step_last(matching, t)
 }
 
 // From step 2 on, after a pattern around (cy, cx): a centre that stays leads to step 4, step 2 to step 3.
 fn from_two(
-    older: &[u8],
-    newer: &[u8],
-    b: SearchBlock,
+    matching: Matching,
     s: BestSoFar,
     cy: usize,
     cx: usize,
 ) -> BestSoFar
-    requires { Ongoing older.now newer.now b s 27 × (cy ≤ 32) × (cx ≤ 32) }
-    ensures { Holds result (from2 (target_of older.now newer.now b) (point cy cx) (seen_of s)) (s.count + 27) }
+    requires { Ongoing s 27 × (cy ≤ 32) × (cx ≤ 32) }
+    ensures { Holds result (from2 (target_in matching.entry) (point cy cx) (seen_of s)) (s.count + 27) }
 {
     if stays(s, cy, cx) {
-        return step_last(older, newer, b, s);
+        return step_last(matching, s);
     }
-    let t = step_on(older, newer, b, s, cy, cx);
-    from_three(older, newer, b, t, s.y, s.x)
+    let t = step_on(matching, s, cy, cx);
+    from_three(matching, t, s.y, s.x)
 }
 
 // The search.
-pub fn search(older: &[u8], newer: &[u8], b: SearchBlock) -> SearchResult
-    requires { Ready older.now newer.now b }
-    ensures { result ≡ result_of (four_step (target_of older.now newer.now b)) }
+pub fn search(matching: Matching) -> SearchResult
+    ensures { result ≡ result_of (four_step (target_in matching.entry)) }
 {
-    let s = step_one(older, newer, b);
-    let r = from_two(older, newer, b, s, 16, 16);
+    let s = step_one(matching);
+    let r = from_two(matching, s, 16, 16);
     probe::result_of(r)
 }

@@ -1,7 +1,7 @@
 -- `from_three`: the two sides of the test are the definition's.
 use mathlib.Core.Path.{ap, sym, ◌∙◌}
 use native.Mathlib.Omega.{arith}
-use Rattle.search.specs.Target.{target_of}
+use Rattle.search.specs.Matchings.{target_in}
 use Rattle.probe.proofs.Looks.{holds_by}
 use Rattle.four_step.specs.FourStep.{step4}
 use Rattle.four_step.proofs.Steps.{from3_stays, from3_moves}
@@ -14,5 +14,5 @@ pub returns : goal.returns
 returns c =
     let a = c.args in
     holds_by c.step_last-2.ensures
-    (ap (step4 (target_of a.older.now a.newer.now a.b)) c.step_on-t.ensures.is
+    (ap (step4 (target_in a.matching)) c.step_on-t.ensures.is
     ∙ from3_moves _ _ _ (sym c.stays.ensures ∙ c.if-stays.false)) (omega arith)

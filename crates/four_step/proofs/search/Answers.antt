@@ -1,7 +1,7 @@
 -- `search`: step 1, then the rest from (0,0).
 use mathlib.Core.Path.{ap, ◌∙◌}
 use Rattle.signed.specs.Values.{unbias}
-use Rattle.search.specs.Target.{target_of}
+use Rattle.search.specs.Matchings.{target_in}
 use Rattle.probe.specs.Probe.{origin}
 use Rattle.probe.specs.BestSoFar.{result_of}
 use Rattle.four_step.specs.FourStep.{from2, four_step}
@@ -14,4 +14,4 @@ returns c =
     c.result_of.ensures
     ∙ ap result_of
     (c.from_two-r.ensures.is
-    ∙ ap (from2 (target_of a.older.now a.newer.now a.b) origin) c.step_one-s.ensures.is)
+    ∙ ap (from2 (target_in a.matching) origin) c.step_one-s.ensures.is)

@@ -1,7 +1,7 @@
 -- `step_one`: the table without its first pair is the pattern without its centre.
 use native.Mathlib.Omega.{arith}
 use lib.Dec.{lit≤}
-use Rattle.search.specs.Target.{target_of}
+use Rattle.search.specs.Matchings.{target_in}
 use Rattle.probe.specs.Probe.{widened, is_in, fresh}
 use Rattle.probe.specs.BestSoFar.{seen_of, pairs}
 use Rattle.probe.proofs.Probe.{all?}
@@ -14,11 +14,11 @@ pub pattern-requires : goal.pattern-requires
 unfolding pattern? pairs all?
 pattern-requires c =
     let f = c.at_origin-s.ensures in
-    (record { ready = c.requires; down = f.down; across = f.across; room = omega arith }, pattern_yes _ tt, lit≤ tt)
+    (record { down = f.down; across = f.across; room = omega arith }, pattern_yes _ tt, lit≤ tt)
 
 pub returns : goal.returns
 unfolding square fresh is_in widened pairs
 returns c =
     let a = c.args in
     let f = c.at_origin-s in
-    holds_by c.pattern.ensures (step1_is (target_of a.older.now a.newer.now a.b) (seen_of f.result) f.ensures.is) (omega arith)
+    holds_by c.pattern.ensures (step1_is (target_in a.matching) (seen_of f.result) f.ensures.is) (omega arith)
