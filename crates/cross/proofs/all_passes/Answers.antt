@@ -13,8 +13,7 @@ loop-pass-init c =
 pub pass_at-best-requires : goal.pass_at-best-requires
 pass_at-best-requires c =
     let g = c.loop-pass.invariant in
-    let q = c.requires.0 in
-    (record { down = g.down; across = g.across; room = omega arith }, omega (arith, q.ready.window))
+    (record { down = g.down; across = g.across; room = omega arith }, omega (arith, c.args.matching.ready.window))
 
 pub loop-pass-preserved : goal.loop-pass-preserved
 loop-pass-preserved c =
