@@ -10,7 +10,7 @@ ghost use Rattle.measures.specs.Measures.{measure_of};
 ghost use Rattle.frame.specs.Pictures.{pair_of};
 ghost use Rattle.refusals.specs.Refusals.{block_size_ok};
 ghost use Rattle.distortion.specs.Blocks.{UpTo, rows_from, kernel_of, size_by, measure_by};
-ghost use Rattle.search.specs.Target.{Ready};
+ghost use Rattle.search.specs.Matchings.{pair_in};
 ghost use Rattle.reach.specs.Reach.{Standing, reach};
 ghost use Rattle.reach.specs.Keys.{order_code, code_of};
 ghost use Rattle.full.specs.Full.{full_search};
@@ -18,7 +18,7 @@ ghost use Rattle.full.specs.Rows.{key_in_copy, least_from, window_copy, key_at, 
 ghost use Rattle.full.specs.Columns.{strip_of, Twice, key_in_strip, key_by_column};
 
 use frame::{Region, SearchBlock};
-use search::SearchResult;
+use search::{Matching, SearchResult};
 
 // The copies of a block and its search window, in rows of window_copy::ROW places.
 const WINDOW: usize = window_copy::ROW * window_copy::ROW;
@@ -152,15 +152,15 @@ fn copy_window(older: &[u8], b: SearchBlock, r: Region, window: &mut [u8; WINDOW
 }
 
 // The least key of all candidates, from that of (0,0) on.
-fn by_rows(older: &[u8], newer: &[u8], b: SearchBlock, r: Region, first: u64) -> u64
-    requires { Ready older.now newer.now b × (r ≡ reach b) × (first ≡ key_at older.now newer.now b 16 16) × (first < 1125899906842624) }
-    ensures { LeastKey (key_at older.now newer.now b) (reach b) result }
+fn by_rows(matching: Matching, r: Region, first: u64) -> u64
+    requires { let m = matching in (r ≡ reach m.block) × (first ≡ key_at m.older.now m.newer.now m.block 16 16) × (first < 1125899906842624) }
+    ensures { let m = matching.entry in LeastKey (key_at m.older.now m.newer.now m.block) (reach m.block) result }
 {
-    let s = b.setting;
+    let s = matching.block.setting;
     let mut window = [0u8; WINDOW];
     let mut block = [0u8; BLOCK];
-    copy_window(older, b, r, &mut window);
-    window_copy::copy_block(newer, b, &mut block, 0, window_copy::ROW);
+    copy_window(matching.older, matching.block, r, &mut window);
+    window_copy::copy_block(matching.newer, matching.block, &mut block, 0, window_copy::ROW);
     rows_least(
         &window,
         &block,
@@ -256,44 +256,44 @@ fn columns_least(window: &[u8; WINDOW], block: &[u8; TWICE], r: Region, first: u
 }
 
 // The least key of all candidates, from that of (0,0) on, for N 8 and absolute differences.
-fn by_columns(older: &[u8], newer: &[u8], b: SearchBlock, r: Region, first: u64) -> u64
-    requires { Ready older.now newer.now b × (r ≡ reach b) × (first ≡ key_at older.now newer.now b 16 16)
-        × (kernel_of b.setting.measure b.setting.n ≡ 8) }
-    ensures { LeastKey (key_at older.now newer.now b) (reach b) result }
+fn by_columns(matching: Matching, r: Region, first: u64) -> u64
+    requires { let m = matching in (r ≡ reach m.block) × (first ≡ key_at m.older.now m.newer.now m.block 16 16)
+        × (kernel_of m.block.setting.measure m.block.setting.n ≡ 8) }
+    ensures { let m = matching.entry in LeastKey (key_at m.older.now m.newer.now m.block) (reach m.block) result }
 {
     let mut window = [0u8; WINDOW];
     let mut block = [0u8; TWICE];
-    copy_window(older, b, r, &mut window);
-    window_copy::copy_block(newer, b, &mut block, 0, 8);
-    window_copy::copy_block(newer, b, &mut block, 64, 8);
+    copy_window(matching.older, matching.block, r, &mut window);
+    window_copy::copy_block(matching.newer, matching.block, &mut block, 0, 8);
+    window_copy::copy_block(matching.newer, matching.block, &mut block, 64, 8);
     columns_least(&window, &block, r, first)
 }
 
 // ---- the search
 
 // The least key of all candidates. None is less than that of (0,0) with a distortion of 0.
-fn least_key(older: &[u8], newer: &[u8], b: SearchBlock, r: Region) -> u64
-    requires { Ready older.now newer.now b × (r ≡ reach b) }
-    ensures { LeastKey (key_at older.now newer.now b) (reach b) result × (result < 1125899906842624) }
+fn least_key(matching: Matching, r: Region) -> u64
+    requires { r ≡ reach matching.block }
+    ensures { let m = matching.entry in LeastKey (key_at m.older.now m.newer.now m.block) (reach m.block) result × (result < 1125899906842624) }
 {
-    let d = distortion::block_distortion(older, newer, b.setting, b.y, b.x, b.y, b.x);
+    let b = matching.block;
+    let d = distortion::block_distortion(matching.older, matching.newer, b.setting, b.y, b.x, b.y, b.x);
     let first = d as u64 * 262144 + 1040;
     if d == 0 {
         return first;
     }
     if distortion::kernel(b.setting.measure, b.setting.n) == 8 {
-        return by_columns(older, newer, b, r, first);
+        return by_columns(matching, r, first);
     }
-    by_rows(older, newer, b, r, first)
+    by_rows(matching, r, first)
 }
 
 // Search 1 of one block.
-pub fn search(older: &[u8], newer: &[u8], b: SearchBlock) -> SearchResult
-    requires { Ready older.now newer.now b }
-    ensures { result ≡ full_search (pair_of older.now newer.now b.setting) b.w b.y b.x }
+pub fn search(matching: Matching) -> SearchResult
+    ensures { let m = matching.entry in result ≡ full_search (pair_in m) m.block.w m.block.y m.block.x }
 {
-    let r = reach::reach(b);
-    let key = least_key(older, newer, b, r);
+    let r = reach::reach(matching.block);
+    let key = least_key(matching, r);
     SearchResult {
         refusal: 0,
         dy: signed::unbiased((key / 64 % 64) as usize),

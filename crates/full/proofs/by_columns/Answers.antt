@@ -24,33 +24,33 @@ eight : (older newer : List ℕ) (b : SearchBlock) → Ready older newer b → k
 eight older newer b r e = kernel_is (sym e) r.placed.paired.allowed
 
 window-is : (k : After-copy_block-2) → let a = k.args in
-    k.copy_window.new.window ≡ window_copy a.older.now a.b (replicate 4096 0)
+    k.copy_window.new.window ≡ window_copy a.matching.older.now a.matching.block (replicate 4096 0)
 window-is k = k.copy_window.ensures
 
-block-is : (k : After-copy_block-2) → let a = k.args in k.copy_block-2.new.copy ≡ block_twice a.newer.now a.b (replicate 128 0)
+block-is : (k : After-copy_block-2) → let a = k.args in k.copy_block-2.new.copy ≡ block_twice a.matching.newer.now a.matching.block (replicate 128 0)
 block-is k =
-    let n = sym (eight _ _ _ k.requires.0 k.requires.3).size in
+    let n = sym (eight _ _ _ k.args.matching.ready k.requires.2).size in
     rw (rw n at k.copy_block.ensures) at (rw n at k.copy_block-2.ensures)
 
 -- in reach they have the keys of the frames
-keys : (k : After-copy_block-2) (i j : ℕ) → let a = k.args in InReach (reach a.b) i j
-    → key_by_column k.copy_window.new.window k.copy_block-2.new.copy i j ≡ key_at a.older.now a.newer.now a.b i j
+keys : (k : After-copy_block-2) (i j : ℕ) → let a = k.args in InReach (reach a.matching.block) i j
+    → key_by_column k.copy_window.new.window k.copy_block-2.new.copy i j ≡ key_at a.matching.older.now a.matching.newer.now a.matching.block i j
 keys k i j h =
-    let e = eight _ _ _ k.requires.0 k.requires.3 in
+    let e = eight _ _ _ k.args.matching.ready k.requires.2 in
     ap₂ (λ (w v : List ℕ). key_by_column w v i j) (window-is k) (block-is k)
-    ∙ key-in-strip _ _ _ refl _ (ready_standing _ _ _ k.requires.0) _ refl (sym e.size) (sym e.measure_is) i j h
+    ∙ key-in-strip _ _ _ refl _ (ready_standing _ _ _ k.args.matching.ready) _ refl (sym e.size) (sym e.measure_is) i j h
 
 pub copy_window-requires : goal.copy_window-requires
 copy_window-requires c =
-    (ready_standing _ _ _ c.requires.0, size _ _ _ c.requires.0, omega (arith, c.requires.0.placed.paired.older_whole), c.requires.1, refl)
+    (ready_standing _ _ _ c.args.matching.ready, size _ _ _ c.args.matching.ready, omega (arith, c.args.matching.ready.placed.paired.older_whole), c.requires.0, refl)
 
 -- what copying the block asks
-asked : (s : Start) (at long : ℕ) → at ≤ 64 → long ≡ 128 → let b = s.args.b in
-    Standing b × (b.setting.n ≤ 32) × (b.setting.height * b.setting.width ≤ length s.args.newer.now) × (8 ≤ 64)
+asked : (s : Start) (at long : ℕ) → at ≤ 64 → long ≡ 128 → let b = s.args.matching.block in
+    Standing b × (b.setting.n ≤ 32) × (b.setting.height * b.setting.width ≤ length s.args.matching.newer.now) × (8 ≤ 64)
     × (at + b.setting.n * 8 + b.setting.n ≤ long + 8)
 asked s at long h e =
-    let n = (eight _ _ _ s.requires.0 s.requires.3).size in
-    (ready_standing _ _ _ s.requires.0, omega (arith, n), omega (arith, s.requires.0.placed.paired.newer_whole), omega arith, omega (arith, n))
+    let n = (eight _ _ _ s.args.matching.ready s.requires.2).size in
+    (ready_standing _ _ _ s.args.matching.ready, omega (arith, n), omega (arith, s.args.matching.ready.placed.paired.newer_whole), omega arith, omega (arith, n))
 
 pub copy_block-requires : goal.copy_block-requires
 copy_block-requires c = asked (goal.at.copy_block-requires c).Start 0 _ (omega arith) refl
@@ -62,12 +62,12 @@ pub columns_least-requires : goal.columns_least-requires
 columns_least-requires c =
     let a = c.args in
     let p = c.requires in (
-      rw (window-is (goal.at.columns_least-requires c).After-copy_block-2) (window_copy_long a.older.now a.b (ready_standing _ _ _ p.0) (size _ _ _ p.0) (replicate 4096 0) refl),
-      rw (block-is (goal.at.columns_least-requires c).After-copy_block-2) (twice_long a.newer.now a.b (replicate 128 0) refl),
-      rw (block-is (goal.at.columns_least-requires c).After-copy_block-2) (twice_is a.newer.now a.b (replicate 128 0) refl),
-      rw p.1 (around _ _ _ p.0),
-      p.2 ∙ sym (keys (goal.at.columns_least-requires c).After-copy_block-2 16 16 (middle _ _ _ p.0)),
+      rw (window-is (goal.at.columns_least-requires c).After-copy_block-2) (window_copy_long a.matching.older.now a.matching.block (ready_standing _ _ _ c.args.matching.ready) (size _ _ _ c.args.matching.ready) (replicate 4096 0) refl),
+      rw (block-is (goal.at.columns_least-requires c).After-copy_block-2) (twice_long a.matching.newer.now a.matching.block (replicate 128 0) refl),
+      rw (block-is (goal.at.columns_least-requires c).After-copy_block-2) (twice_is a.matching.newer.now a.matching.block (replicate 128 0) refl),
+      rw p.0 (around _ _ _ c.args.matching.ready),
+      p.1 ∙ sym (keys (goal.at.columns_least-requires c).After-copy_block-2 16 16 (middle _ _ _ c.args.matching.ready)),
     )
 
 pub returns : goal.returns
-returns c = least_same _ _ _ _ (keys (goal.at.returns c).After-copy_block-2) (rw c.requires.1 at c.columns_least.ensures)
+returns c = least_same _ _ _ _ (keys (goal.at.returns c).After-copy_block-2) (rw c.requires.0 at c.columns_least.ensures)

@@ -15,10 +15,10 @@ use Rattle.full.proofs.least_key.Goals.{After-block_distortion-d}
 
 -- the key of (0,0) is the first
 first-is : (c : After-block_distortion-d) → let a = c.args in
-    c.block_distortion-d.result * 262144 + 1040 ≡ key_at a.older.now a.newer.now a.b 16 16
+    c.block_distortion-d.result * 262144 + 1040 ≡ key_at a.matching.older.now a.matching.newer.now a.matching.block 16 16
 unfolding key_of distortion
 first-is c =
-    let b = c.args.b in
+    let b = c.args.matching.block in
     let o = older-at b.y b.x 16 16 (omega arith) (omega arith) in
     let y : b.y + 16 - 16 ≡ b.y = omega arith in
     let x : b.x + 16 - 16 ≡ b.x = omega arith in
@@ -33,30 +33,30 @@ pub returns-then-d-eq0 : goal.returns-then-d-eq0
 returns-then-d-eq0 c =
     let e = first-is (goal.at.returns-then-d-eq0 c).After-block_distortion-d in (
       record {
-        some = (16, 16, middle _ _ _ c.requires.0, e);
-        least = λ i j h. let small = reach_small _ (ready_standing _ _ _ c.requires.0) i j h in
-            omega (arith, lowest (distortion (pair_of c.args.older.now c.args.newer.now c.args.b.setting) c.args.b.y c.args.b.x (grid_vector i j)) i j small.0 small.1, c.if-d-eq0.true);
+        some = (16, 16, middle _ _ _ c.args.matching.ready, e);
+        least = λ i j h. let small = reach_small _ (ready_standing _ _ _ c.args.matching.ready) i j h in
+            omega (arith, lowest (distortion (pair_of c.args.matching.older.now c.args.matching.newer.now c.args.matching.block.setting) c.args.matching.block.y c.args.matching.block.x (grid_vector i j)) i j small.0 small.1, c.if-d-eq0.true);
       },
       omega arith,
     )
 
 pub kernel-requires : goal.kernel-requires
-kernel-requires c = omega (arith, size _ _ _ c.requires.0)
+kernel-requires c = omega (arith, size _ _ _ c.args.matching.ready)
 
 pub by_columns-requires : goal.by_columns-requires
 by_columns-requires c =
-    (c.requires.0, c.requires.1, first-is (goal.at.by_columns-requires c).After-block_distortion-d, sym c.kernel.ensures ∙ c.if-kernel-eq8.true)
+    (c.requires, first-is (goal.at.by_columns-requires c).After-block_distortion-d, sym c.kernel.ensures ∙ c.if-kernel-eq8.true)
 
 pub returns-then-kernel-eq8 : goal.returns-then-kernel-eq8
 returns-then-kernel-eq8 c =
     let p = c.requires in
-    (c.by_columns.ensures, omega (arith, first-is (goal.at.returns-then-kernel-eq8 c).After-block_distortion-d, c.by_columns.ensures.least 16 16 (middle _ _ _ p.0)))
+    (c.by_columns.ensures, omega (arith, first-is (goal.at.returns-then-kernel-eq8 c).After-block_distortion-d, c.by_columns.ensures.least 16 16 (middle _ _ _ c.args.matching.ready)))
 
 pub by_rows-requires : goal.by_rows-requires
 by_rows-requires c =
-    (c.requires.0, c.requires.1, first-is (goal.at.by_rows-requires c).After-block_distortion-d, omega arith)
+    (c.requires, first-is (goal.at.by_rows-requires c).After-block_distortion-d, omega arith)
 
 pub returns : goal.returns
 returns c =
     let p = c.requires in
-    (c.by_rows.ensures, omega (arith, first-is (goal.at.returns c).After-block_distortion-d, c.by_rows.ensures.least 16 16 (middle _ _ _ p.0)))
+    (c.by_rows.ensures, omega (arith, first-is (goal.at.returns c).After-block_distortion-d, c.by_rows.ensures.least 16 16 (middle _ _ _ c.args.matching.ready)))

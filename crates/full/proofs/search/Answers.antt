@@ -13,13 +13,13 @@ use Rattle.full.proofs.Answer.{Found, found}
 use Rattle.full.proofs.search.Goals as goal
 use Rattle.full.proofs.search.Goals.{After-least_key-key, After-reach-r}
 
-answer : (k : After-least_key-key) → let a = k.args in Found a.older.now a.newer.now a.b k.least_key-key.result
-answer k = found _ _ _ _ (ready_standing _ _ _ k.requires) k.least_key-key.ensures.0
+answer : (k : After-least_key-key) → let a = k.args in Found a.matching.older.now a.matching.newer.now a.matching.block k.least_key-key.result
+answer k = found _ _ _ _ (ready_standing _ _ _ k.args.matching.ready) k.least_key-key.ensures.0
 
 -- at most 33 rows and columns
 few : (k : After-reach-r) → let r = k.reach-r.result in (r.rows ≤ 33) × (r.rows * r.columns ≤ 1089)
 few k =
-    let d = reach_bounds k.args.b (ready_standing _ _ _ k.requires) in
+    let d = reach_bounds k.args.matching.block (ready_standing _ _ _ k.args.matching.ready) in
     rw k.reach-r.ensures (omega (arith, d.few_rows), mul-le-mul {n₂ = 33} {m₂ = 33} (omega (arith, d.few_rows)) (omega (arith, d.few_columns)))
 
 pub unbiased-requires : goal.unbiased-requires
@@ -38,7 +38,7 @@ pub returns : goal.returns
 unfolding full_search
 returns c =
     let a = answer (goal.at.returns c).After-least_key-key in
-    let places = ap (λ (r : Region). r.rows * r.columns) c.reach-r.ensures ∙ sym (reach_count c.args.b (ready_standing _ _ _ c.requires)) in
+    let places = ap (λ (r : Region). r.rows * r.columns) c.reach-r.ensures ∙ sym (reach_count c.args.matching.block (ready_standing _ _ _ c.args.matching.ready)) in
     rw (
       to_z-of_z (sfits_of {w = w32} c.unbiased.type_inv),
       to_z-of_z (sfits_of {w = w32} c.unbiased-2.type_inv),
