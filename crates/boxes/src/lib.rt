@@ -99,14 +99,14 @@ fn fill_from_pels(boxes: &mut [u16], n: usize, span: usize)
 }
 
 // All boxes of a block and its search window.
-pub fn fill(older: &[u8], newer: &[u8], b: SearchBlock, r: Region, boxes: &mut [u16])
-    requires { Ready older.now newer.now b × (r ≡ reach b) × (5 * area b.setting.n ≤ length boxes.old)
-        × ((u : ℕ) → u < area b.setting.n → get_or boxes.old u 0 ≤ 255) }
-    ensures { Boxed older.now newer.now b boxes.new }
+pub fn fill(matching: Matching, r: Region, boxes: &mut [u16])
+    requires { (r ≡ reach matching.block) × (5 * area matching.block.setting.n ≤ length boxes.old)
+        × ((u : ℕ) → u < area matching.block.setting.n → get_or boxes.old u 0 ≤ 255) }
+    ensures { Boxed matching.entry.older.now matching.entry.newer.now matching.entry.block boxes.new }
 {
-    let n = b.setting.n;
-    window_copy::copy_window(older, b, r, boxes, 0, n + 32);
-    window_copy::copy_block(newer, b, boxes, (n + 32) * (n + 32), n);
+    let n = matching.block.setting.n;
+    window_copy::copy_window(matching.older, matching.block, r, boxes, 0, n + 32);
+    window_copy::copy_block(matching.newer, matching.block, boxes, (n + 32) * (n + 32), n);
     fill_from_pels(boxes, n, span(n, r));
 }
 

@@ -119,24 +119,22 @@ fn leasts_below(numbers: &[u32], r: Region, n: usize, m: usize) -> [u32; reach::
 
 // E lowered to the distortion of the nearest of all. At N it stays.
 fn bound_of_all(
-    older: &[u8],
-    newer: &[u8],
-    b: SearchBlock,
+    matching: Matching,
     r: Region,
     numbers: &[u32],
     least: &[u32; reach::SIDE],
     m: usize,
     e: u32,
 ) -> u32
-    requires { Ready older.now newer.now b × (r ≡ reach b) × (2088 ≤ length numbers.now)
-        × Distances (dist_of older.now newer.now b m) b numbers.now
-        × (m < b.setting.n → RowLeasts numbers.now (b.setting.n + 32) r least.now) }
-    ensures { result ≡ bound_at older.now newer.now b m e }
+    requires { (r ≡ reach matching.block) × (2088 ≤ length numbers.now)
+        × Distances (dist_of matching.older.now matching.newer.now matching.block m) matching.block numbers.now
+        × (m < matching.block.setting.n → RowLeasts numbers.now (matching.block.setting.n + 32) r least.now) }
+    ensures { result ≡ bound_at matching.entry.older.now matching.entry.newer.now matching.entry.block m e }
 {
-    let n = b.setting.n;
+    let n = matching.block.setting.n;
     if m < n {
         let key = pruned_sift::nearest(numbers, n + 32, r, least);
-        return pruned_list::lowered(older, newer, b, pruned_list::spot_of(key), e);
+        return pruned_list::lowered(matching, pruned_list::spot_of(key), e);
     }
     e
 }
@@ -169,9 +167,7 @@ fn within_all(
 
 // The test at m, where distances have 32 bits.
 fn all_level(
-    older: &[u8],
-    newer: &[u8],
-    b: SearchBlock,
+    matching: Matching,
     r: Region,
     boxes: &[u16],
     m: usize,
@@ -179,58 +175,54 @@ fn all_level(
     numbers: &mut [u32; boxes::PLACES],
     e: u32,
 ) -> Remaining
-    requires { Search older.now newer.now b r boxes.now m × T (fits b.setting m) × (few < length keys.old) × (length numbers.old ≡ 2088) }
-    ensures { Leveled older.now newer.now b m e keys.new result
+    requires { Search matching.older.now matching.newer.now matching.block r boxes.now m × T (fits matching.block.setting m) × (few < length keys.old) × (length numbers.old ≡ 2088) }
+    ensures { Leveled matching.entry.older.now matching.entry.newer.now matching.entry.block m e keys.new result
         × (length keys.new ≡ length keys.old) × (length numbers.new ≡ 2088) }
 {
-    let s = b.setting;
+    let s = matching.block.setting;
     fill_numbers(boxes, s, m, boxes::span(s.n, r), numbers);
     let least = leasts_below(&*numbers, r, s.n, m);
-    let f = bound_of_all(older, newer, b, r, &*numbers, &least, m, e);
-    within_all(b, r, &*numbers, &least, m, f, keys)
+    let f = bound_of_all(matching, r, &*numbers, &least, m, e);
+    within_all(matching.block, r, &*numbers, &least, m, f, keys)
 }
 
 // ---- one resolution, one by one
 
 // E lowered to the distortion of the nearest of the listed. At N it stays.
 fn bound_of_listed(
-    older: &[u8],
-    newer: &[u8],
-    b: SearchBlock,
+    matching: Matching,
     keys: &[u64],
     count: usize,
     m: usize,
     e: u32,
 ) -> u32
-    requires { Ready older.now newer.now b × (0 < count) × (count ≤ length keys.now)
-        × SpotIn b (spot_of (nearest_key keys.now count)) }
-    ensures { result ≡ bound_by older.now newer.now b m (vector_on (spot_of (nearest_key keys.now count))) e }
+    requires { (0 < count) × (count ≤ length keys.now)
+        × SpotIn matching.block (spot_of (nearest_key keys.now count)) }
+    ensures { result ≡ bound_by matching.entry.older.now matching.entry.newer.now matching.entry.block m (vector_on (spot_of (nearest_key keys.now count))) e }
 {
-    if m < b.setting.n {
+    if m < matching.block.setting.n {
         let key = pruned_list::nearest(keys, count);
-        return pruned_list::lowered(older, newer, b, pruned_list::spot_of(key), e);
+        return pruned_list::lowered(matching, pruned_list::spot_of(key), e);
     }
     e
 }
 
 // The test at m, of those listed.
 fn listed_level(
-    older: &[u8],
-    newer: &[u8],
-    b: SearchBlock,
+    matching: Matching,
     r: Region,
     boxes: &[u16],
     m: usize,
     keys: &mut [u64],
     q: Remaining,
 ) -> Remaining
-    requires { Search older.now newer.now b r boxes.now m × Facing older.now newer.now b m keys.old q × (by_all b.setting m q.count ≡ false) }
-    ensures { Leveled older.now newer.now b m q.bound keys.new result
+    requires { Search matching.older.now matching.newer.now matching.block r boxes.now m × Facing matching.older.now matching.newer.now matching.block m keys.old q × (by_all matching.block.setting m q.count ≡ false) }
+    ensures { Leveled matching.entry.older.now matching.entry.newer.now matching.entry.block m q.bound keys.new result
         × (length keys.new ≡ length keys.old) }
 {
-    let s = b.setting;
+    let s = matching.block.setting;
     pruned_lookup::fill(boxes, s.measure, s.n, m, r, keys, q.count);
-    let e = bound_of_listed(older, newer, b, &*keys, q.count, m, q.bound);
+    let e = bound_of_listed(matching, &*keys, q.count, m, q.bound);
     let count = pruned_list::keep_within(keys, q.count, measures::limit(s.measure, m, e));
     Remaining { count, bound: e }
 }
@@ -253,9 +245,7 @@ fn begin(b: SearchBlock, r: Region, e: u32, keys: &mut [u64]) -> Remaining
 
 // The test at m: of all candidates where many remain, or else of those listed.
 fn level(
-    older: &[u8],
-    newer: &[u8],
-    b: SearchBlock,
+    matching: Matching,
     r: Region,
     boxes: &[u16],
     m: usize,
@@ -263,33 +253,31 @@ fn level(
     numbers: &mut [u32; boxes::PLACES],
     q: Remaining,
 ) -> Remaining
-    requires { Search older.now newer.now b r boxes.now m × Facing older.now newer.now b m keys.old q × (few < length keys.old)
+    requires { Search matching.older.now matching.newer.now matching.block r boxes.now m × Facing matching.older.now matching.newer.now matching.block m keys.old q × (few < length keys.old)
         × (length numbers.old ≡ 2088) }
-    ensures { Leveled older.now newer.now b m q.bound keys.new result
+    ensures { Leveled matching.entry.older.now matching.entry.newer.now matching.entry.block m q.bound keys.new result
         × (length keys.new ≡ length keys.old) × (length numbers.new ≡ 2088) }
 {
-    if by_all(b.setting, m, q.count) {
-        return all_level(older, newer, b, r, boxes, m, keys, numbers, q.bound);
+    if by_all(matching.block.setting, m, q.count) {
+        return all_level(matching, r, boxes, m, keys, numbers, q.bound);
     }
-    listed_level(older, newer, b, r, boxes, m, keys, q)
+    listed_level(matching, r, boxes, m, keys, q)
 }
 
 // The answer, with these counts: the best of the listed, or where many remain what full search finds.
 fn answer(
-    older: &[u8],
-    newer: &[u8],
-    b: SearchBlock,
+    matching: Matching,
     keys: &[u64],
     q: Remaining,
     counts: [u32; frame::COUNTS],
     dropped: u32,
 ) -> SearchResult
-    requires { Ready older.now newer.now b × Closing older.now newer.now b keys.now q }
-    ensures { let v = choice_of b (distortion_to older.now newer.now b) in
-        result ≡ search_result v (distortion_to older.now newer.now b v) counts dropped }
+    requires { Closing matching.older.now matching.newer.now matching.block keys.now q }
+    ensures { let v = choice_of matching.entry.block (distortion_to matching.entry.older.now matching.entry.newer.now matching.entry.block) in
+        result ≡ search_result v (distortion_to matching.entry.older.now matching.entry.newer.now matching.entry.block v) counts dropped }
 {
     if q.count > FEW {
-        let f = full::search(older, newer, b);
+        let f = full::search(matching);
         return SearchResult {
             refusal: 0,
             dy: f.dy,
@@ -299,7 +287,7 @@ fn answer(
             dropped,
         };
     }
-    let key = pruned_list::choose(older, newer, b, keys, q.count);
+    let key = pruned_list::choose(matching, keys, q.count);
     let spot = pruned_list::spot_of(key);
     SearchResult {
         refusal: 0,
@@ -313,37 +301,35 @@ fn answer(
 
 // All tests, from N on, and the answer.
 fn tests(
-    older: &[u8],
-    newer: &[u8],
-    b: SearchBlock,
+    matching: Matching,
     r: Region,
     boxes: &[u16],
     keys: &mut [u64],
     e: u32,
 ) -> SearchResult
-    requires { Search older.now newer.now b r boxes.now b.setting.n × Roomy b.setting (length keys.old)
-        × (e ≡ still_distortion (pair_of older.now newer.now b.setting) b.y b.x) }
-    ensures { result ≡ pruned_search (pair_of older.now newer.now b.setting) b.w b.y b.x }
+    requires { Search matching.older.now matching.newer.now matching.block r boxes.now matching.block.setting.n × Roomy matching.block.setting (length keys.old)
+        × (e ≡ still_distortion (pair_in matching) matching.block.y matching.block.x) }
+    ensures { result ≡ pruned_search (pair_in matching.entry) matching.entry.block.w matching.entry.block.y matching.entry.block.x }
 {
-    let n = b.setting.n;
+    let n = matching.block.setting.n;
     let mut numbers = [0u32; boxes::PLACES];
-    let first = begin(b, r, e, keys);
+    let first = begin(matching.block, r, e, keys);
     let total = first.count;
     let mut counts = [0u32; frame::COUNTS];
     let mut slot = first_slot(n);
     counts[slot] = total as u32;
-    let mut q = level(older, newer, b, r, boxes, n, keys, &mut numbers, first);
+    let mut q = level(matching, r, boxes, n, keys, &mut numbers, first);
     slot += 1;
     let mut m = next(n, q.count);
     // m is halved, and 1 as soon as one candidate remains: no range has these m.
     while m >= 2 {
         counts[slot] = q.count as u32;
-        q = level(older, newer, b, r, boxes, m, keys, &mut numbers, q);
+        q = level(matching, r, boxes, m, keys, &mut numbers, q);
         slot += 1;
         m = next(m, q.count);
     }
     let all = fill_counts(counts, slot, q.count);
-    answer(older, newer, b, &*keys, q, all, (total - q.count) as u32)
+    answer(matching, &*keys, q, all, (total - q.count) as u32)
 }
 
 // Whether the search window has one grey and (0,0) has no distortion.
@@ -384,40 +370,37 @@ fn blank_answer(n: usize, r: Region) -> SearchResult
 
 // The boxes in the memory lent for them, then all tests.
 fn search_with(
-    older: &[u8],
-    newer: &[u8],
-    b: SearchBlock,
+    matching: Matching,
     r: Region,
     e: u32,
     boxes: &mut [u16],
     keys: &mut [u64],
 ) -> SearchResult
-    requires { Ready older.now newer.now b × (r ≡ reach b) × (5 * area b.setting.n ≤ length boxes.old)
-        × ((u : ℕ) → u < area b.setting.n → get_or boxes.old u 0 ≤ 255) × Roomy b.setting (length keys.old)
-        × (e ≡ still_distortion (pair_of older.now newer.now b.setting) b.y b.x) }
-    ensures { result ≡ pruned_search (pair_of older.now newer.now b.setting) b.w b.y b.x }
+    requires { (r ≡ reach matching.block) × (5 * area matching.block.setting.n ≤ length boxes.old)
+        × ((u : ℕ) → u < area matching.block.setting.n → get_or boxes.old u 0 ≤ 255) × Roomy matching.block.setting (length keys.old)
+        × (e ≡ still_distortion (pair_in matching) matching.block.y matching.block.x) }
+    ensures { result ≡ pruned_search (pair_in matching.entry) matching.entry.block.w matching.entry.block.y matching.entry.block.x }
 {
-    boxes::fill(older, newer, b, r, boxes);
-    tests(older, newer, b, r, &*boxes, keys, e)
+    boxes::fill(matching, r, boxes);
+    tests(matching, r, &*boxes, keys, e)
 }
 
 // Search 2 of one block: blank paper at once, or else with memory as large as N asks for.
-pub fn search(older: &[u8], newer: &[u8], b: SearchBlock) -> SearchResult
-    requires { Ready older.now newer.now b }
-    ensures { result ≡ pruned_search (pair_of older.now newer.now b.setting) b.w b.y b.x }
+pub fn search(matching: Matching) -> SearchResult
+    ensures { result ≡ pruned_search (pair_in matching.entry) matching.entry.block.w matching.entry.block.y matching.entry.block.x }
 {
-    let s = b.setting;
-    let r = reach::reach(b);
-    let e = distortion::block_distortion(older, newer, s, b.y, b.x, b.y, b.x);
-    if is_blank(older, b, r, e) {
+    let s = matching.block.setting;
+    let r = reach::reach(matching.block);
+    let e = distortion::block_distortion(matching.older, matching.newer, s, matching.block.y, matching.block.x, matching.block.y, matching.block.x);
+    if is_blank(matching.older, matching.block, r, e) {
         return blank_answer(s.n, r);
     }
     if s.n == 32 {
         let mut boxes = [0u16; boxes::LARGE];
         let mut keys = [0u64; order::VECTORS];
-        return search_with(older, newer, b, r, e, &mut boxes, &mut keys);
+        return search_with(matching, r, e, &mut boxes, &mut keys);
     }
     let mut boxes = [0u16; boxes::SMALL];
     let mut keys = [0u64; FEW + 1];
-    search_with(older, newer, b, r, e, &mut boxes, &mut keys)
+    search_with(matching, r, e, &mut boxes, &mut keys)
 }

@@ -91,33 +91,33 @@ pub fn keep_within(keys: &mut [u64], count: usize, limit: u64) -> usize
 // ---- measuring
 
 // The distortion of the candidate on a spot, as far as the ceiling goes.
-fn measured(older: &[u8], newer: &[u8], b: SearchBlock, spot: usize, ceiling: u32) -> Option<u32>
-    requires { Ready older.now newer.now b × SpotIn b spot }
-    ensures { result ≡ capped ceiling (distortion_to older.now newer.now b (vector_on spot)) }
+fn measured(matching: Matching, spot: usize, ceiling: u32) -> Option<u32>
+    requires { SpotIn matching.block spot }
+    ensures { result ≡ capped ceiling (distortion_to matching.entry.older.now matching.entry.newer.now matching.entry.block (vector_on spot)) }
 {
-    let row = b.y + spot / 64 - 16;
-    let column = b.x + spot % 64 - 16;
-    distortion::block_up_to(older, newer, b.setting, b.y, b.x, row, column, ceiling)
+    let row = matching.block.y + spot / 64 - 16;
+    let column = matching.block.x + spot % 64 - 16;
+    distortion::block_up_to(matching.older, matching.newer, matching.block.setting, matching.block.y, matching.block.x, row, column, ceiling)
 }
 
 // E lowered to the distortion of the candidate on a spot, if that is less: measured with E as ceiling.
-pub fn lowered(older: &[u8], newer: &[u8], b: SearchBlock, spot: usize, e: u32) -> u32
-    requires { Ready older.now newer.now b × SpotIn b spot }
-    ensures { result ≡ min e (distortion_to older.now newer.now b (vector_on spot)) }
+pub fn lowered(matching: Matching, spot: usize, e: u32) -> u32
+    requires { SpotIn matching.block spot }
+    ensures { result ≡ min e (distortion_to matching.entry.older.now matching.entry.newer.now matching.entry.block (vector_on spot)) }
 {
-    let Some(d) = measured(older, newer, b, spot, e) else {
+    let Some(d) = measured(matching, spot, e) else {
         return e;
     };
     d
 }
 
 // The lesser of a key and that of a listed candidate by its distortion, which is measured as far as the least so far goes.
-fn lesser_measured(older: &[u8], newer: &[u8], b: SearchBlock, key: u64, best: u64) -> u64
-    requires { Ready older.now newer.now b × SpotIn b (spot_of key) × (best < 1125899906842624) }
-    ensures { result ≡ min best (measured_key (distortion_to older.now newer.now b) key) }
+fn lesser_measured(matching: Matching, key: u64, best: u64) -> u64
+    requires { SpotIn matching.block (spot_of key) × (best < 1125899906842624) }
+    ensures { result ≡ min best (measured_key (distortion_to matching.entry.older.now matching.entry.newer.now matching.entry.block) key) }
 {
     let ceiling = (best / 262144) as u32;
-    let Some(d) = measured(older, newer, b, spot_of(key), ceiling) else {
+    let Some(d) = measured(matching, spot_of(key), ceiling) else {
         return best;
     };
     let k = renewed(key, d as u64);
@@ -128,13 +128,13 @@ fn lesser_measured(older: &[u8], newer: &[u8], b: SearchBlock, key: u64, best: u
 }
 
 // Of the listed, the key of the least distortion, equals by the preference order. It begins with 2^50 - 1, which is more than any such key.
-pub fn choose(older: &[u8], newer: &[u8], b: SearchBlock, keys: &[u64], count: usize) -> u64
-    requires { Ready older.now newer.now b × (0 < count) × (count ≤ length keys.now) × SpotsIn b keys.now count }
-    ensures { (result ≡ least_measured (distortion_to older.now newer.now b) keys.now count) × (result < 1125899906842624) }
+pub fn choose(matching: Matching, keys: &[u64], count: usize) -> u64
+    requires { (0 < count) × (count ≤ length keys.now) × SpotsIn matching.block keys.now count }
+    ensures { (result ≡ least_measured (distortion_to matching.entry.older.now matching.entry.newer.now matching.entry.block) keys.now count) × (result < 1125899906842624) }
 {
     let mut best: u64 = 1125899906842623;
     for i in 0..count {
-        best = lesser_measured(older, newer, b, keys[i], best);
+        best = lesser_measured(matching, keys[i], best);
     }
     best
 }

@@ -16,18 +16,18 @@ use Rattle.boxes.proofs.Squares.{span_short, first_small, boxed}
 use Rattle.boxes.proofs.fill.Goals as goal
 use Rattle.boxes.proofs.fill.Goals.{After-span, Start}
 
-standing : (s : Start) → Standing s.args.b
+standing : (s : Start) → Standing s.args.matching.block
 standing s = ready_standing _ _ _ (s.requires.0)
 
-few : (s : Start) → s.args.b.setting.n ≤ 32
+few : (s : Start) → s.args.matching.block.setting.n ≤ 32
 few s = (block_size _ (s.requires.0).placed.paired.allowed).most
 
-bounds : (s : Start) → Bounds s.args.b s.args.r
-bounds s = subst (λ (r : Region). Bounds s.args.b r) (sym s.requires.1) (reach_bounds s.args.b (standing s))
+bounds : (s : Start) → Bounds s.args.matching.block s.args.r
+bounds s = subst (λ (r : Region). Bounds s.args.matching.block r) (sym s.requires.1) (reach_bounds s.args.matching.block (standing s))
 
 pub copy_window-requires : goal.copy_window-requires
 copy_window-requires c =
-    let n = c.args.b.setting.n in
+    let n = c.args.matching.block.setting.n in
     let r = c.args.r in
     let k = bounds (goal.at.copy_window-requires c).Start in
     let f = few (goal.at.copy_window-requires c).Start in
@@ -41,11 +41,11 @@ copy_window-requires c =
     )
 
 pub overflow_mul-n : goal.overflow_mul-n
-overflow_mul-n c = omega (arith, square_small (c.args.b.setting.n + 32) 64 (omega (arith, few (goal.at.overflow_mul-n c).Start)))
+overflow_mul-n c = omega (arith, square_small (c.args.matching.block.setting.n + 32) 64 (omega (arith, few (goal.at.overflow_mul-n c).Start)))
 
 pub copy_block-requires : goal.copy_block-requires
 copy_block-requires c =
-    let n = c.args.b.setting.n in
+    let n = c.args.matching.block.setting.n in
     let p = (c.requires.0).placed.paired in
     let f = few (goal.at.copy_block-requires c).Start in
     (standing (goal.at.copy_block-requires c).Start, f, omega (arith, p.newer_whole), omega (arith, f), omega (arith, area_is n, c.requires.2, c.copy_window.auto.copy))
@@ -57,15 +57,15 @@ span-requires c =
 
 -- the pels as the two copies leave them
 pels-are : (c : After-span) → let a = c.args in
-    c.copy_block.new.copy ≡ block_pels a.newer.now a.b (window_pels a.older.now a.b a.boxes.now)
+    c.copy_block.new.copy ≡ block_pels a.matching.newer.now a.matching.block (window_pels a.matching.older.now a.matching.block a.boxes.now)
 pels-are c =
     let a = c.args in
     c.copy_block.ensures
-    ∙ ap (λ (xs : List ℕ). block_pels a.newer.now a.b xs) (rw c.requires.1 at c.copy_window.ensures)
+    ∙ ap (λ (xs : List ℕ). block_pels a.matching.newer.now a.matching.block xs) (rw c.requires.1 at c.copy_window.ensures)
 
 -- a pel is a byte
 bytes : (c : After-span) → let a = c.args in
-    Bytes a.older.now × Bytes a.newer.now
+    Bytes a.matching.older.now × Bytes a.matching.newer.now
 bytes c = (
   λ k. omega (arith, c.shared_slice_known-1.given k),
   λ k. omega (arith, c.shared_slice_known-2-1.given k),
@@ -76,16 +76,16 @@ fill_from_pels-requires c =
     let k = bounds (goal.at.fill_from_pels-requires c).Start in
     let p = pels-are c in (
       (c.requires.0).placed.paired.allowed,
-      rw c.span.ensures (span_short c.args.b.setting.n c.args.r (omega (arith, k.few_rows)) (omega (arith, k.few_columns))),
+      rw c.span.ensures (span_short c.args.matching.block.setting.n c.args.r (omega (arith, k.few_rows)) (omega (arith, k.few_columns))),
       omega (arith, c.requires.2, c.copy_window.auto.copy, c.copy_block.auto.copy),
       λ u h.
           subst (λ (xs : List ℕ). get_or xs u 0 ≤ 255) (sym p)
-          (first_small c.args.older.now c.args.newer.now c.args.b (c.requires.0) (bytes c).0 (bytes c).1 _ c.requires.2 c.requires.3 u h),
+          (first_small c.args.matching.older.now c.args.matching.newer.now c.args.matching.block (c.requires.0) (bytes c).0 (bytes c).1 _ c.requires.2 c.requires.3 u h),
     )
 
 pub returns : goal.returns
 returns c =
-    let n = c.args.b.setting.n in
-    let span : c.span.result ≡ span_of n (reach c.args.b) = c.span.ensures ∙ ap (λ (r : Region). span_of n r) c.requires.1 in
+    let n = c.args.matching.block.setting.n in
+    let span : c.span.result ≡ span_of n (reach c.args.matching.block) = c.span.ensures ∙ ap (λ (r : Region). span_of n r) c.requires.1 in
     let f = rw (pels-are (goal.at.returns c).After-span, span) at c.fill_from_pels.ensures in
     boxed _ _ _ (c.requires.0) (bytes (goal.at.returns c).After-span).0 (bytes (goal.at.returns c).After-span).1 _ c.requires.2 c.requires.3 _ f.0 f.1

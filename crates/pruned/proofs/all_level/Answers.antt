@@ -22,7 +22,7 @@ fill_numbers-requires c =
 
 -- the numbers are the distances
 distances : (n : After-fill_numbers) → let a = n.args in
-    Distances (dist_of a.older.now a.newer.now a.b a.m) a.b n.fill_numbers.new.numbers
+    Distances (dist_of a.matching.older.now a.matching.newer.now a.matching.block a.m) a.matching.block n.fill_numbers.new.numbers
 distances n =
     numbered_distances n.requires.0 n.span.result n.span.ensures n.fill_numbers.new.numbers n.fill_numbers.ensures.0
 
@@ -34,7 +34,7 @@ pub leasts_below-least-requires : goal.leasts_below-least-requires
 leasts_below-least-requires c =
     let s = c.requires.0 in
     let a = c.args in
-    (size_small s, rw s.region (laid a.b (ready_standing _ _ _ s.ready) a.b.setting.n (size_small s) c.fill_numbers.new.numbers (room (goal.at.leasts_below-least-requires c).After-fill_numbers)))
+    (size_small s, rw s.region (laid a.matching.block (ready_standing _ _ _ s.ready) a.matching.block.setting.n (size_small s) c.fill_numbers.new.numbers (room (goal.at.leasts_below-least-requires c).After-fill_numbers)))
 
 pub bound_of_all-f-requires : goal.bound_of_all-f-requires
 bound_of_all-f-requires c =
@@ -51,4 +51,4 @@ pub returns : goal.returns
 returns c =
     let w = c.within_all.ensures in
     let a = c.args in
-    (all_leveled a.older.now a.newer.now a.b a.m a.e _ _ _ c.bound_of_all-f.ensures w.0 (w.2 (dist_of a.older.now a.newer.now a.b a.m) (distances (goal.at.returns c).After-fill_numbers)), w.1, c.fill_numbers.ensures.1)
+    (all_leveled a.matching.older.now a.matching.newer.now a.matching.block a.m a.e _ _ _ c.bound_of_all-f.ensures w.0 (w.2 (dist_of a.matching.older.now a.matching.newer.now a.matching.block a.m) (distances (goal.at.returns c).After-fill_numbers)), w.1, c.fill_numbers.ensures.1)

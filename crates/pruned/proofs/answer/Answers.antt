@@ -14,7 +14,7 @@ use Rattle.pruned.proofs.answer.Goals.{After-spot_of-spot, Else-q-gt-FEW}
 pub returns-then-q-gt-FEW : goal.returns-then-q-gt-FEW
 returns-then-q-gt-FEW c =
     let a = c.args in
-    let (y, x, d) = full_answer a.older.now a.newer.now a.b _ c.search-f.ensures in
+    let (y, x, d) = full_answer a.matching.older.now a.matching.newer.now a.matching.block _ c.search-f.ensures in
     rw (to_z-of_z (sfits_of {w = w32} c.struct_told-1.given.1.0.1), to_z-of_z (sfits_of {w = w32} c.struct_told-1.given.1.1.0.1), y, x, d) refl
 
 low : (c : Else-q-gt-FEW) → c.args.q.count ≤ 64
@@ -27,9 +27,9 @@ choose-key-requires c =
 
 -- the best of the listed
 chosen : (c : After-spot_of-spot) → let a = c.args in
-    let v = choice_of a.b (distortion_to a.older.now a.newer.now a.b) in
+    let v = choice_of a.matching.block (distortion_to a.matching.older.now a.matching.newer.now a.matching.block) in
     (c.spot_of-spot.result / 64 ≤ 32) × (c.spot_of-spot.result % 64 ≤ 32) × (vector_on c.spot_of-spot.result ≡ v)
-    × (distance_of c.choose-key.result ≡ distortion_to a.older.now a.newer.now a.b v)
+    × (distance_of c.choose-key.result ≡ distortion_to a.matching.older.now a.matching.newer.now a.matching.block v)
 chosen c =
     let p = c.requires in
     rw c.spot_of-spot.ensures (closing_chosen p.0 p.1 (let low : c.args.q.count ≤ 64 = omega (arith, c.if-q-gt-FEW.false) in low) c.choose-key.result c.choose-key.ensures.0)

@@ -14,24 +14,24 @@ use Rattle.pruned.proofs.Steps.{nearest_all}
 use Rattle.pruned.proofs.bound_of_all.Goals as goal
 use Rattle.pruned.proofs.bound_of_all.Goals.{After-spot_of, Start}
 
-small : (s : Start) → s.args.b.setting.n ≤ 32
-small s = (block_size s.args.b.setting.n s.requires.0.placed.paired.allowed).most
+small : (s : Start) → s.args.matching.block.setting.n ≤ 32
+small s = (block_size s.args.matching.block.setting.n s.requires.0.placed.paired.allowed).most
 
-laid_in : (s : Start) → Laid s.args.numbers.now (s.args.b.setting.n + 32) s.args.r
+laid_in : (s : Start) → Laid s.args.numbers.now (s.args.matching.block.setting.n + 32) s.args.r
 laid_in s =
     let p = s.requires in
-    rw p.1 (laid s.args.b (ready_standing _ _ _ p.0) s.args.b.setting.n (let small : s.args.b.setting.n ≤ 32 = (block_size s.args.b.setting.n s.requires.0.placed.paired.allowed).most in small) s.args.numbers.now p.2)
+    rw p.1 (laid s.args.matching.block (ready_standing _ _ _ p.0) s.args.matching.block.setting.n (let small : s.args.matching.block.setting.n ≤ 32 = (block_size s.args.matching.block.setting.n s.requires.0.placed.paired.allowed).most in small) s.args.numbers.now p.2)
 
 pub nearest-key-requires : goal.nearest-key-requires
 nearest-key-requires c = (laid_in (goal.at.nearest-key-requires c).Start, c.requires.4 c.if-m-n.true)
 
 -- the nearest of all
 near : (c : After-spot_of) → let a = c.args in
-    SpotIn a.b c.spot_of.result × (vector_on c.spot_of.result ≡ choice_of a.b (dist_of a.older.now a.newer.now a.b a.m))
+    SpotIn a.matching.block c.spot_of.result × (vector_on c.spot_of.result ≡ choice_of a.matching.block (dist_of a.matching.older.now a.matching.newer.now a.matching.block a.m))
 near c =
     let p = c.requires in
     rw c.spot_of.ensures
-    (nearest_all c.args.b (ready_standing _ _ _ p.0) (dist_of c.args.older.now c.args.newer.now c.args.b c.args.m) c.args.numbers.now p.3 c.args.r p.1 _ c.nearest-key.ensures)
+    (nearest_all c.args.matching.block (ready_standing _ _ _ p.0) (dist_of c.args.matching.older.now c.args.matching.newer.now c.args.matching.block c.args.m) c.args.numbers.now p.3 c.args.r p.1 _ c.nearest-key.ensures)
 
 pub lowered-requires : goal.lowered-requires
 lowered-requires c = (c.requires.0, (near c).0)
@@ -40,10 +40,10 @@ pub returns-then-m-n : goal.returns-then-m-n
 returns-then-m-n c =
     let a = c.args in
     c.lowered.ensures
-    ∙ ap (λ v. min a.e (distortion_to a.older.now a.newer.now a.b v)) (near (goal.at.returns-then-m-n c).After-spot_of).1
-    ∙ sym (bound_lowered a.older.now a.newer.now a.b a.m _ a.e c.if-m-n.true)
+    ∙ ap (λ v. min a.e (distortion_to a.matching.older.now a.matching.newer.now a.matching.block v)) (near (goal.at.returns-then-m-n c).After-spot_of).1
+    ∙ sym (bound_lowered a.matching.older.now a.matching.newer.now a.matching.block a.m _ a.e c.if-m-n.true)
 
 pub returns : goal.returns
 returns c =
     let a = c.args in
-    sym (bound_same a.older.now a.newer.now a.b a.m _ a.e (omega (arith, c.if-m-n.false)))
+    sym (bound_same a.matching.older.now a.matching.newer.now a.matching.block a.m _ a.e (omega (arith, c.if-m-n.false)))

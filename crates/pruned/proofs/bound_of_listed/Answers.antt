@@ -23,10 +23,10 @@ pub returns-then-m-b : goal.returns-then-m-b
 returns-then-m-b c =
     let a = c.args in
     c.lowered.ensures
-    ∙ ap (λ (t : ℕ). min a.e (distortion_to a.older.now a.newer.now a.b (vector_on t))) (spot_is (goal.at.returns-then-m-b c).After-spot_of)
-    ∙ sym (bound_lowered a.older.now a.newer.now a.b a.m _ a.e c.if-m-b.true)
+    ∙ ap (λ (t : ℕ). min a.e (distortion_to a.matching.older.now a.matching.newer.now a.matching.block (vector_on t))) (spot_is (goal.at.returns-then-m-b c).After-spot_of)
+    ∙ sym (bound_lowered a.matching.older.now a.matching.newer.now a.matching.block a.m _ a.e c.if-m-b.true)
 
 pub returns : goal.returns
 returns c =
     let a = c.args in
-    sym (bound_same a.older.now a.newer.now a.b a.m _ a.e (omega (arith, c.if-m-b.false)))
+    sym (bound_same a.matching.older.now a.matching.newer.now a.matching.block a.m _ a.e (omega (arith, c.if-m-b.false)))

@@ -27,20 +27,20 @@ block_distortion-e-requires c = let p = c.requires.placed in record { placed = p
 
 -- E begins as the distortion of (0,0)
 first-is : (c : After-block_distortion-e) → let a = c.args in
-    c.block_distortion-e.result ≡ still_distortion (pair_of a.older.now a.newer.now a.b.setting) a.b.y a.b.x
+    c.block_distortion-e.result ≡ still_distortion (pair_of a.matching.older.now a.matching.newer.now a.matching.block.setting) a.matching.block.y a.matching.block.x
 first-is c = c.block_distortion-e.ensures ∙ sym (still_cost _ _ _)
 
 pub blank_answer-requires : goal.blank_answer-requires
 blank_answer-requires c =
-    let d = reach_bounds c.args.b (ready_standing _ _ _ c.requires) in
+    let d = reach_bounds c.args.matching.block (ready_standing _ _ _ c.requires) in
     let e = c.reach-r.ensures in
     (c.requires.placed.paired.allowed, rw e (omega (arith, d.few_rows)), rw e (omega (arith, d.few_columns)))
 
 pub returns-then-is_blank : goal.returns-then-is_blank
 returns-then-is_blank c =
     c.blank_answer.ensures
-    ∙ ap (λ (r : Region). blank_answer c.args.b.setting.n (r.rows * r.columns)) c.reach-r.ensures
-    ∙ blank_is c.args.older.now c.args.newer.now c.args.b c.requires c.block_distortion-e.result (first-is (goal.at.returns-then-is_blank c).After-block_distortion-e)
+    ∙ ap (λ (r : Region). blank_answer c.args.matching.block.setting.n (r.rows * r.columns)) c.reach-r.ensures
+    ∙ blank_is c.args.matching.older.now c.args.matching.newer.now c.args.matching.block c.requires c.block_distortion-e.result (first-is (goal.at.returns-then-is_blank c).After-block_distortion-e)
     (true_T _ (sym c.is_blank.ensures ∙ c.if-is_blank.true))
 
 zeros : (k m : ℕ) → 5 * m ≤ k → (u : ℕ) → u < m → get_or {A = ℕ} (replicate k 0) u 0 ≤ 255
@@ -48,19 +48,19 @@ zeros k m h u l = omega (arith, get_or-replicate {A = ℕ} k u 0 0 (omega arith)
 
 pub search_with-requires : goal.search_with-requires
 search_with-requires c =
-    let n = c.args.b.setting.n in
+    let n = c.args.matching.block.setting.n in
     let h = array_large n (block_size n c.requires.placed.paired.allowed).most in
     (c.requires, c.reach-r.ensures, h, zeros 25600 (area n) h, (omega arith, λ e. omega arith), first-is (goal.at.search_with-requires c).After-block_distortion-e)
 
 pub search_with-requires-2 : goal.search_with-requires-2
 search_with-requires-2 c =
-    let n = c.args.b.setting.n in
+    let n = c.args.matching.block.setting.n in
     let low = size_below n c.requires.placed.paired.allowed c.if-s-eq32.false in
     let h = array_small n low in (
       c.requires,
       c.reach-r.ensures,
       h,
       zeros 12800 (area n) h,
-      (omega arith, λ e. absurd (true_T false (sym e ∙ small_fits c.args.b.setting low))),
+      (omega arith, λ e. absurd (true_T false (sym e ∙ small_fits c.args.matching.block.setting low))),
       first-is (goal.at.search_with-requires-2 c).After-block_distortion-e,
     )

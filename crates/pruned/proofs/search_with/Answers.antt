@@ -12,7 +12,7 @@ pub tests-requires : goal.tests-requires
 tests-requires c =
     let p = c.requires in
     let f = c.fill in
-    let power = block_size_power c.args.b.setting.n p.0.placed.paired.allowed in (
+    let power = block_size_power c.args.matching.block.setting.n p.0.placed.paired.allowed in (
       record {
         ready = p.0;
         region = p.1;

@@ -17,7 +17,7 @@ pub begin-first-requires : goal.begin-first-requires
 begin-first-requires c = let p = c.requires in (ready_standing _ _ _ p.0.ready, size_small p.0, p.0.region, p.1)
 
 -- how many candidates there are
-total-is : (c : After-begin-first) → c.begin-first.result.count ≡ length (places_of c.args.b)
+total-is : (c : After-begin-first) → c.begin-first.result.count ≡ length (places_of c.args.matching.block)
 total-is c = total_places c.requires.0 _ _ _ c.begin-first.ensures.0
 
 pub first_slot-slot-requires : goal.first_slot-slot-requires
@@ -30,7 +30,7 @@ pub level-q-requires : goal.level-q-requires
 level-q-requires c =
     let e = c.begin-first.ensures in (
       c.requires.0,
-      first_facing c.args.older.now c.args.newer.now c.args.b _ _ (omega (arith, total-is (goal.at.level-q-requires c).After-begin-first, places_few c.requires.0)) e.0,
+      first_facing c.args.matching.older.now c.args.matching.newer.now c.args.matching.block _ _ (omega (arith, total-is (goal.at.level-q-requires c).After-begin-first, places_few c.requires.0)) e.0,
       omega (arith, e.2, c.requires.1.0),
       length-replicate {A = ℕ} 2088 0,
     )

@@ -12,7 +12,7 @@ use Rattle.pruned_list.proofs.choose.Goals as goal
 use Rattle.pruned_list.proofs.choose.Invariants.{key_at}
 use Rattle.pruned_list.proofs.choose.Goals.{At-loop-i}
 
-bytes : (l : At-loop-i) → let a = l.args in Bytes a.older.now × Bytes a.newer.now
+bytes : (l : At-loop-i) → let a = l.args in Bytes a.matching.older.now × Bytes a.matching.newer.now
 bytes l = (
   λ i. let h = l.shared_slice_known-1.given i in omega (arith, h),
   λ i. let h = l.shared_slice_known-2-1.given i in omega (arith, h),
@@ -26,14 +26,14 @@ pub loop-i-preserved : goal.loop-i-preserved
 loop-i-preserved c =
     let l = c.loop-i in
     let a = c.args in
-    let f = key_at a.older.now a.newer.now a.b a.keys.now in
+    let f = key_at a.matching.older.now a.matching.newer.now a.matching.block a.keys.now in
     (omega (arith, c.lesser_measured-best.ensures), rw (least_more 1125899906842623 f l.i, ← l.invariant.1) c.lesser_measured-best.ensures)
 
 pub returns : goal.returns
 returns c =
     let l = c.loop-i in
     let a = c.args in
-    let f = key_at a.older.now a.newer.now a.b a.keys.now in
+    let f = key_at a.matching.older.now a.matching.newer.now a.matching.block a.keys.now in
     let e : l.i ≡ a.count = omega arith in
     let small = distortion_small _ _ _ c.requires.0 (bytes (goal.at.returns c).At-loop-i).0 (bytes (goal.at.returns c).At-loop-i).1 (vector_on (spot_of (get_or a.keys.now 0 0))) in
     ((rw e at l.invariant.1) ∙ least_first 1125899906842623 f a.count c.requires.1 (omega (arith, small)), l.invariant.0)

@@ -13,7 +13,7 @@ returns-in_default c =
 
 -- the key by the distortion
 key-is : (k : After-renewed-k) → let a = k.args in
-    k.renewed-k.result ≡ measured_key (distortion_to a.older.now a.newer.now a.b) a.key
+    k.renewed-k.result ≡ measured_key (distortion_to a.matching.older.now a.matching.newer.now a.matching.block) a.key
 key-is k =
     let h = within_says _ _ _ (sym (rw k.spot_of.ensures at k.measured.ensures) ∙ k.in-Some.is) in
     omega (arith, k.renewed-k.ensures, h)

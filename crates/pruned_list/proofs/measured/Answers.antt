@@ -8,7 +8,7 @@ use Rattle.pruned_list.proofs.measured.Goals as goal
 use Rattle.pruned_list.proofs.measured.Goals.{Start}
 
 -- 16 at least, so the subtractions do not pass 0
-behind : (s : Start) → let a = s.args in (16 ≤ a.b.y + a.spot / 64) × (16 ≤ a.b.x + a.spot % 64)
+behind : (s : Start) → let a = s.args in (16 ≤ a.matching.block.y + a.spot / 64) × (16 ≤ a.matching.block.x + a.spot % 64)
 behind s = spot_behind _ _ _ s.requires.0 s.args.spot s.requires.1
 
 pub overflow_sub-row : goal.overflow_sub-row
@@ -23,7 +23,7 @@ block_up_to-requires c = spot_block _ _ _ c.requires.0 c.args.spot c.requires.1
 pub returns : goal.returns
 unfolding distortion
 returns c =
-    let b = c.args.b in
+    let b = c.args.matching.block in
     let h = behind (goal.at.returns c).Start in
     let o = older-at b.y b.x (c.args.spot / 64) (c.args.spot % 64) h.0 h.1 in
     rw (o.0, o.1) c.block_up_to.ensures
