@@ -1,6 +1,6 @@
 -- The pels of a block and its search window in an array.
 --   stored_most     rows of small numbers stored among small numbers
---   pels_long       the array is as long as before; pels_small: its places of m = 1 are small
+--   pels_small      the array's places of m = 1 are small
 --   window_pel      a pel of a candidate's older block; own_pel: one of the block itself
 use Prim.Native.Nat.{ℕ, zero, suc, ◌+◌, ◌-◌, ◌*◌, ◌≤◌, ◌<◌}
 use mathlib.Core.Path.{◌≡◌, refl, sym, ap, subst, ◌∙◌}
@@ -84,9 +84,6 @@ module _ (older newer : List ℕ) (b : SearchBlock) (s : Standing b) (some : 0 <
 
   own_room : (n + 32) * (n + 32) + n * n + n ≤ length window + n
   own_room = omega (arith, window_long, area_is n)
-
-  pub pels_long : length both ≡ length first
-  pels_long = stored_long _ n window ((n + 32) * (n + 32)) n n own_room ∙ window_long
 
   pub pels_small : Bytes older → Bytes newer → ((u : ℕ) → u < area n → get_or first u 0 ≤ 255) → (u : ℕ) → u < area n
       → get_or both u 0 ≤ 255

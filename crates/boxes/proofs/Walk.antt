@@ -101,12 +101,12 @@ module _ (first : List ℕ) (n span : ℕ) where
       pub walk_own : (t : ℕ) → t < own_places n m → get_or boxes (from + (n + 32) * (n + 32) + t) 0 ≡ box own_pels n m t
       walk_own t h = rw (w.place, w.power) (w.own w.k t (omega arith) (rw w.power at h))
 
-      module _ (more : m < n) (other : m ≡ 16 → ⊥) where
+      module _ (more : m < min n 16) where
         -- the m that follows
         pub walk_twice : (w.k ≤ 3) × (m ≤ 8) × (2 * m ≤ n) × (1 ≤ m)
         walk_twice =
-            let s = power_small w.k w.few (λ e. other (w.power ∙ e)) in
-            let next = power_next n allowed w.k (rw w.power at more) in
+            let s = power_small w.k w.few (λ e. omega (arith, w.power, e)) in
+            let next = power_next n allowed w.k (rw w.power at (let h : m < n = omega arith in h)) in
             (s.0, rw w.power s.1, rw w.power next, rw w.power (one-le-pow w.k 2 (zero-lt-suc 1)))
 
         -- two areas more have room

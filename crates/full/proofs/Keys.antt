@@ -3,6 +3,7 @@
 --   least_low                 no more than what it began with
 --   least_cut                 n places, and m more behind them, each by itself
 --   least_least, least_some   no more than any; and one of them, or what it began with
+--   code_read                 what a row or column adds to a key
 --   least_enough              the sum as far as the ceiling goes wins or loses as the distortion does
 use Prim.Native.Nat.{ℕ, zero, suc, ◌+◌, ◌*◌, ◌/◌, ◌≤◌, ◌<◌, min}
 use mathlib.Core.Path.{◌≡◌, refl, sym, ap, ◌∙◌}
@@ -11,6 +12,10 @@ use native.Mathlib.Nat.{add-zero, add-suc, eq-or-lt_of_le}
 use native.Mathlib.Numerals.{add-one}
 use native.Mathlib.Omega.{arith}
 use native.Mathlib.Decide.{dec_le}
+use mathlib.Core.List.{List}
+use lib.ListN.{get_or}
+use Rattle.base.specs.Lists.{list_to, get_d_list_to}
+use Rattle.reach.specs.Keys.{code_of}
 use Rattle.distortion.specs.Blocks.{UpTo}
 use Rattle.full.specs.Rows.{least_from}
 
@@ -57,6 +62,10 @@ module _ (best : ℕ) (g : ℕ → ℕ) (from : ℕ) where
       go (inl e) (yes h) = inl (omega arith)
       go (inr (j, a, b, e)) (yes h) = inr (j, a, omega arith, omega arith)
       go s (no h) = inr (from + n, omega arith, omega arith, omega arith)
+
+-- what a row or column adds to a key, as it is read
+pub code_read : (codes : List ℕ) (weight i : ℕ) → codes ≡ list_to (code_of weight) 33 → i < 33 → get_or codes i 0 ≡ code_of weight i
+code_read codes weight i e h = ap (λ (k : List ℕ). get_or k i 0) e ∙ get_d_list_to (code_of weight) 33 i 0 h
 
 pub least_enough : (least all d code : ℕ) → code < 262144 → UpTo (least / 262144) all d → min least (d * 262144 + code) ≡ min least (all * 262144 + code)
 least_enough least all d code h u = go (dec_le d (least / 262144))

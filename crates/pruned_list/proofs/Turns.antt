@@ -11,7 +11,7 @@ use lib.ListN.{length, get_or, take, drop, set, length-append, length-set}
 use lib.Seq.{take-set-le, take-suc-set, drop-set-lt, get_or-set_other, drop-drop}
 use Rattle.pruned_rule.specs.Sift.{kept}
 use Rattle.pruned_rule.proofs.Loops.{kept_take}
-use Rattle.pruned_list.specs.Listed.{distance_of, swept, KeptWithin}
+use Rattle.pruned_list.specs.Listed.{distance_of, swept}
 
 pub record Sifting (old : List ℕ) (count limit i j : ℕ) (keys : List ℕ) : Type 0 where
   pub inside : i ≤ count
@@ -96,6 +96,3 @@ module _ {old : List ℕ} {count limit i j : ℕ} {keys : List ℕ} (s : Sifting
     rest = stored_rest;
     past = stored_past;
   }
-
-pub sifting_last : {old keys : List ℕ} {count limit j : ℕ} → Sifting old count limit count j keys → KeptWithin limit old count keys j
-sifting_last s = record { many = s.many; front = s.front; list = s.list; behind = s.past }

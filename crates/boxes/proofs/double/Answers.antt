@@ -21,9 +21,7 @@ small : (l : At-loop-t) (u : ℕ) → let a = l.args in
     l.loop-t.t < a.size → a.from ≤ u → u < a.from + a.below + a.m + a.size → get_or l.loop-t.boxes u 0 ≤ 16383
 small l u h i j =
     let k : u < l.args.to = omega (arith, l.requires.room.0) in
-    let e : get_or l.loop-t.boxes u 0 ≡ get_or l.args.boxes.now u 0 =
-    rw l.loop-t.invariant.0 (fill_before _ _ _ l.loop-t.t u 0 (omega (arith, l.requires.room.1)) k) in
-    rw e (l.requires.small u i j)
+    rw (read l u h k) (l.requires.small u i j)
 
 -- so sums of two and of four fit
 two : (a b : ℕ) → a ≤ 16383 → b ≤ 16383 → Fits w16 (a + b)

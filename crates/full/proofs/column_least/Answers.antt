@@ -1,14 +1,12 @@
 -- `column_least`: after the rows before i of the upper half and as many of the lower one the least of each half is that of their keys.
 use Prim.Native.Nat.{ℕ, ◌+◌, ◌-◌, ◌/◌, ◌%◌, ◌<◌, min}
-use mathlib.Core.Path.{◌≡◌, sym, ap, ◌∙◌}
+use mathlib.Core.Path.{◌≡◌, sym, ◌∙◌}
 use native.Mathlib.Omega.{arith}
-use mathlib.Core.List.{List}
 use lib.ListN.{get_or}
-use Rattle.base.specs.Lists.{get_d_list_to}
-use Rattle.reach.specs.Keys.{order_code, code_of}
+use Rattle.reach.specs.Keys.{order_code}
 use Rattle.reach.proofs.Keys.{code_small}
 use Rattle.full.specs.Rows.{least_from}
-use Rattle.full.proofs.Keys.{least_first, least_next, least_cut}
+use Rattle.full.proofs.Keys.{least_first, least_next, least_cut, code_read}
 use Rattle.full.proofs.Strips.{strip_key}
 use Rattle.full.proofs.column_least.Goals as goal
 use Rattle.full.proofs.column_least.Goals.{At-loop-i, then-last-to, else-last-to}
@@ -22,9 +20,7 @@ halves best g from middle to n m least other a b at all = rw (a, b, at, all) (sy
 code_is : (l : At-loop-i) (i : ℕ) → i < 33 → let a = l.args in
     l.code_of-across.result + get_or a.codes.now i 0 ≡ order_code i a.j
 unfolding order_code
-code_is l i h =
-    let row = ap (λ (k : List ℕ). get_or k i 0) l.requires.6 ∙ get_d_list_to (code_of 64) 33 i 0 h in
-    omega (arith, row, l.code_of-across.ensures)
+code_is l i h = omega (arith, code_read _ 64 i l.requires.6 h, l.code_of-across.ensures)
 
 code-low : (l : At-loop-i) (i : ℕ) → i < 33 → let a = l.args in
     l.code_of-across.result + get_or a.codes.now i 0 < 262144

@@ -1,34 +1,26 @@
 -- `row_least`: after the columns before j the least is that of their keys.
-use Prim.Native.Nat.{ℕ, ◌+◌, ◌-◌, ◌≤◌, ◌<◌}
+use Prim.Native.Nat.{◌+◌, ◌-◌, ◌≤◌, ◌<◌}
 use mir.Syntax.{w32}
-use mathlib.Core.Path.{◌≡◌, refl, ap, ◌∙◌}
+use mathlib.Core.Path.{◌≡◌, refl, ap₂, ◌∙◌}
 use native.Mathlib.Omega.{arith}
 use borrow.Author.Rules.{Fits-under}
-use mathlib.Core.List.{List}
 use lib.ListN.{get_or}
-use Rattle.base.specs.Lists.{get_d_list_to}
 use Rattle.distortion.specs.Blocks.{size_by, measure_by}
-use Rattle.reach.specs.Keys.{order_code, key_of, code_of}
-use Rattle.reach.proofs.Keys.{code_small}
+use Rattle.reach.specs.Keys.{order_code, key_of}
+use Rattle.reach.proofs.Keys.{code_parts, code_small}
 use Rattle.full.specs.Rows.{key_in_copy}
-use Rattle.full.proofs.Keys.{least_first, least_more, least_low, least_enough}
+use Rattle.full.proofs.Keys.{least_first, least_more, least_low, code_read, least_enough}
 use Rattle.full.proofs.row_least.Goals as goal
 use Rattle.full.proofs.row_least.Goals.{At-loop-j}
 
 -- what row i and column j add to a key is their place in the order
 code_is : (l : At-loop-j) → l.loop-j.j < 33 → let a = l.args in
     l.code_of-down.result + get_or a.codes.now l.loop-j.j 0 ≡ order_code a.i l.loop-j.j
-unfolding order_code
-code_is l h =
-    let column = ap (λ (k : List ℕ). get_or k l.loop-j.j 0) l.requires.7 ∙ get_d_list_to (code_of 1) 33 l.loop-j.j 0 h in
-    omega (arith, column, l.code_of-down.ensures)
+code_is l h = ap₂ ◌+◌ l.code_of-down.ensures (code_read _ 1 _ l.requires.7 h) ∙ code_parts l.args.i l.loop-j.j
 
 code-low : (l : At-loop-j) → l.loop-j.j < 33 → let a = l.args in
     l.code_of-down.result + get_or a.codes.now l.loop-j.j 0 < 262144
-unfolding order_code
-code-low l h = rw ((let code_is : l.loop-j.j < 33 → let a = l.args in
-    l.code_of-down.result + get_or a.codes.now l.loop-j.j 0 ≡ order_code a.i l.loop-j.j = let column = ap (λ (k : List ℕ). get_or k l.loop-j.j 0) l.requires.7 ∙ get_d_list_to (code_of 1) 33 l.loop-j.j 0 h in
-    omega (arith, column, l.code_of-down.ensures) in code_is) h) (code_small l.args.i l.loop-j.j l.requires.4 h)
+code-low l h = rw (code_is l h) (code_small l.args.i l.loop-j.j l.requires.4 h)
 
 -- the least is no more than what it began with
 low : (l : At-loop-j) → l.loop-j.least ≤ l.args.best

@@ -9,4 +9,4 @@ loop-i-init g c = (stored_none _ _ _ _ _, refl)
 pub loop-i-preserved : goal.loop-i-preserved
 loop-i-preserved g c =
     let l = c.loop-i in
-    (c.copy_row.ensures ∙ rw l.invariant.0 (sym (stored_more _ _ _ _ _ l.i)), c.copy_row.auto.copy ∙ l.invariant.1)
+    (rw (c.copy_row.ensures, l.invariant.0) (sym (stored_more _ _ _ _ _ l.i)), c.copy_row.auto.copy ∙ l.invariant.1)
