@@ -10,11 +10,6 @@ loop-pass-init c =
     let q = c.requires in
     rw c.log2_window-pass-end.ensures (passing_first _ _ _ q.1 q.0.down q.0.across)
 
-pub pass_at-best-requires : goal.pass_at-best-requires
-pass_at-best-requires c =
-    let g = c.loop-pass.invariant in
-    (record { down = g.down; across = g.across; room = omega arith }, omega (arith, c.args.matching.ready.window))
-
 pub loop-pass-preserved : goal.loop-pass-preserved
 loop-pass-preserved c =
     let l = c.loop-pass in

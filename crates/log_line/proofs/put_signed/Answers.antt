@@ -1,11 +1,11 @@
 -- `put_signed`: a sign before the digits of a number below 0.
 use lib.IntN.{pos, nat_abs}
-use mathlib.Core.Bool.{true, false}
+use mathlib.Core.Bool.{true}
 use lib.Signed.{lt_z}
 use mir.Facts.{to_z-of_z}
 use Rattle.signed.specs.Int.{dn, ints, parts}
 use Rattle.put.specs.Put.{put_then}
-use Rattle.log_line.proofs.Texts.{number_below, number_kept}
+use Rattle.log_line.proofs.Texts.{number_below}
 use Prim.Native.Nat.{◌<◌}
 use mathlib.Core.Path.{◌≡◌, sym}
 use native.Mathlib.Omega.{arith}
@@ -19,11 +19,3 @@ returns-then-z-lt0 c =
     let e : c.unsigned_abs-n.result ≡ nat_abs z = simp (to_z-of_z c.ranges.z) at c.unsigned_abs-n.ensures.value in
     let sign = c.put_byte-k.ensures in
     (rw (number_below z c.args.after h) (put_then sign (rw (sym e) c.put_field.ensures.0)), omega (arith, sign.place))
-
-pub returns : goal.returns
-returns c =
-    let z = c.args.z in
-    let kept : lt_z z (pos 0) ≡ false = simp (to_z-of_z c.ranges.z) at c.if-z-lt0.false in
-    let h : dn z ≡ 0 = omega (arith, ints, parts z) in
-    let e : c.unsigned_abs-n.result ≡ nat_abs z = simp (to_z-of_z c.ranges.z) at c.unsigned_abs-n.ensures.value in
-    (rw (number_kept z c.args.after h, sym e) c.put_field-2.ensures.0, omega arith)

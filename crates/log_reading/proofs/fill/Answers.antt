@@ -25,9 +25,6 @@ store-at-requires c =
     let room = store_room (length c.args.log.now + 1 - l._call) _ l.cursor s.result (omega arith) s.ensures in
     (omega (arith, room, l.invariant, c.requires), rw s.ensures (step_fits _ l.cursor))
 
-pub shape_of-list-then-is_refused : goal.shape_of-list-then-is_refused
-shape_of-list-then-is_refused c = c.store-at.auto.list ∙ c.loop-call.invariant.long
-
 pub returns-then-is_refused : goal.returns-then-is_refused
 unfolding field_of flat_map
 returns-then-is_refused c =
@@ -45,9 +42,6 @@ loop-call-preserved c =
     let less : n - l._call - 1 ≡ n - (l._call + 1) = omega arith in
     let goes_on = sym c.if-is_refused.false ∙ c.is_refused.ensures in
     rw less at (turn block_values _ _ l.cursor s.result false (omega arith) s.ensures goes_on l.invariant c.store-at.ensures)
-
-pub shape_of-list : goal.shape_of-list
-shape_of-list c = c.loop-call.invariant.long
 
 pub returns : goal.returns
 unfolding commands_from field_of flat_map

@@ -1,6 +1,5 @@
 -- `log_read`: the first call, then 10, then the end of the walk.
 use mathlib.Core.Path.{◌≡◌, refl, ap, sym, ◌∙◌}
-use native.Mathlib.Omega.{arith}
 use borrow.Author.Tests.{lt-ltb, le-ltb, eq-eqb, ne_eqb}
 use mathlib.Core.Bool.{false}
 use mathlib.Core.List.{List}
@@ -40,9 +39,6 @@ pub head_blocks-requires : goal.head_blocks-requires
 head_blocks-requires c =
     let at = goal.at.head_blocks-requires c in
     ap head_refusal (head_is c) ∙ (begun _ (goes_on at.Else-is_refused)).0
-
-pub overflow_mul-head_blocks : goal.overflow_mul-head_blocks
-overflow_mul-head_blocks c = omega (arith, c.head_blocks.ensures.1)
 
 pub returns-then-list-head_blocks : goal.returns-then-list-head_blocks
 unfolding log_read

@@ -2,23 +2,13 @@
 use Prim.Native.Nat.{◌+◌, ◌-◌}
 use mathlib.Core.Path.{◌≡◌, sym, ◌∙◌}
 use mathlib.Core.Bool.{true, false}
-use native.Mathlib.Nat.{sub-zero}
 use native.Mathlib.Omega.{arith}
 use mathlib.Core.List.{flat_map}
-use Rattle.put.specs.Put.{rest_first, rest_last}
+use Rattle.put.specs.Put.{rest_last}
 use Rattle.log_cursor.specs.Walk.{commands_from}
 use Rattle.log_walks.proofs.Turns.{turn}
 use Rattle.log_line.specs.Line.{line_of}
 use Rattle.log_text.proofs.put_from.Goals as goal
-
-pub loop-call-init : goal.loop-call-init
-loop-call-init c = (omega arith, rw sub-zero (rest_first _ _ _))
-
-pub put_line-at-requires : goal.put_line-at-requires
-put_line-at-requires c = omega (arith, c.loop-call.invariant.0, c.requires)
-
-pub shape_of-out-then-is_refused : goal.shape_of-out-then-is_refused
-shape_of-out-then-is_refused c = c.put_line-at.auto.out ∙ c.loop-call.invariant.1.long
 
 pub returns-then-is_refused : goal.returns-then-is_refused
 unfolding flat_map
@@ -36,9 +26,6 @@ loop-call-preserved c =
     let less : c.args.most - l._call - 1 ≡ c.args.most - (l._call + 1) = omega arith in
     let goes_on = sym c.if-is_refused.false ∙ c.is_refused.ensures in
     (omega (arith, w.1, l.invariant.0), rw less at (turn line_of _ _ l.cursor s.result false (omega arith) s.ensures goes_on l.invariant.1 w.0))
-
-pub shape_of-out : goal.shape_of-out
-shape_of-out c = c.loop-call.invariant.1.long
 
 pub returns : goal.returns
 unfolding commands_from flat_map

@@ -2,16 +2,9 @@
 use Prim.Native.Nat.{suc, ◌+◌, ◌-◌}
 use mathlib.Core.Path.{◌≡◌}
 use mathlib.Core.List.{flat_map}
-use native.Mathlib.Nat.{sub-zero}
 use native.Mathlib.Omega.{arith}
-use Rattle.put.specs.Put.{rest_first, rest_more, rest_last}
+use Rattle.put.specs.Put.{rest_more, rest_last}
 use Rattle.log_text.proofs.put_stills.Goals as goal
-
-pub loop-still-init : goal.loop-still-init
-loop-still-init c = (omega arith, rw sub-zero (rest_first _ _ _))
-
-pub put_still-at-requires : goal.put_still-at-requires
-put_still-at-requires c = omega (arith, c.loop-still.invariant.0, c.requires)
 
 pub loop-still-preserved : goal.loop-still-preserved
 unfolding flat_map
@@ -20,9 +13,6 @@ loop-still-preserved c =
     let l = c.loop-still in
     let next : c.args.n - l._still ≡ suc (c.args.n - (l._still + 1)) = omega arith in
     (omega (arith, w.1, l.invariant.0), rest_more (rw next at l.invariant.1) w.0)
-
-pub shape_of-out : goal.shape_of-out
-shape_of-out c = c.loop-still.invariant.1.long
 
 pub returns : goal.returns
 unfolding flat_map

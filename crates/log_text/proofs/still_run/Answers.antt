@@ -2,23 +2,14 @@
 use Prim.Native.Nat.{◌+◌}
 use mathlib.Core.Path.{◌≡◌, ◌∙◌}
 use native.Mathlib.Omega.{arith}
-use Rattle.log_text.proofs.Stills.{still_inside, counted_first, counted_more, counted_last}
+use Rattle.log_text.proofs.Stills.{still_inside, counted_more, counted_last}
 use Rattle.log_text.proofs.still_run.Goals as goal
-
-pub loop-n-init : goal.loop-n-init
-loop-n-init c = counted_first _ _ _ c.requires.0
-
-pub overflow_add-from : goal.overflow_add-from
-overflow_add-from c = omega (arith, c.loop-n.invariant.inside)
 
 pub returns-then-from-n : goal.returns-then-from-n
 returns-then-from-n c =
     let i = c.loop-n.invariant in
     let s = c.args in
     (counted_last i (λ h e. omega (arith, still_inside s.log.now (s.from + c.loop-n.n) e)), i.few, i.inside)
-
-pub overflow_add-from-in-loop-n : goal.overflow_add-from-in-loop-n
-overflow_add-from-in-loop-n c = omega (arith, c.loop-n.invariant.inside)
 
 pub returns-then-log-from-ne-STILL : goal.returns-then-log-from-ne-STILL
 returns-then-log-from-ne-STILL c =

@@ -1,5 +1,4 @@
 -- `put_head`: each number of an accepted head fits its bytes, and they are put in order.
-use mathlib.Core.Path.{◌≡◌, ◌∙◌}
 use native.Mathlib.Omega.{arith}
 use Rattle.log_writing.specs.Parts.{head_bytes}
 use Rattle.put.specs.Put.{put_then}
@@ -20,16 +19,6 @@ overflow_cast-h-2 c = omega (arith, (headed _ c.requires).window)
 
 pub overflow_cast-h-3 : goal.overflow_cast-h-3
 overflow_cast-h-3 c = omega (arith, (headed _ c.requires).searching)
-
-pub put_measure-requires : goal.put_measure-requires
-put_measure-requires c =
-    let sizes : c.put_two-n.result ≡ 5 = omega (arith, c.put_byte-width.ensures.place, c.put_two-height.ensures.place, c.put_two-n.ensures.place) in
-    omega (arith, sizes, c.put_byte-w.ensures.place, c.put_byte-search.ensures.place, c.put_byte-measure.ensures.place)
-
-pub shape_of-out : goal.shape_of-out
-shape_of-out c =
-    let last = c.put_measure.auto.out ∙ c.put_byte-measure.auto.out ∙ c.put_byte-search.auto.out ∙ c.put_byte-w.auto.out in
-    last ∙ c.put_two-n.auto.out ∙ c.put_two-height.auto.out ∙ c.put_byte-width.auto.out
 
 pub returns : goal.returns
 unfolding head_bytes

@@ -8,9 +8,6 @@ pub put_blocks-end-requires : goal.put_blocks-end-requires
 put_blocks-end-requires c =
     (omega (arith, head_few c.args.head, c.put_head-blocks.ensures.place), c.requires)
 
-pub head_blocks-requires : goal.head_blocks-requires
-head_blocks-requires c = c.requires.listed.fine
-
 pub returns : goal.returns
 returns c =
     rw (log_parts _ _)

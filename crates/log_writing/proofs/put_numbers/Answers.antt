@@ -7,12 +7,6 @@ use Rattle.signed.specs.Int.{up, parts}
 use Rattle.put.specs.Put.{put_then}
 use Rattle.log_writing.proofs.put_numbers.Goals as goal
 
-pub to_byte-requires : goal.to_byte-requires
-to_byte-requires c = rw (to_z-of_z c.ranges.dy) (omega (arith, c.requires.1.down))
-
-pub to_byte-requires-2 : goal.to_byte-requires-2
-to_byte-requires-2 c = rw (to_z-of_z c.ranges.dx) (omega (arith, c.requires.1.across))
-
 pub returns : goal.returns
 unfolding numbers_bytes
 returns c =
