@@ -7,11 +7,11 @@ ghost use Rattle.std.specs.Prelude.{◌≡◌, ℕ, ◌+◌, ◌-◌, ◌*◌, �
 ghost use Rattle.base.specs.Lists.{fill_to};
 ghost use Rattle.boxes.specs.Runs.{carried};
 ghost use Rattle.refusals.specs.Refusals.{block_size_ok};
-ghost use Rattle.search.specs.Target.{Ready};
 ghost use Rattle.reach.specs.Reach.{Standing, reach};
 ghost use Rattle.boxes.specs.Boxes.{doubled, Cut, area, span_of, level_of, whole_of, Levels, Boxed};
 
-use frame::{Region, SearchBlock};
+use frame::Region;
+use search::Matching;
 
 // How many places the array has with N up to 16, and with N 32: five times those of the largest window and its block.
 pub const SMALL: usize = 5 * (48 * 48 + 16 * 16);
@@ -100,9 +100,9 @@ fn fill_from_pels(boxes: &mut [u16], n: usize, span: usize)
 
 // All boxes of a block and its search window.
 pub fn fill(matching: Matching, r: Region, boxes: &mut [u16])
-    requires { (r ≡ reach matching.block) × (5 * area matching.block.setting.n ≤ length boxes.old)
-        × ((u : ℕ) → u < area matching.block.setting.n → get_or boxes.old u 0 ≤ 255) }
-    ensures { Boxed matching.entry.older.now matching.entry.newer.now matching.entry.block boxes.new }
+    requires { let n = matching.block.setting.n in (r ≡ reach matching.block) × (5 * area n ≤ length boxes.old)
+        × ((u : ℕ) → u < area n → get_or boxes.old u 0 ≤ 255) }
+    ensures { let m = matching.entry in Boxed m.older.now m.newer.now m.block boxes.new }
 {
     let n = matching.block.setting.n;
     window_copy::copy_window(matching.older, matching.block, r, boxes, 0, n + 32);

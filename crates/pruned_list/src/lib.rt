@@ -7,12 +7,12 @@
 ghost use Rattle.std.specs.Prelude.{◌≡◌, ◌+◌, ◌*◌, ◌≤◌, ◌<◌, min, ◌++◌, length, drop};
 ghost use Rattle.base.specs.Lists.{list_to, fill_to};
 ghost use Rattle.distortion.specs.Blocks.{capped};
-ghost use Rattle.search.specs.Target.{Ready};
 ghost use Rattle.reach.specs.Keys.{order_code, code_of};
 ghost use Rattle.pruned_rule.specs.Spots.{spots, vector_on};
 ghost use Rattle.pruned_list.specs.Listed.{keys_of, spot_of, renewed, nearest_key, KeptWithin, SpotIn, SpotsIn, distortion_to, measured_key, least_measured};
 
-use frame::{Region, SearchBlock};
+use frame::Region;
+use search::Matching;
 
 // The keys of one row with distance 0, from place `at` on.
 fn list_row(
@@ -93,17 +93,18 @@ pub fn keep_within(keys: &mut [u64], count: usize, limit: u64) -> usize
 // The distortion of the candidate on a spot, as far as the ceiling goes.
 fn measured(matching: Matching, spot: usize, ceiling: u32) -> Option<u32>
     requires { SpotIn matching.block spot }
-    ensures { result ≡ capped ceiling (distortion_to matching.entry.older.now matching.entry.newer.now matching.entry.block (vector_on spot)) }
+    ensures { let m = matching.entry in result ≡ capped ceiling (distortion_to m.older.now m.newer.now m.block (vector_on spot)) }
 {
-    let row = matching.block.y + spot / 64 - 16;
-    let column = matching.block.x + spot % 64 - 16;
-    distortion::block_up_to(matching.older, matching.newer, matching.block.setting, matching.block.y, matching.block.x, row, column, ceiling)
+    let b = matching.block;
+    let row = b.y + spot / 64 - 16;
+    let column = b.x + spot % 64 - 16;
+    distortion::block_up_to(matching.older, matching.newer, b.setting, b.y, b.x, row, column, ceiling)
 }
 
 // E lowered to the distortion of the candidate on a spot, if that is less: measured with E as ceiling.
 pub fn lowered(matching: Matching, spot: usize, e: u32) -> u32
     requires { SpotIn matching.block spot }
-    ensures { result ≡ min e (distortion_to matching.entry.older.now matching.entry.newer.now matching.entry.block (vector_on spot)) }
+    ensures { let m = matching.entry in result ≡ min e (distortion_to m.older.now m.newer.now m.block (vector_on spot)) }
 {
     let Some(d) = measured(matching, spot, e) else {
         return e;
@@ -114,7 +115,7 @@ pub fn lowered(matching: Matching, spot: usize, e: u32) -> u32
 // The lesser of a key and that of a listed candidate by its distortion, which is measured as far as the least so far goes.
 fn lesser_measured(matching: Matching, key: u64, best: u64) -> u64
     requires { SpotIn matching.block (spot_of key) × (best < 1125899906842624) }
-    ensures { result ≡ min best (measured_key (distortion_to matching.entry.older.now matching.entry.newer.now matching.entry.block) key) }
+    ensures { let m = matching.entry in result ≡ min best (measured_key (distortion_to m.older.now m.newer.now m.block) key) }
 {
     let ceiling = (best / 262144) as u32;
     let Some(d) = measured(matching, spot_of(key), ceiling) else {
@@ -130,7 +131,8 @@ fn lesser_measured(matching: Matching, key: u64, best: u64) -> u64
 // Of the listed, the key of the least distortion, equals by the preference order. It begins with 2^50 - 1, which is more than any such key.
 pub fn choose(matching: Matching, keys: &[u64], count: usize) -> u64
     requires { (0 < count) × (count ≤ length keys.now) × SpotsIn matching.block keys.now count }
-    ensures { (result ≡ least_measured (distortion_to matching.entry.older.now matching.entry.newer.now matching.entry.block) keys.now count) × (result < 1125899906842624) }
+    ensures { let m = matching.entry in
+        (result ≡ least_measured (distortion_to m.older.now m.newer.now m.block) keys.now count) × (result < 1125899906842624) }
 {
     let mut best: u64 = 1125899906842623;
     for i in 0..count {

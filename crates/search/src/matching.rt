@@ -1,5 +1,6 @@
 // A block matching: what a search goes through.
 
+ghost use Rattle.distortion.specs.Blocks.{Bytes};
 ghost use Rattle.search.specs.Target.{Ready};
 
 use frame::SearchBlock;
@@ -11,4 +12,5 @@ pub struct Matching<'a> {
     pub newer: &'a [u8],
     pub block: SearchBlock,
     ghost ready: { Ready older.now newer.now block },
+    ghost bytes: { Bytes older.now × Bytes newer.now },
 }

@@ -7,7 +7,6 @@ use native.Mathlib.Omega.{arith}
 use lib.ListN.{get_or}
 use Rattle.frame.specs.declared.Region.{Region}
 use Rattle.refusals.specs.Refusals.{block_size}
-use Rattle.distortion.specs.Blocks.{Bytes}
 use Rattle.reach.specs.Reach.{Standing, reach}
 use Rattle.reach.proofs.Candidates.{Bounds, reach_bounds, ready_standing}
 use Rattle.boxes.specs.Boxes.{window_pels, block_pels, span_of}
@@ -17,13 +16,13 @@ use Rattle.boxes.proofs.fill.Goals as goal
 use Rattle.boxes.proofs.fill.Goals.{After-span, Start}
 
 standing : (s : Start) → Standing s.args.matching.block
-standing s = ready_standing _ _ _ (s.requires.0)
+standing s = ready_standing _ _ _ (s.args.matching.ready)
 
 few : (s : Start) → s.args.matching.block.setting.n ≤ 32
-few s = (block_size _ (s.requires.0).placed.paired.allowed).most
+few s = (block_size _ (s.args.matching.ready).placed.paired.allowed).most
 
 bounds : (s : Start) → Bounds s.args.matching.block s.args.r
-bounds s = subst (λ (r : Region). Bounds s.args.matching.block r) (sym s.requires.1) (reach_bounds s.args.matching.block (standing s))
+bounds s = subst (λ (r : Region). Bounds s.args.matching.block r) (sym s.requires.0) (reach_bounds s.args.matching.block (standing s))
 
 pub copy_window-requires : goal.copy_window-requires
 copy_window-requires c =
@@ -34,10 +33,10 @@ copy_window-requires c =
     let rows : r.rows + n - 1 ≤ n + 32 = omega (arith, k.few_rows, k.below, k.above) in (
       standing (goal.at.copy_window-requires c).Start,
       f,
-      omega (arith, (c.requires.0).placed.paired.older_whole),
-      c.requires.1,
+      omega (arith, (c.args.matching.ready).placed.paired.older_whole),
+      c.requires.0,
       omega (arith, f),
-      omega (arith, mul-le-mul_right (n + 32) rows, area_is n, c.requires.2, k.rows, k.columns, k.few_rows, k.few_columns),
+      omega (arith, mul-le-mul_right (n + 32) rows, area_is n, c.requires.1, k.rows, k.columns, k.few_rows, k.few_columns),
     )
 
 pub overflow_mul-n : goal.overflow_mul-n
@@ -46,9 +45,9 @@ overflow_mul-n c = omega (arith, square_small (c.args.matching.block.setting.n +
 pub copy_block-requires : goal.copy_block-requires
 copy_block-requires c =
     let n = c.args.matching.block.setting.n in
-    let p = (c.requires.0).placed.paired in
+    let p = (c.args.matching.ready).placed.paired in
     let f = few (goal.at.copy_block-requires c).Start in
-    (standing (goal.at.copy_block-requires c).Start, f, omega (arith, p.newer_whole), omega (arith, f), omega (arith, area_is n, c.requires.2, c.copy_window.auto.copy))
+    (standing (goal.at.copy_block-requires c).Start, f, omega (arith, p.newer_whole), omega (arith, f), omega (arith, area_is n, c.requires.1, c.copy_window.auto.copy))
 
 pub span-requires : goal.span-requires
 span-requires c =
@@ -61,31 +60,23 @@ pels-are : (c : After-span) → let a = c.args in
 pels-are c =
     let a = c.args in
     c.copy_block.ensures
-    ∙ ap (λ (xs : List ℕ). block_pels a.matching.newer.now a.matching.block xs) (rw c.requires.1 at c.copy_window.ensures)
-
--- a pel is a byte
-bytes : (c : After-span) → let a = c.args in
-    Bytes a.matching.older.now × Bytes a.matching.newer.now
-bytes c = (
-  λ k. omega (arith, c.shared_slice_known-1.given k),
-  λ k. omega (arith, c.shared_slice_known-2-1.given k),
-)
+    ∙ ap (λ (xs : List ℕ). block_pels a.matching.newer.now a.matching.block xs) (rw c.requires.0 at c.copy_window.ensures)
 
 pub fill_from_pels-requires : goal.fill_from_pels-requires
 fill_from_pels-requires c =
     let k = bounds (goal.at.fill_from_pels-requires c).Start in
     let p = pels-are c in (
-      (c.requires.0).placed.paired.allowed,
+      (c.args.matching.ready).placed.paired.allowed,
       rw c.span.ensures (span_short c.args.matching.block.setting.n c.args.r (omega (arith, k.few_rows)) (omega (arith, k.few_columns))),
-      omega (arith, c.requires.2, c.copy_window.auto.copy, c.copy_block.auto.copy),
+      omega (arith, c.requires.1, c.copy_window.auto.copy, c.copy_block.auto.copy),
       λ u h.
           subst (λ (xs : List ℕ). get_or xs u 0 ≤ 255) (sym p)
-          (first_small c.args.matching.older.now c.args.matching.newer.now c.args.matching.block (c.requires.0) (bytes c).0 (bytes c).1 _ c.requires.2 c.requires.3 u h),
+          (first_small c.args.matching.older.now c.args.matching.newer.now c.args.matching.block (c.args.matching.ready) c.args.matching.bytes.0 c.args.matching.bytes.1 _ c.requires.1 c.requires.2 u h),
     )
 
 pub returns : goal.returns
 returns c =
     let n = c.args.matching.block.setting.n in
-    let span : c.span.result ≡ span_of n (reach c.args.matching.block) = c.span.ensures ∙ ap (λ (r : Region). span_of n r) c.requires.1 in
+    let span : c.span.result ≡ span_of n (reach c.args.matching.block) = c.span.ensures ∙ ap (λ (r : Region). span_of n r) c.requires.0 in
     let f = rw (pels-are (goal.at.returns c).After-span, span) at c.fill_from_pels.ensures in
-    boxed _ _ _ (c.requires.0) (bytes (goal.at.returns c).After-span).0 (bytes (goal.at.returns c).After-span).1 _ c.requires.2 c.requires.3 _ f.0 f.1
+    boxed _ _ _ (c.args.matching.ready) c.args.matching.bytes.0 c.args.matching.bytes.1 _ c.requires.1 c.requires.2 _ f.0 f.1

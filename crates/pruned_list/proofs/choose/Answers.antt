@@ -4,19 +4,12 @@ use native.Mathlib.Omega.{arith}
 use lib.ListN.{get_or}
 use Rattle.base.specs.Lists.{list_to}
 use Rattle.base.specs.Least.{least_of, least_from}
-use Rattle.distortion.specs.Blocks.{Bytes}
 use Rattle.pruned_rule.specs.Spots.{vector_on}
 use Rattle.pruned_list.specs.Listed.{spot_of}
 use Rattle.pruned_list.proofs.Measuring.{distortion_small, least_first, least_more}
 use Rattle.pruned_list.proofs.choose.Goals as goal
 use Rattle.pruned_list.proofs.choose.Invariants.{key_at}
 use Rattle.pruned_list.proofs.choose.Goals.{At-loop-i}
-
-bytes : (l : At-loop-i) → let a = l.args in Bytes a.matching.older.now × Bytes a.matching.newer.now
-bytes l = (
-  λ i. let h = l.shared_slice_known-1.given i in omega (arith, h),
-  λ i. let h = l.shared_slice_known-2-1.given i in omega (arith, h),
-)
 
 pub loop-i-init : goal.loop-i-init
 unfolding least_of least_from list_to
@@ -35,5 +28,5 @@ returns c =
     let a = c.args in
     let f = key_at a.matching.older.now a.matching.newer.now a.matching.block a.keys.now in
     let e : l.i ≡ a.count = omega arith in
-    let small = distortion_small _ _ _ c.requires.0 (bytes (goal.at.returns c).At-loop-i).0 (bytes (goal.at.returns c).At-loop-i).1 (vector_on (spot_of (get_or a.keys.now 0 0))) in
-    ((rw e at l.invariant.1) ∙ least_first 1125899906842623 f a.count c.requires.1 (omega (arith, small)), l.invariant.0)
+    let small = distortion_small _ _ _ c.args.matching.ready c.args.matching.bytes.0 c.args.matching.bytes.1 (vector_on (spot_of (get_or a.keys.now 0 0))) in
+    ((rw e at l.invariant.1) ∙ least_first 1125899906842623 f a.count c.requires.0 (omega (arith, small)), l.invariant.0)

@@ -15,4 +15,4 @@ key_at older newer b keys j = measured_key (distortion_to older newer b) (get_or
 
 abbrev pub invariant-loop-i : goal.invariant-loop-i
 invariant-loop-i l =
-    (l.best < 1125899906842624) × (l.best ≡ least_of (λ k. k) (1125899906842623 ∷ list_to (key_at l.older l.newer l.b l.keys) l.i))
+    (l.best < 1125899906842624) × (l.best ≡ least_of (λ k. k) (1125899906842623 ∷ list_to (key_at l.matching.older.now l.matching.newer.now l.matching.block l.keys) l.i))

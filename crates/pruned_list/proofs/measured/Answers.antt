@@ -9,7 +9,7 @@ use Rattle.pruned_list.proofs.measured.Goals.{Start}
 
 -- 16 at least, so the subtractions do not pass 0
 behind : (s : Start) → let a = s.args in (16 ≤ a.matching.block.y + a.spot / 64) × (16 ≤ a.matching.block.x + a.spot % 64)
-behind s = spot_behind _ _ _ s.requires.0 s.args.spot s.requires.1
+behind s = spot_behind _ _ _ s.args.matching.ready s.args.spot s.requires
 
 pub overflow_sub-row : goal.overflow_sub-row
 overflow_sub-row c = omega (arith, behind (goal.at.overflow_sub-row c).Start)
@@ -18,7 +18,7 @@ pub overflow_sub-column : goal.overflow_sub-column
 overflow_sub-column c = omega (arith, behind (goal.at.overflow_sub-column c).Start)
 
 pub block_up_to-requires : goal.block_up_to-requires
-block_up_to-requires c = spot_block _ _ _ c.requires.0 c.args.spot c.requires.1
+block_up_to-requires c = spot_block _ _ _ c.args.matching.ready c.args.spot c.requires
 
 pub returns : goal.returns
 unfolding distortion
