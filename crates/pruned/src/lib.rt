@@ -9,7 +9,7 @@ ghost use Rattle.order.specs.declared.Vector.{Vector};
 ghost use Rattle.frame.specs.Pictures.{pair_of, count_number};
 ghost use Rattle.refusals.specs.Refusals.{block_size_ok};
 ghost use Rattle.search.specs.SearchResult.{search_result};
-ghost use Rattle.search.specs.Target.{Ready};
+ghost use Rattle.search.specs.Matchings.{pair_in};
 ghost use Rattle.reach.specs.Reach.{Standing, reach};
 ghost use Rattle.pruned_rule.specs.Sift.{kept};
 ghost use Rattle.pruned_rule.specs.Spots.{spots, vector_on, choice_of};
@@ -21,7 +21,7 @@ ghost use Rattle.pruned.specs.Answer.{still_distortion, pruned_search};
 ghost use Rattle.pruned.specs.Flow.{dist_of, limit_of, bound_by, bound_at, fits, few, by_all, next_of, first_slot, Roomy, is_blank, blank_answer, Distances, Held, Facing, Leveled, Search, Closing};
 
 use frame::{Region, SearchBlock, Setting};
-use search::SearchResult;
+use search::{Matching, SearchResult};
 
 // Up to so many candidates are listed and looked up one by one.
 pub const FEW: usize = 64;
@@ -126,10 +126,10 @@ fn bound_of_all(
     m: usize,
     e: u32,
 ) -> u32
-    requires { (r ≡ reach matching.block) × (2088 ≤ length numbers.now)
-        × Distances (dist_of matching.older.now matching.newer.now matching.block m) matching.block numbers.now
-        × (m < matching.block.setting.n → RowLeasts numbers.now (matching.block.setting.n + 32) r least.now) }
-    ensures { result ≡ bound_at matching.entry.older.now matching.entry.newer.now matching.entry.block m e }
+    requires { let k = matching in (r ≡ reach k.block) × (2088 ≤ length numbers.now)
+        × Distances (dist_of k.older.now k.newer.now k.block m) k.block numbers.now
+        × (m < k.block.setting.n → RowLeasts numbers.now (k.block.setting.n + 32) r least.now) }
+    ensures { let k = matching.entry in result ≡ bound_at k.older.now k.newer.now k.block m e }
 {
     let n = matching.block.setting.n;
     if m < n {
@@ -175,8 +175,8 @@ fn all_level(
     numbers: &mut [u32; boxes::PLACES],
     e: u32,
 ) -> Remaining
-    requires { Search matching.older.now matching.newer.now matching.block r boxes.now m × T (fits matching.block.setting m) × (few < length keys.old) × (length numbers.old ≡ 2088) }
-    ensures { Leveled matching.entry.older.now matching.entry.newer.now matching.entry.block m e keys.new result
+    requires { let k = matching in Search k.older.now k.newer.now k.block r boxes.now m × T (fits k.block.setting m) × (few < length keys.old) × (length numbers.old ≡ 2088) }
+    ensures { let k = matching.entry in Leveled k.older.now k.newer.now k.block m e keys.new result
         × (length keys.new ≡ length keys.old) × (length numbers.new ≡ 2088) }
 {
     let s = matching.block.setting;
@@ -198,9 +198,10 @@ fn bound_of_listed(
 ) -> u32
     requires { (0 < count) × (count ≤ length keys.now)
         × SpotIn matching.block (spot_of (nearest_key keys.now count)) }
-    ensures { result ≡ bound_by matching.entry.older.now matching.entry.newer.now matching.entry.block m (vector_on (spot_of (nearest_key keys.now count))) e }
+    ensures { let k = matching.entry in result ≡ bound_by k.older.now k.newer.now k.block m (vector_on (spot_of (nearest_key keys.now count))) e }
 {
-    if m < matching.block.setting.n {
+    let n = matching.block.setting.n;
+    if m < n {
         let key = pruned_list::nearest(keys, count);
         return pruned_list::lowered(matching, pruned_list::spot_of(key), e);
     }
@@ -216,8 +217,8 @@ fn listed_level(
     keys: &mut [u64],
     q: Remaining,
 ) -> Remaining
-    requires { Search matching.older.now matching.newer.now matching.block r boxes.now m × Facing matching.older.now matching.newer.now matching.block m keys.old q × (by_all matching.block.setting m q.count ≡ false) }
-    ensures { Leveled matching.entry.older.now matching.entry.newer.now matching.entry.block m q.bound keys.new result
+    requires { let k = matching in Search k.older.now k.newer.now k.block r boxes.now m × Facing k.older.now k.newer.now k.block m keys.old q × (by_all k.block.setting m q.count ≡ false) }
+    ensures { let k = matching.entry in Leveled k.older.now k.newer.now k.block m q.bound keys.new result
         × (length keys.new ≡ length keys.old) }
 {
     let s = matching.block.setting;
@@ -253,9 +254,9 @@ fn level(
     numbers: &mut [u32; boxes::PLACES],
     q: Remaining,
 ) -> Remaining
-    requires { Search matching.older.now matching.newer.now matching.block r boxes.now m × Facing matching.older.now matching.newer.now matching.block m keys.old q × (few < length keys.old)
+    requires { let k = matching in Search k.older.now k.newer.now k.block r boxes.now m × Facing k.older.now k.newer.now k.block m keys.old q × (few < length keys.old)
         × (length numbers.old ≡ 2088) }
-    ensures { Leveled matching.entry.older.now matching.entry.newer.now matching.entry.block m q.bound keys.new result
+    ensures { let k = matching.entry in Leveled k.older.now k.newer.now k.block m q.bound keys.new result
         × (length keys.new ≡ length keys.old) × (length numbers.new ≡ 2088) }
 {
     if by_all(matching.block.setting, m, q.count) {
@@ -272,9 +273,9 @@ fn answer(
     counts: [u32; frame::COUNTS],
     dropped: u32,
 ) -> SearchResult
-    requires { Closing matching.older.now matching.newer.now matching.block keys.now q }
-    ensures { let v = choice_of matching.entry.block (distortion_to matching.entry.older.now matching.entry.newer.now matching.entry.block) in
-        result ≡ search_result v (distortion_to matching.entry.older.now matching.entry.newer.now matching.entry.block v) counts dropped }
+    requires { let m = matching in Closing m.older.now m.newer.now m.block keys.now q }
+    ensures { let m = matching.entry in let v = choice_of m.block (distortion_to m.older.now m.newer.now m.block) in
+        result ≡ search_result v (distortion_to m.older.now m.newer.now m.block v) counts dropped }
 {
     if q.count > FEW {
         let f = full::search(matching);
@@ -307,9 +308,9 @@ fn tests(
     keys: &mut [u64],
     e: u32,
 ) -> SearchResult
-    requires { Search matching.older.now matching.newer.now matching.block r boxes.now matching.block.setting.n × Roomy matching.block.setting (length keys.old)
-        × (e ≡ still_distortion (pair_in matching) matching.block.y matching.block.x) }
-    ensures { result ≡ pruned_search (pair_in matching.entry) matching.entry.block.w matching.entry.block.y matching.entry.block.x }
+    requires { let m = matching in Search m.older.now m.newer.now m.block r boxes.now m.block.setting.n × Roomy m.block.setting (length keys.old)
+        × (e ≡ still_distortion (pair_in m) m.block.y m.block.x) }
+    ensures { let m = matching.entry in result ≡ pruned_search (pair_in m) m.block.w m.block.y m.block.x }
 {
     let n = matching.block.setting.n;
     let mut numbers = [0u32; boxes::PLACES];
@@ -376,10 +377,10 @@ fn search_with(
     boxes: &mut [u16],
     keys: &mut [u64],
 ) -> SearchResult
-    requires { (r ≡ reach matching.block) × (5 * area matching.block.setting.n ≤ length boxes.old)
-        × ((u : ℕ) → u < area matching.block.setting.n → get_or boxes.old u 0 ≤ 255) × Roomy matching.block.setting (length keys.old)
-        × (e ≡ still_distortion (pair_in matching) matching.block.y matching.block.x) }
-    ensures { result ≡ pruned_search (pair_in matching.entry) matching.entry.block.w matching.entry.block.y matching.entry.block.x }
+    requires { let m = matching in (r ≡ reach m.block) × (5 * area m.block.setting.n ≤ length boxes.old)
+        × ((u : ℕ) → u < area m.block.setting.n → get_or boxes.old u 0 ≤ 255) × Roomy m.block.setting (length keys.old)
+        × (e ≡ still_distortion (pair_in m) m.block.y m.block.x) }
+    ensures { let m = matching.entry in result ≡ pruned_search (pair_in m) m.block.w m.block.y m.block.x }
 {
     boxes::fill(matching, r, boxes);
     tests(matching, r, &*boxes, keys, e)
@@ -387,12 +388,13 @@ fn search_with(
 
 // Search 2 of one block: blank paper at once, or else with memory as large as N asks for.
 pub fn search(matching: Matching) -> SearchResult
-    ensures { result ≡ pruned_search (pair_in matching.entry) matching.entry.block.w matching.entry.block.y matching.entry.block.x }
+    ensures { let m = matching.entry in result ≡ pruned_search (pair_in m) m.block.w m.block.y m.block.x }
 {
-    let s = matching.block.setting;
-    let r = reach::reach(matching.block);
-    let e = distortion::block_distortion(matching.older, matching.newer, s, matching.block.y, matching.block.x, matching.block.y, matching.block.x);
-    if is_blank(matching.older, matching.block, r, e) {
+    let b = matching.block;
+    let s = b.setting;
+    let r = reach::reach(b);
+    let e = distortion::block_distortion(matching.older, matching.newer, s, b.y, b.x, b.y, b.x);
+    if is_blank(matching.older, b, r, e) {
         return blank_answer(s.n, r);
     }
     if s.n == 32 {

@@ -39,7 +39,7 @@ leasts_below-least-requires c =
 pub bound_of_all-f-requires : goal.bound_of_all-f-requires
 bound_of_all-f-requires c =
     let s = c.requires.0 in
-    (s.ready, s.region, room (goal.at.bound_of_all-f-requires c).After-fill_numbers, distances (goal.at.bound_of_all-f-requires c).After-fill_numbers, c.leasts_below-least.ensures.1)
+    (s.region, room (goal.at.bound_of_all-f-requires c).After-fill_numbers, distances (goal.at.bound_of_all-f-requires c).After-fill_numbers, c.leasts_below-least.ensures.1)
 
 pub within_all-requires : goal.within_all-requires
 within_all-requires c =

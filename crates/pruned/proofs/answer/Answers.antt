@@ -23,7 +23,7 @@ low c = omega (arith, c.if-q-gt-FEW.false)
 pub choose-key-requires : goal.choose-key-requires
 choose-key-requires c =
     let p = c.requires in
-    (p.0, p.1.some, closing_room p.0 p.1 (low c), closing_in p.0 p.1 (low c))
+    (p.some, closing_room c.args.matching.ready p (low c), closing_in c.args.matching.ready p (low c))
 
 -- the best of the listed
 chosen : (c : After-spot_of-spot) → let a = c.args in
@@ -32,7 +32,7 @@ chosen : (c : After-spot_of-spot) → let a = c.args in
     × (distance_of c.choose-key.result ≡ distortion_to a.matching.older.now a.matching.newer.now a.matching.block v)
 chosen c =
     let p = c.requires in
-    rw c.spot_of-spot.ensures (closing_chosen p.0 p.1 (let low : c.args.q.count ≤ 64 = omega (arith, c.if-q-gt-FEW.false) in low) c.choose-key.result c.choose-key.ensures.0)
+    rw c.spot_of-spot.ensures (closing_chosen c.args.matching.ready p (let low : c.args.q.count ≤ 64 = omega (arith, c.if-q-gt-FEW.false) in low) c.choose-key.result c.choose-key.ensures.0)
 
 pub unbiased-requires : goal.unbiased-requires
 unbiased-requires c = (chosen c).0

@@ -15,15 +15,15 @@ use Rattle.pruned.proofs.bound_of_all.Goals as goal
 use Rattle.pruned.proofs.bound_of_all.Goals.{After-spot_of, Start}
 
 small : (s : Start) → s.args.matching.block.setting.n ≤ 32
-small s = (block_size s.args.matching.block.setting.n s.requires.0.placed.paired.allowed).most
+small s = (block_size s.args.matching.block.setting.n s.args.matching.ready.placed.paired.allowed).most
 
 laid_in : (s : Start) → Laid s.args.numbers.now (s.args.matching.block.setting.n + 32) s.args.r
 laid_in s =
     let p = s.requires in
-    rw p.1 (laid s.args.matching.block (ready_standing _ _ _ p.0) s.args.matching.block.setting.n (let small : s.args.matching.block.setting.n ≤ 32 = (block_size s.args.matching.block.setting.n s.requires.0.placed.paired.allowed).most in small) s.args.numbers.now p.2)
+    rw p.0 (laid s.args.matching.block (ready_standing _ _ _ s.args.matching.ready) s.args.matching.block.setting.n (let small : s.args.matching.block.setting.n ≤ 32 = (block_size s.args.matching.block.setting.n s.args.matching.ready.placed.paired.allowed).most in small) s.args.numbers.now p.1)
 
 pub nearest-key-requires : goal.nearest-key-requires
-nearest-key-requires c = (laid_in (goal.at.nearest-key-requires c).Start, c.requires.4 c.if-m-n.true)
+nearest-key-requires c = (laid_in (goal.at.nearest-key-requires c).Start, c.requires.3 c.if-m-n.true)
 
 -- the nearest of all
 near : (c : After-spot_of) → let a = c.args in
@@ -31,10 +31,10 @@ near : (c : After-spot_of) → let a = c.args in
 near c =
     let p = c.requires in
     rw c.spot_of.ensures
-    (nearest_all c.args.matching.block (ready_standing _ _ _ p.0) (dist_of c.args.matching.older.now c.args.matching.newer.now c.args.matching.block c.args.m) c.args.numbers.now p.3 c.args.r p.1 _ c.nearest-key.ensures)
+    (nearest_all c.args.matching.block (ready_standing _ _ _ c.args.matching.ready) (dist_of c.args.matching.older.now c.args.matching.newer.now c.args.matching.block c.args.m) c.args.numbers.now p.2 c.args.r p.0 _ c.nearest-key.ensures)
 
 pub lowered-requires : goal.lowered-requires
-lowered-requires c = (c.requires.0, (near c).0)
+lowered-requires c = (near c).0
 
 pub returns-then-m-n : goal.returns-then-m-n
 returns-then-m-n c =

@@ -9,7 +9,7 @@ use Rattle.pruned.proofs.bound_of_listed.Goals as goal
 use Rattle.pruned.proofs.bound_of_listed.Goals.{After-spot_of}
 
 pub nearest-key-requires : goal.nearest-key-requires
-nearest-key-requires c = let p = c.requires in (p.1, p.2)
+nearest-key-requires c = let p = c.requires in (p.0, p.1)
 
 -- the nearest's spot
 spot_is : (c : After-spot_of) → let a = c.args in
@@ -17,16 +17,16 @@ spot_is : (c : After-spot_of) → let a = c.args in
 spot_is c = c.spot_of.ensures ∙ ap (λ (k : ℕ). spot_of k) c.nearest-key.ensures
 
 pub lowered-requires : goal.lowered-requires
-lowered-requires c = let p = c.requires in (p.0, rw (spot_is c) p.3)
+lowered-requires c = rw (spot_is c) c.requires.2
 
-pub returns-then-m-b : goal.returns-then-m-b
-returns-then-m-b c =
+pub returns-then-m-n : goal.returns-then-m-n
+returns-then-m-n c =
     let a = c.args in
     c.lowered.ensures
-    ∙ ap (λ (t : ℕ). min a.e (distortion_to a.matching.older.now a.matching.newer.now a.matching.block (vector_on t))) (spot_is (goal.at.returns-then-m-b c).After-spot_of)
-    ∙ sym (bound_lowered a.matching.older.now a.matching.newer.now a.matching.block a.m _ a.e c.if-m-b.true)
+    ∙ ap (λ (t : ℕ). min a.e (distortion_to a.matching.older.now a.matching.newer.now a.matching.block (vector_on t))) (spot_is (goal.at.returns-then-m-n c).After-spot_of)
+    ∙ sym (bound_lowered a.matching.older.now a.matching.newer.now a.matching.block a.m _ a.e c.if-m-n.true)
 
 pub returns : goal.returns
 returns c =
     let a = c.args in
-    sym (bound_same a.matching.older.now a.matching.newer.now a.matching.block a.m _ a.e (omega (arith, c.if-m-b.false)))
+    sym (bound_same a.matching.older.now a.matching.newer.now a.matching.block a.m _ a.e (omega (arith, c.if-m-n.false)))

@@ -16,7 +16,7 @@ bound_of_listed-e-requires c =
     let p = c.requires in
     let f = c.fill in
     let long = f.auto.keys in
-    (p.0.ready, p.1.some, omega (arith, long, (p.1.held.listed p.2).0), nearest_in p.0 p.1 p.2 _ long f.ensures.1)
+    (p.1.some, omega (arith, long, (p.1.held.listed p.2).0), nearest_in p.0 p.1 p.2 _ long f.ensures.1)
 
 pub returns : goal.returns
 returns c =

@@ -76,7 +76,7 @@ pub overflow_cast-total : goal.overflow_cast-total
 overflow_cast-total c = let i = c.loop-m.invariant in omega (arith, places_few i.0.block, i.1)
 
 pub answer-requires : goal.answer-requires
-answer-requires c = let t = c.loop-m.invariant.0 in (t.block.ready, turning_closing t)
+answer-requires c = turning_closing c.loop-m.invariant.0
 
 pub shape_of-keys : goal.shape_of-keys
 shape_of-keys c = c.loop-m.invariant.2 ∙ c.level-q.ensures.1 ∙ c.begin-first.ensures.2

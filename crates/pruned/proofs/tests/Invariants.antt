@@ -7,7 +7,7 @@ use Rattle.pruned.proofs.tests.Given as goal
 
 abbrev pub invariant-loop-m : goal.invariant-loop-m
 invariant-loop-m l =
-    Turning l.older l.newer l.b l.r l.boxes l.keys l.numbers l.counts l.slot l.q l.m × (l.total ≡ length (places_of l.b)) × (length l.keys ≡ length l.initial.keys)
+    Turning l.matching.older.now l.matching.newer.now l.matching.block l.r l.boxes l.keys l.numbers l.counts l.slot l.q l.m × (l.total ≡ length (places_of l.matching.block)) × (length l.keys ≡ length l.initial.keys)
 
 abbrev pub decreases-loop-m : goal.decreases-loop-m
 decreases-loop-m l = l.m
