@@ -9,7 +9,7 @@ ghost use Rattle.block.specs.Block.{search_refusal, search_block};
 
 use frame::SearchBlock;
 use refusals::{Refusal, Request};
-use search::SearchResult;
+use search::{Matching, SearchResult};
 
 // The first of 1 2 3 4 51 5 6 7 that applies, if one does.
 pub fn search_refusal(
@@ -48,20 +48,24 @@ pub fn search_block(older: &[u8], newer: &[u8], q: Request, y: usize, x: usize) 
     if let Err(refusal) = search_refusal(older.len(), newer.len(), q, y, x) {
         return refused_search(refusal);
     }
-    let b = SearchBlock {
-        setting: refusals::setting_of(q),
-        w: q.w,
-        y,
-        x,
+    let matching = Matching {
+        older,
+        newer,
+        block: SearchBlock {
+            setting: refusals::setting_of(q),
+            w: q.w,
+            y,
+            x,
+        },
     };
     if q.search == 3 {
-        return four_step::search(older, newer, b);
+        return four_step::search(matching);
     }
     if q.search == 4 {
-        return cross::search(older, newer, b, q.t);
+        return cross::search(matching, q.t);
     }
     if q.search == 2 {
-        return pruned::search(older, newer, b);
+        return pruned::search(matching);
     }
-    full::search(older, newer, b)
+    full::search(matching)
 }

@@ -10,7 +10,7 @@ ghost use Rattle.field_block.specs.Blocks.{search_at, Sound, join, Bounded};
 
 use frame::SearchBlock;
 use refusals::Request;
-use search::SearchResult;
+use search::{Matching, SearchResult};
 
 // Counts, dropped and voters, summed over the blocks so far.
 #[derive(Clone, Copy)]
@@ -30,13 +30,16 @@ pub fn search_at(older: &[u8], newer: &[u8], q: Request, k: usize) -> SearchResu
     let y = frame::block_row(s, k);
     let x = frame::block_column(s, k);
     if q.search == 2 {
-        let b = SearchBlock {
-            setting: s,
-            w: q.w,
-            y,
-            x,
-        };
-        return pruned::search(older, newer, b);
+        return pruned::search(Matching {
+            older,
+            newer,
+            block: SearchBlock {
+                setting: s,
+                w: q.w,
+                y,
+                x,
+            },
+        });
     }
     block::search_block(older, newer, q, y, x)
 }

@@ -37,8 +37,29 @@ returns-in-Err c =
     let r = c.in-Err.ensures in
     c.refused_search.ensures ∙ rw r (sym (block_refused _ _ _ _ _ (λ e. number_some c.in-Err.refusal (r ∙ e))))
 
-pub search-requires : goal.search-requires
-search-requires c = ready (goal.at.search-requires c).After-setting_of
+pub invariant_of-matching-clause-ready : goal.invariant_of-matching-clause-ready
+invariant_of-matching-clause-ready c = ready (goal.at.invariant_of-matching-clause-ready c).After-setting_of
+
+pub invariant_of-matching-then-q-eq4-clause-ready : goal.invariant_of-matching-then-q-eq4-clause-ready
+invariant_of-matching-then-q-eq4-clause-ready c = ready (goal.at.invariant_of-matching-then-q-eq4-clause-ready c).After-setting_of
+
+pub invariant_of-matching-then-q-eq2-clause-ready : goal.invariant_of-matching-then-q-eq2-clause-ready
+invariant_of-matching-then-q-eq2-clause-ready c = ready (goal.at.invariant_of-matching-then-q-eq2-clause-ready c).After-setting_of
+
+pub invariant_of-matching-2-clause-ready : goal.invariant_of-matching-2-clause-ready
+invariant_of-matching-2-clause-ready c = ready (goal.at.invariant_of-matching-2-clause-ready c).After-setting_of
+
+pub invariant_of-matching-clause-bytes : goal.invariant_of-matching-clause-bytes
+invariant_of-matching-clause-bytes c = (λ k. omega (arith, c.type_inv.older k), λ k. omega (arith, c.type_inv.newer k))
+
+pub invariant_of-matching-then-q-eq4-clause-bytes : goal.invariant_of-matching-then-q-eq4-clause-bytes
+invariant_of-matching-then-q-eq4-clause-bytes c = (λ k. omega (arith, c.type_inv.older k), λ k. omega (arith, c.type_inv.newer k))
+
+pub invariant_of-matching-then-q-eq2-clause-bytes : goal.invariant_of-matching-then-q-eq2-clause-bytes
+invariant_of-matching-then-q-eq2-clause-bytes c = (λ k. omega (arith, c.type_inv.older k), λ k. omega (arith, c.type_inv.newer k))
+
+pub invariant_of-matching-2-clause-bytes : goal.invariant_of-matching-2-clause-bytes
+invariant_of-matching-2-clause-bytes c = (λ k. omega (arith, c.type_inv.older k), λ k. omega (arith, c.type_inv.newer k))
 
 pub returns-then-q-eq3 : goal.returns-then-q-eq3
 returns-then-q-eq3 c =
@@ -47,21 +68,15 @@ returns-then-q-eq3 c =
 pub search-requires-then-q-eq4 : goal.search-requires-then-q-eq4
 unfolding window_ok
 search-requires-then-q-eq4 c =
-    (ready (goal.at.search-requires-then-q-eq4 c).After-setting_of, rw c.if-q-eq4.true at (searchable _ _ _ _ _ (zero_is (goal.at.search-requires-then-q-eq4 c).In_default)).requested.window)
+    (rw c.if-q-eq4.true at (searchable _ _ _ _ _ (zero_is (goal.at.search-requires-then-q-eq4 c).In_default)).requested.window)
 
 pub returns-then-q-eq4 : goal.returns-then-q-eq4
 returns-then-q-eq4 c =
     (rw c.setting_of.ensures at c.search-then-q-eq4.ensures) ∙ sym (accepted (goal.at.returns-then-q-eq4 c).After-setting_of ∙ searched_cross _ _ _ _ c.if-q-eq4.true)
 
-pub search-requires-then-q-eq2 : goal.search-requires-then-q-eq2
-search-requires-then-q-eq2 c = ready (goal.at.search-requires-then-q-eq2 c).After-setting_of
-
 pub returns-then-q-eq2 : goal.returns-then-q-eq2
 returns-then-q-eq2 c =
     (rw c.setting_of.ensures at c.search-then-q-eq2.ensures) ∙ sym (accepted (goal.at.returns-then-q-eq2 c).After-setting_of ∙ searched_pruned _ _ _ _ c.if-q-eq2.true)
-
-pub search-requires-2 : goal.search-requires-2
-search-requires-2 c = ready (goal.at.search-requires-2 c).After-setting_of
 
 pub returns : goal.returns
 returns c =

@@ -49,11 +49,14 @@ lies b =
           b.block_column-x.result ≡ block_column (setting_of a.q) a.k = rw b.setting_of-s.ensures at b.block_column-x.ensures in column-is),
     ) (block_down _ f _ b.requires.1, block_across _ f _ b.requires.1)
 
-pub search-requires : goal.search-requires
-search-requires c =
-    let a = request (goal.at.search-requires c).Start in
-    rw c.setting_of-s.ensures
-    (record { placed = record { paired = a.paired; down = (lies (goal.at.search-requires c).After-block_column-x).0; across = (lies (goal.at.search-requires c).After-block_column-x).1 }; window = window_small _ _ a.window })
+pub invariant_of-search-clause-ready : goal.invariant_of-search-clause-ready
+invariant_of-search-clause-ready c =
+    let a = request (goal.at.invariant_of-search-clause-ready c).Start in
+    let l = lies (goal.at.invariant_of-search-clause-ready c).After-block_column-x in
+    rw c.setting_of-s.ensures (record { placed = record { paired = a.paired; down = l.0; across = l.1 }; window = window_small _ _ a.window })
+
+pub invariant_of-search-clause-bytes : goal.invariant_of-search-clause-bytes
+invariant_of-search-clause-bytes c = (λ k. omega (arith, c.type_inv.older k), λ k. omega (arith, c.type_inv.newer k))
 
 pub returns-then-q-eq2 : goal.returns-then-q-eq2
 returns-then-q-eq2 c =
