@@ -106,7 +106,13 @@ pub fn fill(matching: Matching, r: Region, boxes: &mut [u16])
 {
     let n = matching.block.setting.n;
     window_copy::copy_window(matching.older, matching.block, r, boxes, 0, n + 32);
-    window_copy::copy_block(matching.newer, matching.block, boxes, (n + 32) * (n + 32), n);
+    window_copy::copy_block(
+        matching.newer,
+        matching.block,
+        boxes,
+        (n + 32) * (n + 32),
+        n,
+    );
     fill_from_pels(boxes, n, span(n, r));
 }
 

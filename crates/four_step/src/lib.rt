@@ -46,12 +46,7 @@ fn step_one(matching: Matching) -> BestSoFar
 }
 
 // Steps 2 and 3, after a pattern around (cy, cx).
-fn step_on(
-    matching: Matching,
-    s: BestSoFar,
-    cy: usize,
-    cx: usize,
-) -> BestSoFar
+fn step_on(matching: Matching, s: BestSoFar, cy: usize, cx: usize) -> BestSoFar
     requires { Ongoing s 9 × (cy ≤ 32) × (cx ≤ 32) }
     ensures { Holds result (step23 (target_in matching.entry) (point cy cx) (seen_of s)) (s.count + 9) }
 {
@@ -79,12 +74,7 @@ fn stays(s: BestSoFar, cy: usize, cx: usize) -> bool
 }
 
 // From step 3 on, after a pattern around (cy, cx): a centre that stays leads to step 4, and so does step 3.
-fn from_three(
-    matching: Matching,
-    s: BestSoFar,
-    cy: usize,
-    cx: usize,
-) -> BestSoFar
+fn from_three(matching: Matching, s: BestSoFar, cy: usize, cx: usize) -> BestSoFar
     requires { Ongoing s 18 × (cy ≤ 32) × (cx ≤ 32) }
     ensures { Holds result (from3 (target_in matching.entry) (point cy cx) (seen_of s)) (s.count + 18) }
 {
@@ -96,12 +86,7 @@ fn from_three(
 }
 
 // From step 2 on, after a pattern around (cy, cx): a centre that stays leads to step 4, step 2 to step 3.
-fn from_two(
-    matching: Matching,
-    s: BestSoFar,
-    cy: usize,
-    cx: usize,
-) -> BestSoFar
+fn from_two(matching: Matching, s: BestSoFar, cy: usize, cx: usize) -> BestSoFar
     requires { Ongoing s 27 × (cy ≤ 32) × (cx ≤ 32) }
     ensures { Holds result (from2 (target_in matching.entry) (point cy cx) (seen_of s)) (s.count + 27) }
 {

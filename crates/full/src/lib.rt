@@ -160,7 +160,13 @@ fn by_rows(matching: Matching, r: Region, first: u64) -> u64
     let mut window = [0u8; WINDOW];
     let mut block = [0u8; BLOCK];
     copy_window(matching.older, matching.block, r, &mut window);
-    window_copy::copy_block(matching.newer, matching.block, &mut block, 0, window_copy::ROW);
+    window_copy::copy_block(
+        matching.newer,
+        matching.block,
+        &mut block,
+        0,
+        window_copy::ROW,
+    );
     rows_least(
         &window,
         &block,
@@ -277,7 +283,15 @@ fn least_key(matching: Matching, r: Region) -> u64
     ensures { let m = matching.entry in LeastKey (key_at m.older.now m.newer.now m.block) (reach m.block) result × (result < 1125899906842624) }
 {
     let b = matching.block;
-    let d = distortion::block_distortion(matching.older, matching.newer, b.setting, b.y, b.x, b.y, b.x);
+    let d = distortion::block_distortion(
+        matching.older,
+        matching.newer,
+        b.setting,
+        b.y,
+        b.x,
+        b.y,
+        b.x,
+    );
     let first = d as u64 * 262144 + 1040;
     if d == 0 {
         return first;

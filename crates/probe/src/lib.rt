@@ -31,18 +31,21 @@ pub fn at_origin(matching: Matching) -> BestSoFar
     BestSoFar {
         y: 16,
         x: 16,
-        least: distortion::block_distortion(matching.older, matching.newer, matching.block.setting, y, x, y, x),
+        least: distortion::block_distortion(
+            matching.older,
+            matching.newer,
+            matching.block.setting,
+            y,
+            x,
+            y,
+            x,
+        ),
         count: 1,
     }
 }
 
 // The point (y, x), measured with the least so far as ceiling, where it is a candidate.
-fn against(
-    matching: Matching,
-    s: BestSoFar,
-    y: usize,
-    x: usize,
-) -> MeasuredCandidate
+fn against(matching: Matching, s: BestSoFar, y: usize, x: usize) -> MeasuredCandidate
     requires { (y ≤ 32) × (x ≤ 32) }
     ensures { result ≡ measure_candidate (target_in matching.entry) s.least (point y x) }
 {
@@ -65,12 +68,7 @@ fn one_more(s: BestSoFar) -> BestSoFar
 }
 
 // The point (y, x) is tried: where it is a candidate it is measured, and only strictly smaller replaces.
-fn probe_point(
-    matching: Matching,
-    s: BestSoFar,
-    y: usize,
-    x: usize,
-) -> BestSoFar
+fn probe_point(matching: Matching, s: BestSoFar, y: usize, x: usize) -> BestSoFar
     requires { Ongoing s 1 × (y ≤ 32) × (x ≤ 32) }
     ensures { Holds result (probe_point (target_in matching.entry) (seen_of s) (point y x)) (s.count + 1) }
 {
@@ -186,12 +184,7 @@ pub fn pattern_new(
 }
 
 // A pattern's points around the best by now, at step size p, in the table's order: none was in a pattern before.
-pub fn pattern(
-    matching: Matching,
-    s: BestSoFar,
-    offsets: &[[i32; 2]],
-    p: u32,
-) -> BestSoFar
+pub fn pattern(matching: Matching, s: BestSoFar, offsets: &[[i32; 2]], p: u32) -> BestSoFar
     requires { Ongoing s 9 × Pattern offsets.now × (p ≤ 8) }
     ensures { Holds result (probe (target_in matching.entry) (seen_of s)
         (around (point s.y s.x) (widened p (pairs offsets.now)))) (s.count + 9) }

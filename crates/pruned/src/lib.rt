@@ -189,13 +189,7 @@ fn all_level(
 // ---- one resolution, one by one
 
 // E lowered to the distortion of the nearest of the listed. At N it stays.
-fn bound_of_listed(
-    matching: Matching,
-    keys: &[u64],
-    count: usize,
-    m: usize,
-    e: u32,
-) -> u32
+fn bound_of_listed(matching: Matching, keys: &[u64], count: usize, m: usize, e: u32) -> u32
     requires { (0 < count) × (count ≤ length keys.now)
         × SpotIn matching.block (spot_of (nearest_key keys.now count)) }
     ensures { let k = matching.entry in result ≡ bound_by k.older.now k.newer.now k.block m (vector_on (spot_of (nearest_key keys.now count))) e }
@@ -301,13 +295,7 @@ fn answer(
 }
 
 // All tests, from N on, and the answer.
-fn tests(
-    matching: Matching,
-    r: Region,
-    boxes: &[u16],
-    keys: &mut [u64],
-    e: u32,
-) -> SearchResult
+fn tests(matching: Matching, r: Region, boxes: &[u16], keys: &mut [u64], e: u32) -> SearchResult
     requires { let m = matching in Search m.older.now m.newer.now m.block r boxes.now m.block.setting.n × Roomy m.block.setting (length keys.old)
         × (e ≡ still_distortion (pair_in m) m.block.y m.block.x) }
     ensures { let m = matching.entry in result ≡ pruned_search (pair_in m) m.block.w m.block.y m.block.x }

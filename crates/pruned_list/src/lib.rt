@@ -98,7 +98,16 @@ fn measured(matching: Matching, spot: usize, ceiling: u32) -> Option<u32>
     let b = matching.block;
     let row = b.y + spot / 64 - 16;
     let column = b.x + spot % 64 - 16;
-    distortion::block_up_to(matching.older, matching.newer, b.setting, b.y, b.x, row, column, ceiling)
+    distortion::block_up_to(
+        matching.older,
+        matching.newer,
+        b.setting,
+        b.y,
+        b.x,
+        row,
+        column,
+        ceiling,
+    )
 }
 
 // E lowered to the distortion of the candidate on a spot, if that is less: measured with E as ceiling.

@@ -61,7 +61,8 @@ pub fn measure_candidate(matching: Matching, dy: i32, dx: i32, ceiling: u32) -> 
     let Some((r, c)) = frame::older_at(s, b.w, y, x, dy, dx) else {
         return MeasuredCandidate::NotCandidate;
     };
-    let Some(d) = distortion::block_up_to(matching.older, matching.newer, s, y, x, r, c, ceiling) else {
+    let Some(d) = distortion::block_up_to(matching.older, matching.newer, s, y, x, r, c, ceiling)
+    else {
         return MeasuredCandidate::OverCeiling;
     };
     MeasuredCandidate::Distortion(d)
