@@ -41,7 +41,8 @@ fn refused_search(refusal: Refusal) -> SearchResult
     }
 }
 
-// Searches the block at row y, column x.
+// Searches the block at row y, column x. The request names its search by a number, as C hands it in, and each search is called here alone with what
+// it takes.
 pub fn search_block(older: &[u8], newer: &[u8], q: Request, y: usize, x: usize) -> SearchResult
     ensures { result ≡ search_block older.now newer.now q y x }
 {

@@ -10,7 +10,8 @@ ghost use Rattle.log_command.specs.Operands.{measure_in, head_in, distortion_in}
 
 use log_head::Head;
 
-// What a call of the walker hands out. specs/Commands.antt has the number of each case, `command_number`, and its values, `command_values`.
+// What a call of the walker hands out. specs/Commands.antt has the number of each case, `command_number`, and its values, `command_values`. A refusal is
+// the last of a walk's commands and has the number of the log's rules: the laws of whole walks in log_walks and log_round_trip speak of it so.
 #[derive(Clone, Copy)]
 pub enum Command {
     Head(Head),

@@ -10,7 +10,7 @@ ghost use Rattle.recent.specs.Counting.{counted};
 // How many travels a track holds at most.
 pub const MOST: usize = 64;
 
-// The travels held, oldest first: travel k is (dy[k], dx[k]); and the sum of each part.
+// The travels held, oldest first: travel k is (dy[k], dx[k]); and the sum of each part. Two arrays and a number, for C has the track so.
 #[repr(C)]
 #[derive(Clone, Copy)]
 pub struct Recent {

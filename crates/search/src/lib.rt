@@ -42,7 +42,8 @@ pub fn past(d: i32, at: usize, from: usize) -> usize
     signed::biased(d) + at - (16 + from)
 }
 
-// The distortion of a candidate under a ceiling, or nothing where a vector is none.
+// The distortion of a candidate under a ceiling, or nothing where a vector is none. Three cases, each with its name: an Option of an Option would tell
+// two of them apart by nesting.
 #[derive(Clone, Copy)]
 pub enum MeasuredCandidate {
     Distortion(u32),
