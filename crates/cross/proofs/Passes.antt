@@ -39,17 +39,13 @@ log2_some = cross_elim (λ w. 1 ≤ log2 w) (lit≤ tt) (lit≤ tt) (lit≤ tt) 
 
 pub record Passing (t : Target) (w : ℕ) (at-origin best : BestSoFar) (p left : ℕ) : Type 0 where
   pub less : p ≤ w / 2
-  pub down : best.y ≤ 32
-  pub across : best.x ≤ 32
   pub few : best.count + 9 * left ≤ at-origin.count + 27
   pub leads : passes_in left t p (seen_of best) ≡ all_passes w t (w / 2) (seen_of at-origin)
 
 module _ (t : Target) (w : ℕ) (at-origin : BestSoFar) where
-  pub passing_first : T (cross_window w) → at-origin.y ≤ 32 → at-origin.x ≤ 32 → Passing t w at-origin at-origin (w / 2) (log2 w - 1)
-  passing_first c h k = record {
+  pub passing_first : T (cross_window w) → Passing t w at-origin at-origin (w / 2) (log2 w - 1)
+  passing_first c = record {
     less = omega arith;
-    down = h;
-    across = k;
     few = omega (arith, (window w c).few);
     leads = passes_many t (seen_of at-origin) w c;
   }
@@ -59,8 +55,6 @@ module _ (t : Target) (w : ℕ) (at-origin : BestSoFar) where
     passing_more r h k =
         record {
           less = let l = g.less in omega arith;
-          down = k.down;
-          across = k.across;
           few = let f = g.few in let q = k.few in omega arith;
           leads = ap (passes_in (left - 1) t (p / 2)) k.is ∙ sym (pass_more left t p (seen_of best) h) ∙ g.leads;
         }
@@ -69,8 +63,6 @@ module _ (t : Target) (w : ℕ) (at-origin : BestSoFar) where
     passing_last h =
         record {
           is = sym (pass_last left t p (seen_of best) h) ∙ g.leads;
-          down = g.down;
-          across = g.across;
           few = let f = g.few in omega arith;
         }
 

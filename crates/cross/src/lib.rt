@@ -5,10 +5,10 @@
 ghost use Rattle.std.specs.Prelude.{◌≡◌, ◌+◌, ◌/◌, ◌≤◌, T};
 ghost use Rattle.refusals.specs.Cross.{cross_window};
 ghost use Rattle.search.specs.Matchings.{target_in};
-ghost use Rattle.probe.specs.BestSoFar.{point, seen_of, Ongoing, Holds, result_of};
+ghost use Rattle.probe.specs.BestSoFar.{vector_of, seen_of, Ongoing, Holds, result_of};
 ghost use Rattle.cross.specs.Cross.{pass, all_passes, on_diagonal, ended, finished, cross};
 
-use probe::BestSoFar;
+use probe::{BestSoFar, Point};
 use search::{Matching, SearchResult};
 
 // The tables of offset pairs, dy and dx: the ends of a St. Andrew's cross (X) and of a Greek cross (+), and step 6's points.
@@ -41,13 +41,12 @@ fn all_passes(matching: Matching, s: BestSoFar) -> BestSoFar
     best
 }
 
-// Step 6: the minimum (my, mx) is the centre (iy, ix), or the point above and left of it, or the one below and right.
-fn on_diagonal(iy: usize, ix: usize, my: usize, mx: usize) -> bool
-    requires { (iy ≤ 32) × (ix ≤ 32) × (my ≤ 32) × (mx ≤ 32) }
-    ensures { result ≡ on_diagonal (point iy ix) (point my mx) }
+// Step 6: the minimum is the centre, or the point above and left of it, or the one below and right.
+fn on_diagonal(centre: Point, minimum: Point) -> bool
+    ensures { result ≡ on_diagonal (vector_of centre) (vector_of minimum) }
 {
     let t = DIAGONAL;
-    probe::is_in(my, mx, iy, ix, &t)
+    probe::is_in(minimum, centre, &t)
 }
 
 // Steps 7 and 8.
@@ -68,7 +67,7 @@ fn finish(matching: Matching, s: BestSoFar) -> BestSoFar
     ensures { Holds result (finished (target_in matching.entry) (seen_of s)) (s.count + 18) }
 {
     let q = pass_at(matching, s, 1);
-    let plus_cross = on_diagonal(s.y, s.x, q.y, q.x);
+    let plus_cross = on_diagonal(s.at, q.at);
     end(matching, q, plus_cross)
 }
 

@@ -6,10 +6,10 @@
 ghost use Rattle.std.specs.Prelude.{◌≡◌, ◌+◌, ◌≤◌};
 ghost use Rattle.search.specs.Matchings.{target_in};
 ghost use Rattle.order.specs.Vectors.{same?};
-ghost use Rattle.probe.specs.BestSoFar.{point, seen_of, Ongoing, Holds, result_of};
+ghost use Rattle.probe.specs.BestSoFar.{vector_of, seen_of, Ongoing, Holds, result_of};
 ghost use Rattle.four_step.specs.FourStep.{step1, step23, step4, from3, from2, four_step};
 
-use probe::BestSoFar;
+use probe::{BestSoFar, Point};
 use search::{Matching, SearchResult};
 
 // The tables of offset pairs, dy and dx: centre, then the eight around it, row by row, at distance 2; the eight at distance 1.
@@ -45,13 +45,13 @@ fn step_one(matching: Matching) -> BestSoFar
     probe::pattern(matching, s, &t[1..9], 1)
 }
 
-// Steps 2 and 3, after a pattern around (cy, cx).
-fn step_on(matching: Matching, s: BestSoFar, cy: usize, cx: usize) -> BestSoFar
-    requires { Ongoing s 9 × (cy ≤ 32) × (cx ≤ 32) }
-    ensures { Holds result (step23 (target_in matching.entry) (point cy cx) (seen_of s)) (s.count + 9) }
+// Steps 2 and 3, after a pattern around the centre.
+fn step_on(matching: Matching, s: BestSoFar, centre: Point) -> BestSoFar
+    requires { Ongoing s 9 }
+    ensures { Holds result (step23 (target_in matching.entry) (vector_of centre) (seen_of s)) (s.count + 9) }
 {
     let t = SQUARE;
-    probe::pattern_new(matching, s, &t, 1, cy, cx, &t)
+    probe::pattern_new(matching, s, &t, 1, centre, &t)
 }
 
 // Step 4.
@@ -63,38 +63,35 @@ fn step_last(matching: Matching, s: BestSoFar) -> BestSoFar
     probe::pattern(matching, s, &t, 1)
 }
 
-// The centre (cy, cx) stays: it is still the best.
-fn stays(s: BestSoFar, cy: usize, cx: usize) -> bool
-    ensures { result ≡ same? (point s.y s.x) (point cy cx) }
+// The centre stays: it is still the best.
+fn stays(s: BestSoFar, centre: Point) -> bool
+    ensures { result ≡ same? (vector_of s.at) (vector_of centre) }
 {
-    if s.y == cy {
-        return s.x == cx;
-    }
-    false
+    s.at.y == centre.y && s.at.x == centre.x
 }
 
-// From step 3 on, after a pattern around (cy, cx): a centre that stays leads to step 4, and so does step 3.
-fn from_three(matching: Matching, s: BestSoFar, cy: usize, cx: usize) -> BestSoFar
-    requires { Ongoing s 18 × (cy ≤ 32) × (cx ≤ 32) }
-    ensures { Holds result (from3 (target_in matching.entry) (point cy cx) (seen_of s)) (s.count + 18) }
+// From step 3 on, after a pattern around the centre: a centre that stays leads to step 4, and so does step 3.
+fn from_three(matching: Matching, s: BestSoFar, centre: Point) -> BestSoFar
+    requires { Ongoing s 18 }
+    ensures { Holds result (from3 (target_in matching.entry) (vector_of centre) (seen_of s)) (s.count + 18) }
 {
-    if stays(s, cy, cx) {
+    if stays(s, centre) {
         return step_last(matching, s);
     }
-    let t = step_on(matching, s, cy, cx);
+    let t = step_on(matching, s, centre);
     step_last(matching, t)
 }
 
-// From step 2 on, after a pattern around (cy, cx): a centre that stays leads to step 4, step 2 to step 3.
-fn from_two(matching: Matching, s: BestSoFar, cy: usize, cx: usize) -> BestSoFar
-    requires { Ongoing s 27 × (cy ≤ 32) × (cx ≤ 32) }
-    ensures { Holds result (from2 (target_in matching.entry) (point cy cx) (seen_of s)) (s.count + 27) }
+// From step 2 on, after a pattern around the centre: a centre that stays leads to step 4, step 2 to step 3.
+fn from_two(matching: Matching, s: BestSoFar, centre: Point) -> BestSoFar
+    requires { Ongoing s 27 }
+    ensures { Holds result (from2 (target_in matching.entry) (vector_of centre) (seen_of s)) (s.count + 27) }
 {
-    if stays(s, cy, cx) {
+    if stays(s, centre) {
         return step_last(matching, s);
     }
-    let t = step_on(matching, s, cy, cx);
-    from_three(matching, t, s.y, s.x)
+    let t = step_on(matching, s, centre);
+    from_three(matching, t, s.at)
 }
 
 // The search.
@@ -102,6 +99,6 @@ pub fn search(matching: Matching) -> SearchResult
     ensures { result ≡ result_of (four_step (target_in matching.entry)) }
 {
     let s = step_one(matching);
-    let r = from_two(matching, s, 16, 16);
+    let r = from_two(matching, s, Point { y: 16, x: 16 });
     probe::result_of(r)
 }

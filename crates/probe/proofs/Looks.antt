@@ -30,17 +30,17 @@ use Rattle.probe.specs.BestSoFar.{point, seen_of, one_more, offset, pairs, Patte
 use Rattle.probe.proofs.Probe.{eqb_same, all?, all-within}
 
 pub holds_by : {r : BestSoFar} {s t : Seen} {m n : ℕ} → Holds r s m → s ≡ t → m ≤ n → Holds r t n
-holds_by h e l = record { is = h.is ∙ e; down = h.down; across = h.across; few = let f = h.few in omega arith }
+holds_by h e l = record { is = h.is ∙ e; few = let f = h.few in omega arith }
 
 -- the best so far may stay as it is
 pub holds_same : {s : BestSoFar} {n : ℕ} {q : Seen} → Ongoing s n → seen_of s ≡ q
     → Holds s q (s.count + 1)
-holds_same o e = record { is = e; down = o.down; across = o.across; few = omega arith }
+holds_same o e = record { is = e; few = omega arith }
 
 -- or with one more counted
 pub holds_more : {s r : BestSoFar} {q : Seen} → Ongoing s 1 → r ≡ one_more s → seen_of (one_more s) ≡ q
     → Holds r q (s.count + 1)
-holds_more o e f = rw e (record { is = f; down = o.down; across = o.across; few = omega arith })
+holds_more o e f = rw e (record { is = f; few = omega arith })
 
 -- ---- (0,0): the older block stands where the newer one stands
 
@@ -210,13 +210,11 @@ pub record Going (t : Target) (before : List Vector) (cy cx p : ℕ) (offsets : 
   pub near : Each (Within 2) (pairs (drop i offsets))
   pub left : probe t (seen_of best) (fresh before (around (point cy cx) (widened p (pairs (drop i offsets)))))
       ≡ probe t (seen_of at-origin) (fresh before (around (point cy cx) (widened p (pairs offsets))))
-  pub down : best.y ≤ 32
-  pub across : best.x ≤ 32
   pub few : best.count ≤ at-origin.count + i
 
 module _ (t : Target) (before : List Vector) (cy cx p : ℕ) (offsets : List (List ℤ)) (at-origin : BestSoFar) where
-  pub going_first : Each (Within 2) (pairs offsets) → at-origin.y ≤ 32 → at-origin.x ≤ 32 → Going t before cy cx p offsets at-origin at-origin 0
-  going_first e h k = record { passed = omega arith; near = e; left = refl; down = h; across = k; few = omega arith }
+  pub going_first : Each (Within 2) (pairs offsets) → Going t before cy cx p offsets at-origin at-origin 0
+  going_first e = record { passed = omega arith; near = e; left = refl; few = omega arith }
 
   module _ (best : BestSoFar) (i : ℕ) (g : Going t before cy cx p offsets at-origin best i) where
     pub going_near : i < length offsets → Within 2 (offset (get_or offsets i []))
@@ -232,8 +230,6 @@ module _ (t : Target) (before : List Vector) (cy cx p : ℕ) (offsets : List (Li
           passed = omega arith;
           near = each_tail (Within 2) _ _ (rw (pairs_more offsets i h) at g.near);
           left = rw k.is (sym (probe-new t (seen_of best) _ before _) ∙ (rw (pairs_more offsets i h) at g.left));
-          down = k.down;
-          across = k.across;
           few = let f = g.few in let q = k.few in omega arith;
         }
 

@@ -8,7 +8,7 @@ use Rattle.cross.proofs.all_passes.Goals as goal
 pub loop-pass-init : goal.loop-pass-init
 loop-pass-init c =
     let q = c.requires in
-    rw c.log2_window-pass-end.ensures (passing_first _ _ _ q.1 q.0.down q.0.across)
+    rw c.log2_window-pass-end.ensures (passing_first _ _ _ q.1)
 
 pub loop-pass-preserved : goal.loop-pass-preserved
 loop-pass-preserved c =

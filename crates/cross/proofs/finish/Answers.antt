@@ -2,7 +2,7 @@
 use mathlib.Core.Path.{ap, ◌∙◌}
 use native.Mathlib.Omega.{arith}
 use Rattle.search.specs.Matchings.{target_in}
-use Rattle.probe.specs.BestSoFar.{point, seen_of}
+use Rattle.probe.specs.BestSoFar.{vector_of, seen_of}
 use Rattle.probe.proofs.Looks.{holds_by}
 use Rattle.cross.specs.Cross.{on_diagonal, ended, finished}
 use Rattle.cross.proofs.finish.Goals as goal
@@ -15,5 +15,5 @@ returns c =
     let q = c.pass_at-q in
     holds_by c.end.ensures
     (ap (λ k. ended t k (seen_of q.result)) c.on_diagonal-plus_cross.ensures
-    ∙ ap (λ m. ended t (on_diagonal (point a.s.y a.s.x) m.best) m) q.ensures.is)
+    ∙ ap (λ m. ended t (on_diagonal (vector_of a.s.at) m.best) m) q.ensures.is)
     (omega arith)

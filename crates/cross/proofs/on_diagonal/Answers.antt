@@ -5,7 +5,7 @@ use Rattle.cross.specs.Cross.{diagonal, on_diagonal}
 use Rattle.cross.proofs.on_diagonal.Goals as goal
 
 pub is_in-requires : goal.is_in-requires
-is_in-requires c = let q = c.requires in (q.2, q.3, q.0, q.1, lit≤ tt)
+is_in-requires c = lit≤ tt
 
 pub returns : goal.returns
 unfolding on_diagonal diagonal pairs

@@ -9,7 +9,7 @@ use Rattle.four_step.proofs.step_on.Goals as goal
 
 pub pattern_new-requires : goal.pattern_new-requires
 unfolding pattern? pairs all?
-pattern_new-requires c = let q = c.requires in (q.0, pattern_yes _ tt, lit≤ tt, q.1, q.2, lit≤ tt)
+pattern_new-requires c = let q = c.requires in (q, pattern_yes _ tt, lit≤ tt, lit≤ tt)
 
 pub returns : goal.returns
 unfolding step23 moved square widened pairs

@@ -13,8 +13,7 @@ use Rattle.four_step.proofs.step_one.Goals as goal
 pub pattern-requires : goal.pattern-requires
 unfolding pattern? pairs all?
 pattern-requires c =
-    let f = c.at_origin-s.ensures in
-    (record { down = f.down; across = f.across; room = omega arith }, pattern_yes _ tt, lit≤ tt)
+    (record { room = omega arith }, pattern_yes _ tt, lit≤ tt)
 
 pub returns : goal.returns
 unfolding square fresh is_in widened pairs

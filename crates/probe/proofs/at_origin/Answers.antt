@@ -4,4 +4,4 @@ use Rattle.probe.proofs.Looks.{at_origin_is}
 use Rattle.probe.proofs.at_origin.Goals as goal
 
 pub returns : goal.returns
-returns c = record { is = at_origin_is _ _ _ _ _ c.block_distortion.ensures; down = omega arith; across = omega arith; few = omega arith }
+returns c = record { is = at_origin_is _ _ _ _ _ c.block_distortion.ensures; few = omega arith }

@@ -8,7 +8,7 @@ use lib.ListN.{get_or}
 use mir.Facts.{to_z-of_z}
 use Rattle.order.specs.Vectors.{same?}
 use Rattle.probe.specs.Probe.{plus}
-use Rattle.probe.specs.BestSoFar.{point, offset}
+use Rattle.probe.specs.BestSoFar.{vector_of, offset}
 use Rattle.probe.proofs.Looks.{missing_hit, missing_more, missing_last}
 use mir.Syntax.{w32}
 use Rattle.probe.proofs.is_in.Goals as goal
@@ -18,7 +18,7 @@ use Rattle.probe.proofs.is_in.Goals.{After-is_at}
 tested : (c : After-is_at) →
     let a = c.args in
     let i = c.loop-dy.dy-index in
-    c.is_at.result ≡ same? (point a.y a.x) (plus (point a.cy a.cx) (offset (get_or a.offsets.now i [])))
+    c.is_at.result ≡ same? (vector_of a.at) (plus (vector_of a.centre) (offset (get_or a.offsets.now i [])))
 tested c =
     let o = get_or c.args.offsets.now c.loop-dy.dy-index [] in
     rw (to_z-of_z {w = w32} {z = get_or o 0 (pos 0)} (search rules), to_z-of_z {w = w32} {z = get_or o 1 (pos 0)} (search rules)) at c.is_at.ensures

@@ -3,4 +3,4 @@ use Rattle.probe.proofs.Looks.{Missing}
 use Rattle.probe.proofs.is_in.Given as goal
 
 abbrev pub invariant-loop-dy : goal.invariant-loop-dy
-invariant-loop-dy l = Missing l.y l.x l.cy l.cx l.offsets l.dy-index
+invariant-loop-dy l = Missing l.at.y l.at.x l.centre.y l.centre.x l.offsets l.dy-index

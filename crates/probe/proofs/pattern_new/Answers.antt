@@ -49,4 +49,4 @@ loop-dy-preserved c =
 pub returns : goal.returns
 returns c =
     let g = c.loop-dy.invariant in
-    record { is = going_last _ _ _ _ _ _ _ _ _ g (omega arith); down = g.down; across = g.across; few = omega arith }
+    record { is = going_last _ _ _ _ _ _ _ _ _ g (omega arith); few = omega arith }
