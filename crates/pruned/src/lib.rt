@@ -189,14 +189,14 @@ fn all_level(
 // ---- one resolution, one by one
 
 // E lowered to the distortion of the nearest of the listed. At N it stays.
-fn bound_of_listed(matching: Matching, keys: &[u64], count: usize, m: usize, e: u32) -> u32
-    requires { (0 < count) × (count ≤ length keys.now)
-        × SpotIn matching.block (spot_of (nearest_key keys.now count)) }
-    ensures { let k = matching.entry in result ≡ bound_by k.older.now k.newer.now k.block m (vector_on (spot_of (nearest_key keys.now count))) e }
+fn bound_of_listed(matching: Matching, keys: &[u64], m: usize, e: u32) -> u32
+    requires { (0 < length keys.now) × SpotIn matching.block (spot_of (nearest_key keys.now (length keys.now))) }
+    ensures { let k = matching.entry in
+        result ≡ bound_by k.older.now k.newer.now k.block m (vector_on (spot_of (nearest_key keys.now (length keys.now)))) e }
 {
     let n = matching.block.setting.n;
     if m < n {
-        let key = pruned_list::nearest(keys, count);
+        let key = pruned_list::nearest(keys);
         return pruned_list::lowered(matching, pruned_list::spot_of(key), e);
     }
     e
@@ -217,7 +217,7 @@ fn listed_level(
 {
     let s = matching.block.setting;
     pruned_lookup::fill(boxes, s.measure, s.n, m, r, keys, q.count);
-    let e = bound_of_listed(matching, &*keys, q.count, m, q.bound);
+    let e = bound_of_listed(matching, &keys[..q.count], m, q.bound);
     let count = pruned_list::keep_within(keys, q.count, measures::limit(s.measure, m, e));
     Remaining { count, bound: e }
 }
@@ -282,7 +282,7 @@ fn answer(
             dropped,
         };
     }
-    let key = pruned_list::choose(matching, keys, q.count);
+    let key = pruned_list::choose(matching, &keys[..q.count]);
     let spot = pruned_list::spot_of(key);
     SearchResult {
         refusal: 0,

@@ -1,3 +1,4 @@
 pub mod Turns
+pub mod Front
 pub mod Listed
 pub mod Measuring

@@ -60,12 +60,12 @@ pub fn renewed(key: u64, distance: u64) -> u64
 }
 
 // The least key: that of the nearest, and of equals the first in preference order.
-pub fn nearest(keys: &[u64], count: usize) -> u64
-    requires { (0 < count) × (count ≤ length keys.now) }
-    ensures { result ≡ nearest_key keys.now count }
+pub fn nearest(keys: &[u64]) -> u64
+    requires { 0 < length keys.now }
+    ensures { result ≡ nearest_key keys.now (length keys.now) }
 {
     let mut least = keys[0];
-    for i in 1..count {
+    for i in 1..keys.len() {
         least = least.min(keys[i]);
     }
     least
@@ -138,14 +138,14 @@ fn lesser_measured(matching: Matching, key: u64, best: u64) -> u64
 }
 
 // Of the listed, the key of the least distortion, equals by the preference order. It begins with 2^50 - 1, which is more than any such key.
-pub fn choose(matching: Matching, keys: &[u64], count: usize) -> u64
-    requires { (0 < count) × (count ≤ length keys.now) × SpotsIn matching.block keys.now count }
+pub fn choose(matching: Matching, keys: &[u64]) -> u64
+    requires { (0 < length keys.now) × SpotsIn matching.block keys.now (length keys.now) }
     ensures { let m = matching.entry in
-        (result ≡ least_measured (distortion_to m.older.now m.newer.now m.block) keys.now count) × (result < 1125899906842624) }
+        (result ≡ least_measured (distortion_to m.older.now m.newer.now m.block) keys.now (length keys.now)) × (result < 1125899906842624) }
 {
     let mut best: u64 = 1125899906842623;
-    for i in 0..count {
-        best = lesser_measured(matching, keys[i], best);
+    for &key in keys {
+        best = lesser_measured(matching, key, best);
     }
     best
 }

@@ -1,6 +1,8 @@
 -- `answer`: full search's vector where many remain, or else the best of the listed.
 use Prim.Native.Nat.{◌/◌, ◌%◌, ◌≤◌}
-use mathlib.Core.Path.{◌≡◌, refl}
+use mathlib.Core.Path.{◌≡◌, refl, ◌∙◌}
+use lib.Seq.{length-take-le}
+use Rattle.pruned_list.proofs.Front.{front_measured, front_spots}
 use native.Mathlib.Omega.{arith}
 use borrow.Author.Rules.{sfits_of}
 use mir.Facts.{to_z-of_z}
@@ -23,7 +25,8 @@ low c = omega (arith, c.if-q-gt-FEW.false)
 pub choose-key-requires : goal.choose-key-requires
 choose-key-requires c =
     let p = c.requires in
-    (p.some, closing_room c.args.matching.ready p (low c), closing_in c.args.matching.ready p (low c))
+    let h = closing_room c.args.matching.ready p (low (goal.at.choose-key-requires c).Else-q-gt-FEW) in
+    (rw (length-take-le c.args.q.count c.args.keys.now h) p.some, front_spots c.args.keys.now c.args.q.count h c.args.matching.block (closing_in c.args.matching.ready p (low (goal.at.choose-key-requires c).Else-q-gt-FEW)))
 
 -- the best of the listed
 chosen : (c : After-spot_of-spot) → let a = c.args in
@@ -32,7 +35,10 @@ chosen : (c : After-spot_of-spot) → let a = c.args in
     × (distance_of c.choose-key.result ≡ distortion_to a.matching.older.now a.matching.newer.now a.matching.block v)
 chosen c =
     let p = c.requires in
-    rw c.spot_of-spot.ensures (closing_chosen c.args.matching.ready p (let low : c.args.q.count ≤ 64 = omega (arith, c.if-q-gt-FEW.false) in low) c.choose-key.result c.choose-key.ensures.0)
+    let low : c.args.q.count ≤ 64 = omega (arith, c.if-q-gt-FEW.false) in
+    let h = closing_room c.args.matching.ready p low in
+    rw c.spot_of-spot.ensures
+    (closing_chosen c.args.matching.ready p low c.choose-key.result (c.choose-key.ensures.0 ∙ front_measured c.args.keys.now c.args.q.count h (distortion_to c.args.matching.older.now c.args.matching.newer.now c.args.matching.block)))
 
 pub unbiased-requires : goal.unbiased-requires
 unbiased-requires c = (chosen c).0

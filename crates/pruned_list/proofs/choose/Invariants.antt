@@ -13,6 +13,6 @@ use Rattle.pruned_list.proofs.choose.Given as goal
 abbrev pub key_at : List ℕ → List ℕ → SearchBlock → List ℕ → ℕ → ℕ
 key_at older newer b keys j = measured_key (distortion_to older newer b) (get_or keys j 0)
 
-abbrev pub invariant-loop-i : goal.invariant-loop-i
-invariant-loop-i l =
-    (l.best < 1125899906842624) × (l.best ≡ least_of (λ k. k) (1125899906842623 ∷ list_to (key_at l.matching.older.now l.matching.newer.now l.matching.block l.keys) l.i))
+abbrev pub invariant-loop-key : goal.invariant-loop-key
+invariant-loop-key l =
+    (l.best < 1125899906842624) × (l.best ≡ least_of (λ k. k) (1125899906842623 ∷ list_to (key_at l.matching.older.now l.matching.newer.now l.matching.block l.keys) l.key-index))

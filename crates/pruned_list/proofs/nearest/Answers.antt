@@ -1,6 +1,7 @@
 -- `nearest`: the least of the keys passed is carried along.
 use mathlib.Core.Path.{◌≡◌, ◌∙◌}
 use native.Mathlib.Omega.{arith}
+use lib.ListN.{length}
 use Rattle.base.specs.Least.{least_of_one}
 use Rattle.pruned_list.specs.Listed.{nearest_key}
 use Rattle.pruned_list.proofs.Measuring.{nearest_more}
@@ -16,5 +17,5 @@ pub returns : goal.returns
 unfolding nearest_key
 returns c =
     let l = c.loop-i in
-    let e : l.i ≡ c.args.count = omega arith in
+    let e : l.i ≡ length c.args.keys.now = omega arith in
     rw e at l.invariant
