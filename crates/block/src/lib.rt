@@ -41,8 +41,8 @@ fn refused_search(refusal: Refusal) -> SearchResult
     }
 }
 
-// Searches the block at row y, column x. The request names its search by a number, as C hands it in, and each search is called here alone with what
-// it takes.
+// Searches the block at row y, column x. The request names its search by a number, as C hands it in; an enum would be made of it and matched in the
+// next line.
 pub fn search_block(older: &[u8], newer: &[u8], q: Request, y: usize, x: usize) -> SearchResult
     ensures { result ≡ search_block older.now newer.now q y x }
 {

@@ -7,7 +7,7 @@ ghost use Rattle.std.specs.Prelude.{◌≡◌, ℕ, ◌+◌, ◌-◌, ◌*◌, �
 ghost use Rattle.base.specs.Lists.{fill_to};
 ghost use Rattle.boxes.specs.Runs.{carried};
 ghost use Rattle.refusals.specs.Refusals.{block_size_ok};
-ghost use Rattle.reach.specs.Reach.{Standing, reach};
+ghost use Rattle.reach.specs.Reach.{reach};
 ghost use Rattle.boxes.specs.Boxes.{doubled, Cut, area, span_of, level_of, whole_of, Levels, Boxed};
 
 use frame::Region;
@@ -28,8 +28,6 @@ pub struct Level {
     pub pitch: usize,
     pub n: usize,
 }
-
-// ---- pels
 
 // ---- boxes
 

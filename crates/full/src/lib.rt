@@ -7,7 +7,6 @@
 ghost use Rattle.std.specs.Prelude.{◌≡◌, ◌+◌, ◌-◌, ◌*◌, ◌≤◌, ◌<◌, min, T, length};
 ghost use Rattle.base.specs.Lists.{list_to};
 ghost use Rattle.measures.specs.Measures.{measure_of};
-ghost use Rattle.frame.specs.Pictures.{pair_of};
 ghost use Rattle.refusals.specs.Refusals.{block_size_ok};
 ghost use Rattle.distortion.specs.Blocks.{UpTo, rows_from, kernel_of, size_by, measure_by};
 ghost use Rattle.search.specs.Matchings.{pair_in};

@@ -76,19 +76,12 @@ pub fn half_block(frame: &[u8], s: Setting, p: usize, q: usize, half: &mut [u8])
     requires { HalfReady frame.now s p q × (length half.old ≡ 1024) }
     ensures { half.new ≡ half_rows frame.now s.width p q half.old s.n }
 {
-    let first = p / 2 * s.width + q / 2;
-    for i in 0..s.n {
-        let from = first + i * s.width;
-        value_row(
-            frame,
-            s.width,
-            p % 2 == 1,
-            q % 2 == 1,
-            from,
-            s.n,
-            half,
-            i * ROW,
-        );
+    let mut from = p / 2 * s.width + q / 2;
+    let mut at: usize = 0;
+    for _i in 0..s.n {
+        value_row(frame, s.width, p % 2 == 1, q % 2 == 1, from, s.n, half, at);
+        from += s.width;
+        at += ROW;
     }
 }
 

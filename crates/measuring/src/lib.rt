@@ -14,8 +14,8 @@ ghost use Rattle.measuring.specs.Measured.{answer_of, measure_vector, refused_by
 use frame::Setting;
 use refusals::Refusal;
 
-// The distortion and the rows measured where it is at most the ceiling, else that it is over, and the rows: the rows go with both cases, as they do in
-// neither an Option nor a Result.
+// The distortion where it is at most the ceiling, else that it is over; and in either case how many rows were measured. So it is no Option: None would
+// lose the rows.
 #[derive(Clone, Copy)]
 pub enum Measurement {
     Within(u32, u32),

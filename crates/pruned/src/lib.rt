@@ -6,7 +6,7 @@
 ghost use Rattle.std.specs.Prelude.{◌≡◌, false, ◌++◌, ℕ, ◌+◌, ◌-◌, ◌*◌, ◌≤◌, ◌<◌, min, T, length, get_or, take, replicate};
 ghost use Rattle.measures.specs.Measures.{measure_of};
 ghost use Rattle.order.specs.declared.Vector.{Vector};
-ghost use Rattle.frame.specs.Pictures.{pair_of, count_number};
+ghost use Rattle.frame.specs.Pictures.{count_number};
 ghost use Rattle.refusals.specs.Refusals.{block_size_ok};
 ghost use Rattle.search.specs.SearchResult.{search_result};
 ghost use Rattle.search.specs.Matchings.{pair_in};

@@ -100,7 +100,7 @@ fn add_turned(
 }
 
 // The distances of a block of k × k squares, of 16 × 16 pels at most, that begins `at` and `own` places behind the first; w is the level of its own sum. Whether
-// the numbers start afresh stays a value: as a constant it would make two codes of the whole block.
+// the numbers start afresh is read as the runs go on, for as a const parameter the compiler would make this function twice.
 fn add_block(
     boxes: &[u16],
     l: Level,

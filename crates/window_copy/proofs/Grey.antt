@@ -1,7 +1,7 @@
 -- Rows of one grey, pel by pel, and the turns of the loops that test them.
 --   one_grey_is   each pel of them is the first
 --   none_yes      whether none of so many were counted that fail a test: one more that does not fail; none_no: that does
---   all_not       not all pass it where one does not
+--   all_yes       whether all pass it: one more that does; all_not: where one does not
 use Prim.Native.Nat.{ℕ, ◌+◌, ◌*◌, ◌<◌}
 use mathlib.Core.Path.{◌≡◌, refl, subst}
 use mathlib.Core.Bool.{Bool, true, false}
@@ -22,6 +22,9 @@ one_grey_is frame width from rows columns t i j hi hj =
     eqb→eq _ _ (check_below _ columns (check_below (row_is frame width from columns) rows t i hi) j hj)
 
 module _ (p : ℕ → Bool) where
+  pub all_yes : (n : ℕ) → all_below p n ≡ true → p n ≡ true → all_below p (n + 1) ≡ true
+  all_yes n e q = rw (add-one, q, e)
+
   pub all_not : (n i : ℕ) → i < n → p i ≡ false → all_below p n ≡ false
   all_not n i h e = go (all_below p n) refl
     where

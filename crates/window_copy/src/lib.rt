@@ -1,5 +1,5 @@
-// Rows of a frame copied into an array: a block's search window, or the block itself, 64 places to a row. A copy is read faster than its frame where it
-// is measured many times. And whether such rows have one grey.
+// Rows of a frame copied into an array, which begin as many places apart there as the caller says: a block's search window, or the block itself. A copy
+// is read faster than its frame where it is measured many times. And whether such rows have one grey.
 
 #![tactic(auto)]
 
@@ -60,11 +60,15 @@ pub fn copy_rows<T: Pel>(
     pitch: usize,
 )
     requires { (from + rows * width + columns ≤ length frame.now + width) × (at + rows * pitch + columns ≤ length copy.old + pitch)
-        × (width ≤ 1024) × (pitch ≤ 64) × (rows ≤ 64) }
+        × (width ≤ 1024) × (pitch ≤ 64) × (rows ≤ 64) × (at ≤ 4096) }
     ensures { copy.new ≡ stored_rows (λ i j. T.of_pel (get_or frame.now (from + i * width + j) 0)) columns copy.old at pitch rows }
 {
-    for i in 0..rows {
-        copy_row(frame, from + i * width, columns, copy, at + i * pitch);
+    let mut p = from;
+    let mut k = at;
+    for _i in 0..rows {
+        copy_row(frame, p, columns, copy, k);
+        p += width;
+        k += pitch;
     }
 }
 
@@ -78,7 +82,7 @@ pub fn copy_window<T: Pel>(
     pitch: usize,
 )
     requires { Standing b × (b.setting.n ≤ 32) × (b.setting.height * b.setting.width ≤ length older.now) × (r ≡ reach b) × (pitch ≤ 64)
-        × (at + (r.rows + b.setting.n - 1) * pitch + (r.columns + b.setting.n - 1) ≤ length copy.old + pitch) }
+        × (at + (r.rows + b.setting.n - 1) * pitch + (r.columns + b.setting.n - 1) ≤ length copy.old + pitch) × (at ≤ 4096) }
     ensures { copy.new ≡ stored_rows (λ i j. T.of_pel (get_or older.now ((b.y + r.top - 16) * b.setting.width + (b.x + r.left - 16) + i * b.setting.width + j) 0))
         (r.columns + b.setting.n - 1) copy.old at pitch (r.rows + b.setting.n - 1) }
 {
@@ -102,7 +106,7 @@ pub fn copy_window<T: Pel>(
 // The block itself, likewise.
 pub fn copy_block<T: Pel>(newer: &[u8], b: SearchBlock, copy: &mut [T], at: usize, pitch: usize)
     requires { Standing b × (b.setting.n ≤ 32) × (b.setting.height * b.setting.width ≤ length newer.now) × (pitch ≤ 64)
-        × (at + b.setting.n * pitch + b.setting.n ≤ length copy.old + pitch) }
+        × (at + b.setting.n * pitch + b.setting.n ≤ length copy.old + pitch) × (at ≤ 4096) }
     ensures { copy.new ≡ stored_rows (λ i j. T.of_pel (get_or newer.now (b.y * b.setting.width + b.x + i * b.setting.width + j) 0)) b.setting.n copy.old at pitch
         b.setting.n }
 {
@@ -126,14 +130,17 @@ pub fn copy_sum(window: &[u8], block: &[u8], at: usize, ceiling: u32) -> u32
     ensures { result ≡ copy_up_to ceiling window.now block.now at }
 {
     let mut sum: u32 = 0;
+    let mut p: usize = 0;
+    let mut q = at;
     for g in 0..4usize {
         if g == 2 {
             if ceiling < sum {
                 return sum;
             }
         }
-        let p = 4 * g * ROW;
-        sum += distortion::four_rows(window, block, measures::ABSOLUTE, ROW, ROW, p, at + p, 16);
+        sum += distortion::four_rows(window, block, measures::ABSOLUTE, ROW, ROW, p, q, 16);
+        p += 4 * ROW;
+        q += 4 * ROW;
     }
     sum
 }
@@ -157,10 +164,12 @@ pub fn one_grey(frame: &[u8], width: usize, from: usize, rows: usize, columns: u
     ensures { result ≡ one_grey frame.now width from rows columns }
 {
     let grey = frame[from];
-    for row in 0..rows {
-        if !grey_row(frame, from + row * width, columns, grey) {
+    let mut at = from;
+    for _row in 0..rows {
+        if !grey_row(frame, at, columns, grey) {
             return false;
         }
+        at += width;
     }
     true
 }

@@ -37,6 +37,7 @@ copy_window-requires c =
       c.requires.0,
       omega (arith, f),
       omega (arith, mul-le-mul_right (n + 32) rows, area_is n, c.requires.1, k.rows, k.columns, k.few_rows, k.few_columns),
+      omega arith,
     )
 
 pub overflow_mul-n : goal.overflow_mul-n
@@ -47,7 +48,7 @@ copy_block-requires c =
     let n = c.args.matching.block.setting.n in
     let p = (c.args.matching.ready).placed.paired in
     let f = few (goal.at.copy_block-requires c).Start in
-    (standing (goal.at.copy_block-requires c).Start, f, omega (arith, p.newer_whole), omega (arith, f), omega (arith, area_is n, c.requires.1, c.copy_window.auto.copy))
+    (standing (goal.at.copy_block-requires c).Start, f, omega (arith, p.newer_whole), omega (arith, f), omega (arith, area_is n, c.requires.1, c.copy_window.auto.copy), omega (arith, square_small (n + 32) 64 (omega (arith, f))))
 
 pub span-requires : goal.span-requires
 span-requires c =

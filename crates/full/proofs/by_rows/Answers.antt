@@ -15,7 +15,7 @@ copy_window-requires c =
 pub copy_block-requires : goal.copy_block-requires
 copy_block-requires c =
     let n = size _ _ _ c.args.matching.ready in
-    (ready_standing _ _ _ c.args.matching.ready, n, omega (arith, c.args.matching.ready.placed.paired.newer_whole), omega arith, omega (arith, n))
+    (ready_standing _ _ _ c.args.matching.ready, n, omega (arith, c.args.matching.ready.placed.paired.newer_whole), omega arith, omega (arith, n), omega arith)
 
 pub kernel-requires : goal.kernel-requires
 kernel-requires c = omega (arith, size _ _ _ c.args.matching.ready)

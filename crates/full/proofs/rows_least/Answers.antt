@@ -2,7 +2,6 @@
 use native.Mathlib.Omega.{arith}
 use Rattle.full.proofs.Reached.{led_more}
 use Rattle.full.proofs.rows_least.Goals as goal
-use Rattle.full.proofs.rows_least.Goals.{Start}
 
 pub loop-t-preserved : goal.loop-t-preserved
 loop-t-preserved c =

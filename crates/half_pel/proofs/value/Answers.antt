@@ -3,7 +3,6 @@ use mathlib.Core.Path.{◌≡◌}
 use mathlib.Core.Bool.{true, false}
 use Rattle.half_pel.specs.HalfPel.{value_of}
 use Rattle.half_pel.proofs.value.Goals as goal
-use Rattle.half_pel.proofs.value.Goals.{Else-across, Then-across, Then-across-2}
 
 pub returns-then-across : goal.returns-then-across
 unfolding value_of

@@ -5,7 +5,7 @@ use native.Mathlib.Omega.{arith}
 use borrow.Author.Rules.{rules}
 use Rattle.base.specs.Sum.{sum_to_none, sum_to_more}
 use Rattle.pruned_lookup.proofs.rows_at.Goals as goal
-use Rattle.pruned_lookup.proofs.rows_at.Goals.{After-row_at-sum, In-loop-p}
+use Rattle.pruned_lookup.proofs.rows_at.Goals.{After-row_at-sum}
 
 row_low : (c : After-row_at-sum) → c.row_at-sum.result ≤ 137434759200
 row_low c = let e = c.row_at-sum.ensures.1 in omega (arith, e, c.requires.few)

@@ -7,7 +7,7 @@ use lib.ListN.{get_or}
 use Rattle.base.specs.Sum.{sum_to_none, sum_to_more}
 use Rattle.measures.specs.Measures.{measure_of, diff_most}
 use Rattle.pruned_lookup.proofs.run_at.Goals as goal
-use Rattle.pruned_lookup.proofs.run_at.Goals.{After-sum_difference-sum, In-loop-q}
+use Rattle.pruned_lookup.proofs.run_at.Goals.{After-sum_difference-sum}
 
 -- the difference of a turn
 turn : (c : After-sum_difference-sum) → let a = c.args in let s = c.loop-q.q * a.m in

@@ -9,7 +9,7 @@ use Rattle.boxes.proofs.Runs.{run_inside}
 use Rattle.pruned_narrow.specs.Narrow.{row_sum, row_more}
 use Rattle.pruned_narrow.proofs.Rows.{row_first, run_bound, run_more}
 use Rattle.pruned_narrow.proofs.add_row.Goals as goal
-use Rattle.pruned_narrow.proofs.add_row.Goals.{In_default, Start}
+use Rattle.pruned_narrow.proofs.add_row.Goals.{Start}
 
 long : (s : Start) → s.args.size ≤ length s.args.part.now
 long s = omega (arith, s.requires.0, s.requires.1)

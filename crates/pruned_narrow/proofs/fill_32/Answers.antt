@@ -10,7 +10,7 @@ use Rattle.boxes.proofs.Rooms.{log2_power, area_is}
 use Rattle.boxes.proofs.Filled.{fill_turn}
 use Rattle.pruned_narrow.specs.Narrow.{whole_at}
 use Rattle.pruned_narrow.proofs.fill_32.Goals as goal
-use Rattle.pruned_narrow.proofs.fill_32.Goals.{At-loop-t, Start}
+use Rattle.pruned_narrow.proofs.fill_32.Goals.{Start}
 
 -- the boxes of two whole blocks lie in the array
 places_in : (s : Start) (t : ℕ) → t < 2081

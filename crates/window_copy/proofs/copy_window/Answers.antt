@@ -36,4 +36,4 @@ overflow_sub-r-2 g c = omega (arith, window_in _ _ c.requires.0 c.requires.3)
 pub copy_rows-requires : goal.copy_rows-requires
 copy_rows-requires g c =
     let w = window_in _ _ c.requires.0 c.requires.3 in
-    (window_whole _ _ c.requires.0 c.requires.3 _ c.requires.2, c.requires.5, c.requires.0.wide, c.requires.4, omega (arith, w, c.requires.1))
+    (window_whole _ _ c.requires.0 c.requires.3 _ c.requires.2, c.requires.5, c.requires.0.wide, c.requires.4, omega (arith, w, c.requires.1), c.requires.6)
