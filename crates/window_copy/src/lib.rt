@@ -48,7 +48,8 @@ fn copy_row<T: Pel>(frame: &[u8], from: usize, columns: usize, copy: &mut [T], a
     }
 }
 
-// So many rows of a frame, from place `from` on, copied to place `at` on, where rows begin `pitch` places apart: for numbers `copied_rows`.
+// So many rows of a frame, from place `from` on, copied to place `at` on, where rows begin `pitch` places apart: for numbers `copied_rows`. The last clause
+// asks nothing of numbers: no slice of items that take memory is longer.
 pub fn copy_rows<T: Pel>(
     frame: &[u8],
     width: usize,
@@ -60,7 +61,7 @@ pub fn copy_rows<T: Pel>(
     pitch: usize,
 )
     requires { (from + rows * width + columns ≤ length frame.now + width) × (at + rows * pitch + columns ≤ length copy.old + pitch)
-        × (width ≤ 1024) × (pitch ≤ 64) × (rows ≤ 64) × (at ≤ 4096) }
+        × (width ≤ 1024) × (pitch ≤ 64) × (rows ≤ 64) × (length copy.old ≤ 9223372036854775807) }
     ensures { copy.new ≡ stored_rows (λ i j. T.of_pel (get_or frame.now (from + i * width + j) 0)) columns copy.old at pitch rows }
 {
     let mut p = from;
@@ -82,7 +83,7 @@ pub fn copy_window<T: Pel>(
     pitch: usize,
 )
     requires { Standing b × (b.setting.n ≤ 32) × (b.setting.height * b.setting.width ≤ length older.now) × (r ≡ reach b) × (pitch ≤ 64)
-        × (at + (r.rows + b.setting.n - 1) * pitch + (r.columns + b.setting.n - 1) ≤ length copy.old + pitch) × (at ≤ 4096) }
+        × (at + (r.rows + b.setting.n - 1) * pitch + (r.columns + b.setting.n - 1) ≤ length copy.old + pitch) × (length copy.old ≤ 9223372036854775807) }
     ensures { copy.new ≡ stored_rows (λ i j. T.of_pel (get_or older.now ((b.y + r.top - 16) * b.setting.width + (b.x + r.left - 16) + i * b.setting.width + j) 0))
         (r.columns + b.setting.n - 1) copy.old at pitch (r.rows + b.setting.n - 1) }
 {
@@ -106,7 +107,7 @@ pub fn copy_window<T: Pel>(
 // The block itself, likewise.
 pub fn copy_block<T: Pel>(newer: &[u8], b: SearchBlock, copy: &mut [T], at: usize, pitch: usize)
     requires { Standing b × (b.setting.n ≤ 32) × (b.setting.height * b.setting.width ≤ length newer.now) × (pitch ≤ 64)
-        × (at + b.setting.n * pitch + b.setting.n ≤ length copy.old + pitch) × (at ≤ 4096) }
+        × (at + b.setting.n * pitch + b.setting.n ≤ length copy.old + pitch) × (length copy.old ≤ 9223372036854775807) }
     ensures { copy.new ≡ stored_rows (λ i j. T.of_pel (get_or newer.now (b.y * b.setting.width + b.x + i * b.setting.width + j) 0)) b.setting.n copy.old at pitch
         b.setting.n }
 {

@@ -48,7 +48,7 @@ copy_block-requires c =
     let n = c.args.matching.block.setting.n in
     let p = (c.args.matching.ready).placed.paired in
     let f = few (goal.at.copy_block-requires c).Start in
-    (standing (goal.at.copy_block-requires c).Start, f, omega (arith, p.newer_whole), omega (arith, f), omega (arith, area_is n, c.requires.1, c.copy_window.auto.copy), omega (arith, square_small (n + 32) 64 (omega (arith, f))))
+    (standing (goal.at.copy_block-requires c).Start, f, omega (arith, p.newer_whole), omega (arith, f), omega (arith, area_is n, c.requires.1, c.copy_window.auto.copy), omega (arith, c.copy_window.auto.copy))
 
 pub span-requires : goal.span-requires
 span-requires c =

@@ -47,11 +47,10 @@ copy_window-requires c =
 -- what copying the block asks
 asked : (s : Start) (at long : ℕ) → at ≤ 64 → long ≡ 128 → let b = s.args.matching.block in
     Standing b × (b.setting.n ≤ 32) × (b.setting.height * b.setting.width ≤ length s.args.matching.newer.now) × (8 ≤ 64)
-    × (at + b.setting.n * 8 + b.setting.n ≤ long + 8) × (at ≤ 4096)
+    × (at + b.setting.n * 8 + b.setting.n ≤ long + 8) × (long ≤ 9223372036854775807)
 asked s at long h e =
-    let h4 : at ≤ 4096 = omega arith in
     let n = (eight _ _ _ s.args.matching.ready s.requires.2).size in
-    (ready_standing _ _ _ s.args.matching.ready, omega (arith, n), omega (arith, s.args.matching.ready.placed.paired.newer_whole), omega arith, omega (arith, n), h4)
+    (ready_standing _ _ _ s.args.matching.ready, omega (arith, n), omega (arith, s.args.matching.ready.placed.paired.newer_whole), omega arith, omega (arith, n), omega arith)
 
 pub copy_block-requires : goal.copy_block-requires
 copy_block-requires c = asked (goal.at.copy_block-requires c).Start 0 _ (omega arith) refl

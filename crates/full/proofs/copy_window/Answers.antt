@@ -14,4 +14,4 @@ pub copy_window-requires : goal.copy_window-requires
 copy_window-requires c =
     let w = window_in _ _ c.requires.0 c.requires.3 in
     let k = rw (← c.requires.3) at (reach_bounds c.args.b c.requires.0) in
-    (c.requires.0, c.requires.1, c.requires.2, c.requires.3, omega arith, omega (arith, c.requires.1, c.requires.4, w, k.few_rows, k.few_columns), omega (arith, k.rows, k.columns))
+    (c.requires.0, c.requires.1, c.requires.2, c.requires.3, omega arith, omega (arith, c.requires.1, c.requires.4, w, k.few_rows, k.few_columns), omega (arith, c.requires.4))

@@ -1,7 +1,7 @@
 -- `copy_rows`: after i turns the first i rows are copied, and the places are those of row i.
-use Prim.Native.Nat.{◌≤◌, ◌<◌}
+use Prim.Native.Nat.{◌<◌}
 use mathlib.Core.Path.{refl, sym, ◌∙◌}
-use native.Mathlib.Nat.{zero-mul, mul-le-mul_right}
+use native.Mathlib.Nat.{zero-mul}
 use native.Mathlib.Omega.{arith}
 use Rattle.base.specs.Index.{row_next, row_fits}
 use Rattle.base.specs.Lists.{stored_none, stored_more}
@@ -20,10 +20,7 @@ pub overflow_add-p : goal.overflow_add-p
 overflow_add-p g c = omega (arith, row_fits c.loop-i._i c.args.rows c.args.width (omega arith))
 
 pub overflow_add-k : goal.overflow_add-k
-overflow_add-k g c =
-    let a = c.args in
-    let few : a.rows ≤ 64 = omega arith in
-    omega (arith, row_fits c.loop-i._i a.rows a.pitch (omega arith), mul-le-mul_right a.pitch few)
+overflow_add-k g c = omega (arith, row_fits c.loop-i._i c.args.rows c.args.pitch (omega arith))
 
 pub loop-i-preserved : goal.loop-i-preserved
 loop-i-preserved g c =
