@@ -9,18 +9,18 @@ use mathlib.Core.Logic.{◌⊎◌, inl, inr, ⊎_elim}
 use mathlib.Core.Bool.{Bool, false, ◌&&◌}
 use mathlib.Core.List.{List, [], ◌∷◌, ◌++◌, append-nil}
 use native.Mathlib.Numerals.{add-one}
+use native.Mathlib.Nat.{add_comm}
 use native.Mathlib.Decide.{dec_le}
 use native.Mathlib.Omega.{arith}
 use borrow.Author.Tests.{eq-eqb, le-leb, lt-leb}
 use lib.Dec.{T, leb, eqb, leb→le, le→leb, eqb→eq}
 use lib.IntN.{ℤ, pos, nat_abs, ◌+ℤ◌, ◌-ℤ◌}
 use lib.ListN.{length, get_or, set, take, drop, length-append, length-drop, drop_of_length-le}
-use lib.Seq.{take-suc, take_all, take-suc-set, length-take-le, drop-cons, drop-append-le, set_at, set_split, append_snoc}
+use lib.Seq.{take-suc, take_all, take-suc-set, length-take-le, drop-cons, drop-append-le, set_at, set_split, append_snoc, ext_get_or, get_or-drop}
 use Rattle.base.specs.Tests.{and_left, and_right, and_both, T_true, true_T, T_false, iff_test, all_below, check_below, all-below}
 use Rattle.base.specs.Sum.{sum_to, sum_to_bound, sum_to_term, sum_each, sum_each_none, sum_each_more}
+use Rattle.base.specs.Lists.{list_to, length_list_to, get_d_list_to, fill_to, fill_zero}
 use Rattle.std.specs.Prelude.{Some, None}
-use Rattle.std.specs.List.{copy_within}
-use Rattle.std.proofs.lemmas.List.Edits.{paste_all}
 use Rattle.signed.specs.Int.{up, dn, same, eq_z, eq_z_self, eq_yes, parts, added, less}
 use Rattle.signed.specs.Values.{shifted_by, shifted_is, shifted_no, bias_is}
 use Rattle.recent.specs.declared.Recent.{Recent}
@@ -127,6 +127,17 @@ module _ (places : List ℤ) (long : length places ≡ most_held) where
 
 -- ---- one part more
 
+-- what stands behind place k
+abbrev pub behind : List ℤ → ℕ → ℤ
+behind places k = get_or places (k + 1) (pos 0)
+
+moved_forward : (places : List ℤ) → length places ≡ most_held → drop 1 places ≡ list_to (behind places) 63
+moved_forward places l =
+    ext_get_or (pos 0) (drop 1 places) (list_to (behind places) 63) (rw (length-drop, length_list_to) (omega arith))
+    (λ i h.
+    let n = length-drop 1 places in
+    get_or-drop 1 places i (pos 0) ∙ ap (λ (k : ℕ). get_or places k (pos 0)) (add_comm 1 i) ∙ sym (get_d_list_to (behind places) 63 i (pos 0) (omega arith)))
+
 module _ (places : List ℤ) (held : ℕ) (z : ℤ) (long : length places ≡ most_held) where
   -- the held ones and this one
   pub joined_long : held ≤ most_held → length (take held places ++ (z ∷ [])) ≡ held + 1
@@ -146,12 +157,11 @@ module _ (places : List ℤ) (held : ℕ) (z : ℤ) (long : length places ≡ mo
       rw (joined_long (omega arith), e, take_all most_held places (omega arith), drop-append-le 1 places (z ∷ []) (omega arith), none)
       (sym (append-nil (drop 1 places ++ (z ∷ []))))
 
-  -- all places one forward, and the new part in the last
-  pub more_last : held ≡ most_held → set (copy_within places 1 64 0) 63 z ≡ places_more places held z
+  -- 63 places, each with what stood behind it, and the new part in the last
+  pub more_last : held ≡ most_held → set (fill_to places 0 (behind places) 63) 63 z ≡ places_more places held z
   more_last e =
-      let n : 63 ≡ length (drop 1 places) = rw length-drop (omega arith) in
-      rw (← more_full e, paste_all places 0 (drop 1 places) 63 n, drop-cons places 63 (pos 0) (omega arith), drop_of_length-le places {i = 64} (omega arith))
-      (set_at (drop 1 places) _ [] z 63 (sym n))
+      rw (← more_full e, fill_zero places (behind places) 63, drop-cons places 63 (pos 0) (omega arith), drop_of_length-le places {i = 64} (omega arith))
+      (set_at (list_to (behind places) 63) _ [] z 63 (length_list_to (behind places) 63) ∙ ap (λ (p : List ℤ). p ++ (z ∷ [])) (sym (moved_forward places long)))
 
   pub sum_more : held < most_held → sum_held (places_more places held z) (held_more held) ≡ sum_held places held +ℤ z
   unfolding sum_held

@@ -98,7 +98,9 @@ fn places_more(places: [i32; MOST], held: usize, z: i32) -> [i32; MOST]
         next[held] = z;
         return next;
     }
-    next.copy_within(1..MOST, 0);
+    for k in 0..MOST - 1 {
+        next[k] = places[k + 1];
+    }
     next[MOST - 1] = z;
     next
 }
