@@ -10,8 +10,8 @@
 --   candidate_ok    the vector is a candidate of window w for grid block k; distortionOk: 0 to the largest
 --   entry_ok        both: what 16 asks of the three numbers of grid block k
 --   is_still        a still block: (0,0) with distortion 0
-use Rattle.std.specs.Prelude.{ℕ, ◌*◌, ◌≤◌, ◌≡◌, refl, Bool, true, false, ◌&&◌, T, leb, eqb, ℤ, pos, negsuc, nat_abs}
-use Rattle.std.proofs.Common.{le_trans, mul-le-mul, leb→le}
+use Rattle.std.specs.Prelude.{ℕ, suc, ◌*◌, ◌≤◌, ◌≡◌, refl, Bool, true, false, ◌&&◌, T, leb, eqb, ℤ, pos, negsuc, nat_abs}
+use Rattle.std.proofs.Common.{sym, le_trans, mul-le-mul, arith, ne_eqb, leb→le}
 use Rattle.base.specs.Tests.{and_left, and_right, le_both, true_T}
 use Rattle.signed.specs.Int.{eq_z, up, dn}
 use Rattle.measures.specs.Measures.{measure_ok, measure_of, squares, most_small}
@@ -119,3 +119,7 @@ entry h e k dy dx distortion ok =
     within : (z : ℤ) → T (distortion_ok h z) → (dn z ≡ 0) × (up z ≤ largest_in h)
     within (pos d) t = (refl, leb→le d (largest_in h) t)
     within (negsuc d) t = absurd t
+
+pub zero_is : (z : ℤ) → eq_z z (pos 0) ≡ eqb (nat_abs z) 0
+zero_is (pos n) = refl
+zero_is (negsuc n) = sym (ne_eqb (suc n) 0 (λ e. omega arith))
