@@ -6,7 +6,7 @@ ghost use Rattle.std.specs.Prelude.{◌≡◌, ◌+◌, ◌*◌, ◌≤◌, ◌<
 ghost use Rattle.base.specs.FirstWrong.{first_wrong};
 ghost use Rattle.refusals.specs.Numbers.{number_in};
 ghost use Rattle.log_head.specs.Heads.{head_blocks};
-ghost use Rattle.log_list.specs.Listed.{entry_of, list_refusal, listed_ok, Writable, unplaced, verdict_of, list_verdict};
+ghost use Rattle.log_list.specs.Listed.{value_of, entry_of, list_refusal, listed_ok, Writable, unplaced, verdict_of, list_verdict};
 
 use log_head::Head;
 use refusals::Refusal;
@@ -45,15 +45,23 @@ fn list_refusal(head: Head, list: usize) -> Result<(), Refusal>
     Ok(())
 }
 
+// The number at place i of block k's three.
+pub fn value(list: &[i32], k: usize, i: usize) -> i32
+    requires { (3 * k + i < length list.now) × (k < 1048576) × (i < 3) }
+    ensures { result ≡ value_of list.now k i }
+{
+    list[3 * k + i]
+}
+
 // The three numbers of block k.
 pub fn entry_at(list: &[i32], k: usize) -> Entry
     requires { (3 * k + 3 ≤ length list.now) × (k < 1048576) }
     ensures { result ≡ entry_of list.now k }
 {
     Entry {
-        dy: list[3 * k],
-        dx: list[3 * k + 1],
-        distortion: list[3 * k + 2],
+        dy: value(list, k, 0),
+        dx: value(list, k, 1),
+        distortion: value(list, k, 2),
     }
 }
 
