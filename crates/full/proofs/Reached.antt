@@ -1,11 +1,11 @@
 -- The rows of window 16 from the middle on: after t rows on either side the least key is that of the rows passed.
 --   Led                            a key is one of those in reach, and the least of the rows nearer than t to the middle
---   led_more                       a row on either side
+--   led_first, led_more, led_last  the middle row, a row on either side, and all rows
 -- And its columns from the first in reach on.
 --   Passed                                  a key is one of those in reach, and the least of the columns before j
 --   passed_first, passed_more, passed_last  no column, one more, and all
 use Prim.Native.Nat.{ℕ, ◌+◌, ◌-◌, ◌≤◌, ◌<◌}
-use mathlib.Core.Path.{◌≡◌, sym, ◌∙◌, subst}
+use mathlib.Core.Path.{◌≡◌, refl, sym, ◌∙◌, subst}
 use mathlib.Core.Logic.{⊎_elim, inl, inr}
 use native.Mathlib.Nat.{le_trans}
 use native.Mathlib.Omega.{arith}
@@ -21,6 +21,10 @@ pub record Led (K : ℕ → ℕ → ℕ) (r : Region) (t key : ℕ) : Type 0 whe
   pub least : (i j : ℕ) → InReach r i j → abs_diff i 16 < t → key ≤ K i j
 
 module _ (K : ℕ → ℕ → ℕ) (r : Region) where
+  -- a row out of reach adds nothing
+  pub lowered_none : (i best : ℕ) → ((j : ℕ) → InReach r i j → ⊥) → Lowered K r i best best
+  lowered_none i best out = record { low = omega arith; least = λ j h. absurd (out j h); some = inl refl }
+
   -- a row in reach
   pub lowered_row : (i best : ℕ) → r.top ≤ i → i < r.top + r.rows → Lowered K r i best (least_from best (K i) r.left r.columns)
   lowered_row i best a b = record {
@@ -36,6 +40,14 @@ module _ (K : ℕ → ℕ → ℕ) (r : Region) where
   some_lowered i best key l s =
       ⊎_elim (λ (e : key ≡ best). (s.0, s.1, s.2, e ∙ s.3)) (λ (h : (j : ℕ) × InReach r i j × (key ≡ K i j)). (i, h.0, h.1, h.2)) l.some
 
+  pub led_first : Around r → (first key : ℕ) → first ≡ K 16 16 → Lowered K r 16 first key → Led K r 1 key
+  led_first a first key e l = record {
+    some =
+        some_lowered 16 first key l
+        (16, 16, record { top = a.above; bottom = a.below; left = a.before; right = a.behind }, e);
+    least = λ i j h near. let q : i ≡ 16 = omega arith in subst (λ (k : ℕ). InReach r k j → key ≤ K k j) (sym q) (l.least j) h;
+  }
+
   pub led_more : (t best above below : ℕ) → t ≤ 16 → Led K r t best → Lowered K r (16 - t) best above → Lowered K r (16 + t) above below → Led K r (t + 1) below
   led_more t best above below small d a b = record {
     some = some_lowered (16 + t) above below b (some_lowered (16 - t) best above a d.some);
@@ -49,6 +61,9 @@ module _ (K : ℕ → ℕ → ℕ) (r : Region) where
       go i j h near (no n) (no m) =
           let q : i ≡ 16 + t = omega arith in
           subst (λ (k : ℕ). InReach r k j → below ≤ K k j) (sym q) (b.least j) h
+
+  pub led_last : Around r → (key : ℕ) → Led K r 17 key → LeastKey K r key
+  led_last a key d = record { some = d.some; least = λ i j h. d.least i j h (omega (arith, h.bottom, a.few_rows)) }
 
 -- ---- columns
 

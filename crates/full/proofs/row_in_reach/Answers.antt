@@ -2,8 +2,14 @@
 use Prim.Native.Nat.{◌+◌, ◌-◌}
 use mathlib.Core.Path.{◌≡◌}
 use native.Mathlib.Omega.{arith}
-use Rattle.full.proofs.Reached.{lowered_row}
+use Rattle.full.proofs.Reached.{lowered_none, lowered_row}
 use Rattle.full.proofs.row_in_reach.Goals as goal
+
+pub returns-then-i-r : goal.returns-then-i-r
+returns-then-i-r c = lowered_none _ _ _ _ (λ j h. absurd (omega (arith, h.top, c.if-i-r.true)))
+
+pub returns-then-i-r-2 : goal.returns-then-i-r-2
+returns-then-i-r-2 c = lowered_none _ _ _ _ (λ j h. absurd (omega (arith, h.bottom, c.if-i-r-2.true)))
 
 pub returns : goal.returns
 returns c =
