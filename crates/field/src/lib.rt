@@ -7,7 +7,6 @@ ghost use Rattle.order.specs.Vectors.{vector_count};
 ghost use Rattle.frame.specs.Pictures.{pair_of};
 ghost use Rattle.frame.specs.Grid.{blocks};
 ghost use Rattle.refusals.specs.Refusals.{request_refusal, setting_of};
-ghost use Rattle.refusals.specs.Numbers.{number_of};
 ghost use Rattle.pruned_sums.specs.Filling.{whole_frame};
 ghost use Rattle.voter.specs.Voter.{voting};
 ghost use Rattle.field_rules.specs.Rules.{list_size, HasRoom};
@@ -18,7 +17,7 @@ ghost use Rattle.field.specs.Filling.{Summable, BlocksFilled};
 use field_block::Total;
 use frame::Region;
 use order::Vector;
-use refusals::{Refusal, Request};
+use refusals::Request;
 
 // What a field call answers: the reading with its votes and the voters, and the counts and the number dropped, summed over the blocks.
 #[repr(C)]
@@ -33,11 +32,11 @@ pub struct FieldAnswer {
     pub dropped: u32,
 }
 
-pub fn refused_field(refusal: Refusal) -> FieldAnswer
-    ensures { result ≡ refused_field (number_of refusal) }
+pub fn refused_field(refusal: u32) -> FieldAnswer
+    ensures { result ≡ refused_field refusal }
 {
     FieldAnswer {
-        refusal: refusal.into(),
+        refusal,
         dy: 0,
         dx: 0,
         votes: 0,
@@ -141,7 +140,7 @@ pub fn field(
         list.len(),
         table.len(),
     ) {
-        return refused_field(refusal);
+        return refused_field(refusal.into());
     }
     fill(older, newer, q, list, table)
 }

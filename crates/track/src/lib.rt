@@ -44,7 +44,7 @@ fn unmoved(refusal: Refusal, t: Track) -> Stepped
     ensures { result ≡ unmoved (number_of refusal) t }
 {
     Stepped {
-        answer: field::refused_field(refusal),
+        answer: field::refused_field(refusal.into()),
         track: t,
     }
 }

@@ -8,7 +8,7 @@ use Rattle.field.proofs.field.Goals as goal
 pub returns-in-Err : goal.returns-in-Err
 returns-in-Err c =
     let r = c.in-Err.ensures in
-    rw (c.refused_field.ensures, r) (sym (field_refused _ _ _ _ _ (λ e. number_some c.in-Err.refusal (r ∙ e))))
+    rw (c.refused_field.ensures, c.into.ensures, r) (sym (field_refused _ _ _ _ _ (λ e. number_some c.in-Err.refusal (r ∙ e))))
 
 pub fill-requires : goal.fill-requires
 fill-requires c = has_room _ _ _ _ _ (sym c.in_default.ensures)

@@ -2,4 +2,4 @@
 use Rattle.track.proofs.unmoved.Goals as goal
 
 pub returns : goal.returns
-returns c = rw c.refused_field.ensures
+returns c = rw (c.refused_field.ensures, c.into.ensures)
