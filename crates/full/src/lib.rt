@@ -269,8 +269,11 @@ fn by_columns(matching: Matching, r: Region, first: u64) -> u64
     let mut window = [0u8; WINDOW];
     let mut block = [0u8; TWICE];
     copy_window(matching.older, matching.block, r, &mut window);
-    window_copy::copy_block(matching.newer, matching.block, &mut block, 0, 8);
-    window_copy::copy_block(matching.newer, matching.block, &mut block, 64, 8);
+    let width = matching.block.setting.width;
+    let here = matching.block.y * width + matching.block.x;
+    // N is 8, written out here: so the compiler copies a row in one.
+    window_copy::copy_rows(matching.newer, width, here, 8, 8, &mut block, 0, 8);
+    window_copy::copy_rows(matching.newer, width, here, 8, 8, &mut block, 64, 8);
     columns_least(&window, &block, r, first)
 }
 
