@@ -2,7 +2,8 @@
 --   nearest_all   the least of the distances of all is the nearest's
 --   listed_grid   spots that are listed stand in window 16; listed_in: their candidates are in reach
 --   near_at       the distances at m can be looked up
---   listed-level  the test at m, of those listed
+--   InFront       the keys of some spots stand in front
+--   listed_leveled   the test at m, of those listed: those left are listed too, whatever the next test is
 --   all_fits      what is tested by the distances of all has them in 32 bits
 --   size_small, side_small, region_small, resolution, span_few, span_some, span_filled, numbered_distances   what the distances of all ask for
 --   all_leveled   the test at m, of all
@@ -52,6 +53,9 @@ nearest_all b s cost numbers are r is key l =
 
 -- ---- those listed
 
+abbrev pub InFront : List ℕ → List ℕ → ℕ → Type 0
+InFront ts keys count = (count ≤ length keys) × ((cost : Vector → ℕ) × (take count keys ≡ keys_of cost ts))
+
 module _ (b : SearchBlock) (s : Standing b) (ts keys : List ℕ) (count : ℕ) (among : (t : ℕ) → t ∈ ts → t ∈ spots (reach b)) (room : count ≤ length keys)
     (cost : Vector → ℕ) (front : take count keys ≡ keys_of cost ts) where
   pub listed_grid : OnGrid ts
@@ -66,23 +70,23 @@ near_at {b = b} {boxes = boxes} {m = m} s =
     near_first boxes b.setting.n m s.exponent small s.power (power_few s.exponent (omega (arith, s.power, s.inside, small))) s.inside s.room
 
 module _ {older newer : List ℕ} {b : SearchBlock} {r : Region} {boxes : List ℕ} {m : ℕ} (s : Search older newer b r boxes m) {keys : List ℕ} {q : Remaining}
-    (f : Facing older newer b m keys q) (l : by_all b.setting m q.count ≡ false) where
+    (f : Facing older newer b m keys q) (l : InFront f.ts keys q.count) where
   abbrev standing : Standing b
   standing = ready_standing older newer b s.ready
 
   abbrev room : q.count ≤ length keys
-  room = (f.held.listed l).0
+  room = l.0
 
   pub facing_in : SpotsIn b keys q.count
-  facing_in = listed_in b standing f.ts keys q.count f.among room (f.held.listed l).1.0 (f.held.listed l).1.1
+  facing_in = listed_in b standing f.ts keys q.count f.among room l.1.0 l.1.1
 
   grid : OnGrid f.ts
-  grid = listed_grid b standing f.ts keys q.count f.among room (f.held.listed l).1.0 (f.held.listed l).1.1
+  grid = listed_grid b standing f.ts keys q.count f.among room l.1.0 l.1.1
 
   module _ (mid : List ℕ) (long : length mid ≡ length keys) (d : Distanced b.setting.measure boxes b.setting.n m r keys q.count mid) where
     looked : take q.count mid ≡ keys_of (dist_of older newer b m) f.ts
     looked =
-        listed_distances (f.held.listed l).1.0 f.ts keys q.count room (f.held.listed l).1.1 grid older newer b boxes b.setting.measure m mid s.boxed
+        listed_distances l.1.0 f.ts keys q.count room l.1.1 grid older newer b boxes b.setting.measure m mid s.boxed
         (rw s.region at d)
 
     chosen : Chosen (dist_of older newer b m) f.ts (spot_of (nearest_key mid q.count))
@@ -102,7 +106,7 @@ module _ {older newer : List ℕ} {b : SearchBlock} {r : Region} {boxes : List �
 
     pub listed_leveled : (e : ℕ) → e ≡ bound_by older newer b m (vector_on (spot_of (nearest_key mid q.count))) q.bound → (limit : ℕ) → limit ≡ limit_of b m e
         → (after : List ℕ) (count : ℕ) → KeptWithin limit mid q.count after count → length after ≡ length mid
-        → Leveled older newer b m q.bound after (record { count = count; bound = e })
+        → Leveled older newer b m q.bound after (record { count = count; bound = e }) × InFront (left_at older newer b m e) after count
     listed_leveled e lowered limit is after count k kept-long =
         let inside : q.count ≤ length mid = omega (arith, long, room) in
         let fitting : count ≤ length after = omega (arith, k.many, parted_few (parted distance_of limit (take q.count mid)), length-take-le q.count mid inside) in
@@ -111,10 +115,8 @@ module _ {older newer : List ℕ} {b : SearchBlock} {r : Region} {boxes : List �
         let left : kept_on (dist_of older newer b) (limit_of b) m e f.ts ≡ left_at older newer b m e = same in
         let many : count ≡ length (left_at older newer b m e) = rw is at w.1 ∙ ap length left in
         let front : take count after ≡ keys_of (dist_of older newer b m) (left_at older newer b m e) = rw is at w.0 ∙ ap (keys_of (dist_of older newer b m)) left in
-        record {
-          bound = lowered ∙ bound_is;
-          held = listed_held b m (left_at older newer b m e) after count e (dist_of older newer b m) (sym many) fitting front;
-        }
+        let held = listed_held b m (left_at older newer b m e) after count e (dist_of older newer b m) (sym many) fitting front in
+        (record { bound = lowered ∙ bound_is; held = held }, (fitting, (dist_of older newer b m, front)))
 
 -- ---- sizes
 

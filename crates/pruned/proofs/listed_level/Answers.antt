@@ -14,7 +14,7 @@ fill-requires c =
     let p = c.requires in
     let s = p.0 in
     let k = region_small s in
-    record { near = (near_at s, k.1, k.2, (p.1.held.listed p.2).0); reached = rw s.region (facing_in s p.1 p.2) }
+    record { near = (near_at s, k.1, k.2, (p.1.held.listed p.2).0); reached = rw s.region (facing_in s p.1 (p.1.held.listed p.2)) }
 
 -- the listed keys lie in the array
 room : (c : After-fill) → c.args.q.count ≤ length c.fill.new.keys
@@ -25,7 +25,7 @@ bound_of_listed-e-requires c =
     let p = c.requires in
     let f = c.fill in
     let h = room (goal.at.bound_of_listed-e-requires c).After-fill in
-    (rw (length-take-le c.args.q.count f.new.keys h) p.1.some, rw (front_nearest f.new.keys c.args.q.count h) (nearest_in p.0 p.1 p.2 _ f.auto.keys f.ensures.1))
+    (rw (length-take-le c.args.q.count f.new.keys h) p.1.some, rw (front_nearest f.new.keys c.args.q.count h) (nearest_in p.0 p.1 (p.1.held.listed p.2) _ f.auto.keys f.ensures.1))
 
 pub returns : goal.returns
 returns c =
@@ -35,4 +35,5 @@ returns c =
     let k = c.keep_within-count in
     let last = k.auto.keys in
     let e = rw (front_nearest f.new.keys c.args.q.count (room (goal.at.returns c).After-fill)) at c.bound_of_listed-e.ensures in
-    (listed_leveled p.0 p.1 p.2 _ long f.ensures.1 _ e _ c.limit.ensures _ _ k.ensures last, last ∙ long)
+    let leveled = listed_leveled p.0 p.1 (p.1.held.listed p.2) _ long f.ensures.1 _ e _ c.limit.ensures _ _ k.ensures last in
+    (leveled.0, last ∙ long)
