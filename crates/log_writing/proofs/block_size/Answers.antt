@@ -27,5 +27,5 @@ returns c =
     let m : c.unsigned_abs.result ≡ nat_abs (v 2) = search rules in
     let n : c.unsigned_abs.result ≡ up (v 2) = omega (arith, m, c.requires.entry, parts (v 2)) in
     let number : c.block_number.result ≡ block_number (up (v 2)) = rw n at c.block_number.ensures in
-    let size = c.size_by.ensures ∙ ap size_by number ∙ sym (block_size (v 0) (v 1) (up (v 2))) in
+    let size = c.size_by-size.ensures ∙ ap size_by number ∙ sym (block_size (v 0) (v 1) (up (v 2))) in
     rw (block_moved list c.args.k (sym still ∙ c.if-is_still.false)) (size, omega (arith, size, numbers_few (v 0) (v 1) (v 2)))
