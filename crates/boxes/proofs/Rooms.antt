@@ -2,7 +2,7 @@
 --   log2_power      of m = 2 ^ k, up to 16; cut_at: so its boxes stand k areas on
 --   power_next      where m is less than N, 2m is at most N; power_small: and at most 16, where m is not 16
 --   power_below     no power of two lies between
---   cut_whole       N up to 16 is one of its m, cut_sixteen: and else 16
+--   cut_whole       N up to 16 is one of its m, cut_sixteen: and else 16; cut_half: with each m half of it is one
 --   array_small     with N up to 16 five areas are 12,800 places; array_large: at most 25,600
 --   window_inside   the numbers of a box of the window lie in the window, own_inside: and those of a box of the block in the block
 --   window_room     so have its places, own_room: and the block's
@@ -18,6 +18,7 @@ use lib.Dec.{T}
 use Rattle.base.specs.Index.{row_fits}
 use Rattle.refusals.specs.Cross.{log2}
 use Rattle.refusals.specs.Refusals.{block_size_ok, BlockSize, block_size}
+use Rattle.pruned_rule.proofs.Search.{half_pow}
 use Rattle.boxes.specs.Boxes.{Cut, area, level_at, window_places, own_places}
 
 pub log2_power : (k : ℕ) → k ≤ 4 → log2 (2 ^ k) ≡ k
@@ -78,6 +79,13 @@ cut_whole n t h =
 
 pub cut_sixteen : (n : ℕ) → 16 ≤ n → Cut n 16
 cut_sixteen n h = record { exponent = 4; few = omega arith; power = refl; inside = h }
+
+pub cut_half : (n m : ℕ) → Cut n m → 2 ≤ m → Cut n (m / 2)
+cut_half n m c h = go c.exponent c.few c.power
+  where
+    go : (k : ℕ) → k ≤ 4 → m ≡ 2 ^ k → Cut n (m / 2)
+    go zero l e = absurd (omega arith)
+    go (suc k) l e = record { exponent = k; few = omega arith; power = rw e (half_pow k); inside = omega (arith, c.inside) }
 
 -- ---- places
 

@@ -1,10 +1,12 @@
 -- Rows of numbers, and how many of them are within a limit.
+--   row_room         a row lies in the array; place_small: where it begins is no large number
 --   kept_row         how many of a list by a rule are within a limit; kept_lists: of lists one behind the other; kept_in_row: of a row; kept_all: of all
 --   number-on        the number on the spot of a row and a column of the region
 use Prim.Native.Nat.{ℕ, zero, suc, ◌+◌, ◌*◌, ◌-◌, ◌≤◌, ◌<◌}
 use mathlib.Core.Path.{◌≡◌, refl, sym, ap, ap₂, ◌∙◌}
 use mathlib.Core.Bool.{Bool, true, false, cond}
 use mathlib.Core.List.{List, [], ◌∷◌}
+use native.Mathlib.Nat.{mul-le-mul, le_refl}
 use native.Mathlib.Omega.{arith}
 use lib.Dec.{leb}
 use lib.ListN.{length, get_or, length-append}
@@ -16,7 +18,18 @@ use Rattle.pruned_rule.specs.Sift.{kept}
 use Rattle.pruned_rule.specs.Spots.{spots}
 use Rattle.pruned_rule.proofs.Loops.{kept_append}
 use Rattle.pruned_rule.proofs.Spots.{spot_row, spot_column}
-use Rattle.pruned_sift.specs.Laid.{number_on, row_spots, within}
+use Rattle.pruned_sift.specs.Laid.{Laid, number_on, row_spots, within}
+
+module _ {numbers : List ℕ} {pitch : ℕ} {r : Region} (l : Laid numbers pitch r) where
+  pub row_room : (i : ℕ) → i < r.rows → pitch * i + r.columns ≤ length numbers
+  row_room i h =
+      let e : i ≤ r.rows - 1 = omega arith in
+      omega (arith, l.room, mul-le-mul (le_refl pitch) e)
+
+  pub place_small : (i : ℕ) → i < r.rows → pitch * i ≤ 2112
+  place_small i h =
+      let e : i ≤ 33 = omega (arith, l.around.few_rows) in
+      mul-le-mul l.narrow e
 
 -- ---- how many
 
