@@ -193,6 +193,7 @@ fn after_end(log: &[u8], at: usize) -> Command
 }
 
 // Head numbers and a number of blocks such as a walk can have.
+#[tactic(auto, unfolding(crate::specs::Step::standing_ok))]
 fn standing_ok(head: Head, blocks: usize) -> bool
     ensures { result ≡ standing_ok head blocks }
 {
