@@ -271,7 +271,7 @@ fn by_columns(matching: Matching, r: Region, first: u64) -> u64
     copy_window(matching.older, matching.block, r, &mut window);
     let width = matching.block.setting.width;
     let here = matching.block.y * width + matching.block.x;
-    // N is 8, written out here: so the compiler copies a row in one.
+    // N is 8, written out here: that is quicker where the window is small.
     window_copy::copy_rows(matching.newer, width, here, 8, 8, &mut block, 0, 8);
     window_copy::copy_rows(matching.newer, width, here, 8, 8, &mut block, 64, 8);
     columns_least(&window, &block, r, first)

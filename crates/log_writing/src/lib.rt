@@ -43,6 +43,7 @@ fn block_size(list: &[i32], k: usize) -> usize
     ensures { (result ≡ length (block_bytes list.now k)) × (result ≤ 7) }
 {
     let e = log_list::entry_at(list, k);
+    // The size first: so the compiler needs no branch, which would be guessed wrong where still blocks stand among others.
     let size = log_command::size_by(log_command::block_number(e.distortion.unsigned_abs()));
     if log_head::is_still(e.dy, e.dx, e.distortion) {
         return log_command::STILL_SIZE;

@@ -98,6 +98,7 @@ fn places_more(places: [i32; MOST], held: usize, z: i32) -> [i32; MOST]
         next[held] = z;
         return next;
     }
+    // One by one: a move within one array would need memmove of the C library.
     for k in 0..MOST - 1 {
         next[k] = places[k + 1];
     }
