@@ -74,7 +74,8 @@ fn listed_ok(head: Head, list: &[i32], k: usize) -> bool
     log_head::entry_ok(head, k, e.dy, e.dx, e.distortion)
 }
 
-// The first block that 16 turns away, if there is one.
+// The first block that 16 turns away, if there is one. Compiled by itself: inlined where a log is written, its loop lacks registers, and is slower.
+#[inline(never)]
 fn first_wrong(head: Head, list: &[i32]) -> Option<usize>
     requires { Writable head (length list.now) }
     ensures { (unwrap_or result (head_blocks head) ≡ first_wrong (listed_ok head list.now) 0 (head_blocks head))
