@@ -98,6 +98,7 @@ pub fn minus_travel(y: i32, d: i32) -> Option<i32>
 }
 
 // The number whose two's complement is the byte b.
+#[tactic(auto, unfolding(crate::specs::Values::signed_byte))]
 pub fn from_byte(b: u8) -> i32
     ensures { result ≡ signed_byte b }
 {
